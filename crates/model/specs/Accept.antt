@@ -1,0 +1,43 @@
+-- Which tables are accepted: refusals 1 to 9, lowest first after reading (01, "When a call is turned down").
+use Prim.Native.Nat.{ℕ, _+_}
+use mathlib.Core.Bool.{Bool, true, false, cond}
+use mathlib.Core.List.{List}
+use mathlib.Core.Option.{Option, none, some}
+use lib.Dec.{leb}
+use Rattle.model.specs.Syntax.{Stmt, Program}
+use Rattle.model.specs.Reader.{Read, program, refused, readTable}
+use Rattle.model.specs.Usage.{firstClash}
+use Rattle.model.specs.Counts.{firstDeep, processes, need}
+use Rattle.model.specs.declared.Reading.{Reading}
+use Rattle.model.specs.declared.Reading.the-variants.{Accepted, Refused}
+
+-- the most processes that may be live together (refusal 9, and the bound of demand 3)
+abbrev pub limit : ℕ
+limit = 64
+
+abbrev refusedAt : ℕ → Option ℕ → Read → Read
+refusedAt n none r = r
+refusedAt n (some p) r = refused n p
+
+-- 7 at the first PAR with a clash, 8 at the first expression too deep, 9 at place 0
+unfoldable pub checks : Program → Read
+checks p =
+    let body = p .body in
+    refusedAt 7 (firstClash body) (refusedAt 8 (firstDeep body) (cond (leb (processes body) limit) (program p) (refused 9 0)))
+
+abbrev onRead : Read → Read
+onRead (program p) = checks p
+onRead (refused n p) = refused n p
+
+unfoldable pub accept : List ℕ → Read
+accept table = onRead (readTable table)
+
+-- memory words with outside channels
+abbrev pub memoryWords : Program → ℕ
+memoryWords p = need (p .body) + p .inputs + p .outputs
+
+-- a reading's answer: the facts, or 01's number and place
+abbrev pub answerOf : Read → Reading
+answerOf (program p) =
+    Accepted (record { words = memoryWords p; inputs = p .inputs; outputs = p .outputs; processes = processes (p .body) })
+answerOf (refused n p) = Refused n p

@@ -1,0 +1,144 @@
+-- What the bench program prints for a table (01, "The bench program"), as ASCII bytes.
+use Prim.Native.Nat.{ℕ, zero, suc, _+_, _-_, _*_, _/_, _%_, _^_}
+use mathlib.Core.Bool.{Bool, true, false, cond}
+use mathlib.Core.List.{List, [], _∷_, _++_}
+use lib.ListN.{length, replicate}
+use lib.Dec.{ltb, eqb}
+use lib.IntN.{ℤ, pos, negsuc}
+use Rattle.model.specs.Word.{signed}
+use Rattle.model.specs.Syntax.{Program}
+use Rattle.model.specs.Accept.{memoryWords}
+use Rattle.model.specs.Layout.{base}
+use Rattle.model.specs.Code.{Compilation, compiled, refused, compile}
+use Rattle.model.specs.Run.{After, start, run}
+use Rattle.model.specs.Outside.{take}
+use Rattle.model.specs.declared.Machine.{Machine}
+use Rattle.model.specs.declared.Outcome.{Outcome}
+use Rattle.model.specs.declared.Outcome.the-variants.{Ended, Waiting, Spent, Fault}
+use Rattle.model.specs.declared.RunAnswer.{RunAnswer}
+use Rattle.model.specs.declared.RunAnswer.the-variants.{Ran, Short}
+use Rattle.model.specs.declared.TakeAnswer.{TakeAnswer}
+use Rattle.model.specs.declared.TakeAnswer.the-variants.{Taken, Nothing, Short as TakeShort, Fault as TakeFault, NoChannel}
+
+abbrev space : ℕ
+space = 32
+
+abbrev newline : List ℕ
+newline = 10 ∷ []
+
+-- at most so many decimal digits of a number
+unfoldable pub digits : ℕ → ℕ → List ℕ
+digits zero n = []
+digits (suc k) n = let more = digits k (n / 10) in cond (ltb n 10) [] more ++ (48 + n % 10) ∷ []
+
+abbrev pub decimal : ℕ → List ℕ
+decimal n = digits 20 n
+
+abbrev pub signedDecimal : ℤ → List ℕ
+signedDecimal (pos n) = decimal n
+signedDecimal (negsuc n) = 45 ∷ decimal (suc n)
+
+abbrev pub hexDigit : ℕ → ℕ
+hexDigit n = cond (ltb n 10) (48 + n) (87 + n)
+
+-- each byte behind a space, as two hexadecimal digits
+unfoldable pub hex : List ℕ → List ℕ
+hex [] = []
+hex (b ∷ bytes) = space ∷ hexDigit (b / 16) ∷ hexDigit (b % 16) ∷ hex bytes
+
+-- "bytes N", "words N", "code ..", "refused N at P", "out K V"
+abbrev bytesLine : ℕ → List ℕ
+bytesLine n = 98 ∷ 121 ∷ 116 ∷ 101 ∷ 115 ∷ space ∷ decimal n ++ newline
+
+abbrev wordsLine : ℕ → List ℕ
+wordsLine n = 119 ∷ 111 ∷ 114 ∷ 100 ∷ 115 ∷ space ∷ decimal n ++ newline
+
+abbrev codeLine : List ℕ → List ℕ
+codeLine code = 99 ∷ 111 ∷ 100 ∷ 101 ∷ hex code ++ newline
+
+abbrev refusedLine : ℕ → ℕ → List ℕ
+refusedLine n p =
+    114 ∷ 101 ∷ 102 ∷ 117 ∷ 115 ∷ 101 ∷ 100 ∷ space ∷ decimal n ++ space ∷ 97 ∷ 116 ∷ space ∷ decimal p ++ newline
+
+abbrev outLine : ℕ → ℕ → List ℕ
+outLine k v = 111 ∷ 117 ∷ 116 ∷ space ∷ decimal k ++ space ∷ signedDecimal (signed v) ++ newline
+
+-- "ended N", "waiting N", "spent N", "fault N"
+abbrev endedLine : ℕ → List ℕ
+endedLine n = 101 ∷ 110 ∷ 100 ∷ 101 ∷ 100 ∷ space ∷ decimal n ++ newline
+
+abbrev waitingLine : ℕ → List ℕ
+waitingLine n = 119 ∷ 97 ∷ 105 ∷ 116 ∷ 105 ∷ 110 ∷ 103 ∷ space ∷ decimal n ++ newline
+
+abbrev spentLine : ℕ → List ℕ
+spentLine n = 115 ∷ 112 ∷ 101 ∷ 110 ∷ 116 ∷ space ∷ decimal n ++ newline
+
+abbrev faultLine : ℕ → List ℕ
+faultLine n = 102 ∷ 97 ∷ 117 ∷ 108 ∷ 116 ∷ space ∷ decimal n ++ newline
+
+-- what takes gave: the lines, and the machine and memory after them
+pub record Takes : Type 0 where
+  pub lines : List ℕ
+  pub machine : Machine
+  pub memory : List ℕ
+
+abbrev tookOne : ℕ → TakeAnswer → List ℕ
+tookOne k (Taken v) = outLine k v
+tookOne k Nothing = []
+tookOne k (TakeShort n) = []
+tookOne k (TakeFault f) = []
+tookOne k NoChannel = []
+
+abbrev andTakes : ℕ → After TakeAnswer → (Machine → List ℕ → Takes) → Takes
+andTakes k t more =
+    let rest = more (t .machine) (t .memory) in
+    record { lines = tookOne k (t .answer) ++ rest .lines; machine = rest .machine; memory = rest .memory }
+
+-- one take from each of so many outputs from k on, lowest first
+unfoldable pub takes : (left k : ℕ) → Machine → List ℕ → Takes
+takes zero k m memory = record { lines = []; machine = m; memory = memory }
+takes (suc n) k m memory = andTakes k (take m memory k) (λ m2 memory2. takes n (suc k) m2 memory2)
+
+-- the most instructions that the bench program runs, and its slice
+abbrev pub benchBudget : ℕ
+benchBudget = 65536
+
+abbrev pub benchSlice : ℕ
+benchSlice = 32
+
+-- where none has a sender the bench program stops; else it goes on
+abbrev onTakes : Takes → ℕ → (Machine → List ℕ → List ℕ) → List ℕ
+onTakes t total more =
+    let rest = more (t .machine) (t .memory) in
+    elim (t .lines) [ [] ↦ waitingLine total | x ∷ xs ↦ t .lines ++ rest ]
+
+abbrev onRun : After RunAnswer → (outputs total : ℕ) → (ℕ → Machine → List ℕ → List ℕ) → List ℕ
+onRun r outs total more =
+    elim (r .answer) [
+      Ran o ↦ elim o [
+        Ended n ↦ endedLine (total + n)
+      | Waiting n ↦ onTakes (takes outs 0 (r .machine) (r .memory)) (total + n) (more (total + n))
+      | Spent n ↦ spentLine (total + n)
+      | Fault n k ↦ faultLine (total + n) ]
+    | Short n ↦ [] ]
+
+-- runs and takes, at most so many rounds of them, after `total` instructions. Each round but the last takes from a process,
+-- which then executes an instruction, so there are fewer rounds than instructions and one more
+unfoldable pub rounds : (fuel : ℕ) (code : List ℕ) (outputs total : ℕ) → Machine → List ℕ → List ℕ
+rounds zero code outs total m memory = []
+rounds (suc f) code outs total m memory =
+    onRun (run m code memory (benchBudget - total)) outs total (λ n m2 memory2. rounds f code outs n m2 memory2)
+
+abbrev ofStart : Program → List ℕ → List ℕ
+ofStart p code =
+    let s = start code (replicate (memoryWords p) 0) (base p) (p .inputs) (p .outputs) benchSlice in
+    bytesLine (length code) ++ wordsLine (memoryWords p) ++ codeLine code
+    ++ rounds (2 + benchBudget) code (p .outputs) 0 (s .machine) (s .memory)
+
+abbrev ofCompilation : Compilation → List ℕ
+ofCompilation (compiled p code) = ofStart p code
+ofCompilation (refused n r) = refusedLine n r
+
+-- the bench program's output for a table
+unfoldable pub bench : List ℕ → List ℕ
+bench table = ofCompilation (compile table 16384)

@@ -1,0 +1,73 @@
+-- The code bytes of a table, and what it is for code to realise the scheme (01, "Workspace and code"; demand 2).
+use Prim.Native.Nat.{ℕ, zero, suc, _+_, _<_}
+use mathlib.Core.Path.{_≡_}
+use mathlib.Core.Bool.{Bool, true, false, cond, _&&_}
+use mathlib.Core.List.{List, [], _∷_, _++_}
+use mathlib.Core.Option.{Option, none, some}
+use lib.ListN.{length, take, getElem?}
+use lib.Seq.{slice}
+use lib.Dec.{leb}
+use Rattle.model.specs.Word.{less}
+use Rattle.model.specs.Syntax.{Program}
+use Rattle.model.specs.Reader.{Read, program, refused as unread}
+use Rattle.model.specs.Accept.{accept, memoryWords}
+use Rattle.model.specs.Instruction.{Function, functionCode, Instruction, plain, distance}
+use Rattle.model.specs.Prefix.{withPrefixes, fewest, distancePrefixes, Decoded, decode}
+use Rattle.model.specs.Scheme.{scheme}
+
+-- code distances take exactly four bytes, other operands the shortest prefixes
+unfoldable pub prefixesOf : Instruction → ℕ
+prefixesOf (plain f n) = fewest n
+prefixesOf (distance f r u) = distancePrefixes
+
+-- how many bytes instructions take
+unfoldable pub bytesIn : List Instruction → ℕ
+bytesIn [] = 0
+bytesIn (x ∷ xs) = suc (prefixesOf x) + bytesIn xs
+
+-- the first byte of the instruction at an index
+unfoldable pub placeOf : List Instruction → ℕ → ℕ
+placeOf xs i = bytesIn (take i xs)
+
+unfoldable pub functionIn : Instruction → Function
+functionIn (plain f n) = f
+functionIn (distance f r u) = f
+
+-- an instruction's operand, where `off` gives each instruction its first byte: a distance counts from the byte after its user
+unfoldable pub operandIn : (ℕ → ℕ) → Instruction → ℕ
+operandIn off (plain f n) = n
+operandIn off (distance f reached user) = less (off reached) (off (suc user))
+
+unfoldable pub encode : (ℕ → ℕ) → List Instruction → List ℕ
+encode off [] = []
+encode off (x ∷ xs) = withPrefixes (prefixesOf x) (functionIn x) (operandIn off x) ++ encode off xs
+
+-- the code of a program
+unfoldable pub codeOf : Program → List ℕ
+codeOf p = encode (placeOf (scheme p)) (scheme p)
+
+-- code realises a list of instructions if `off` gives each its first byte and the bytes from there to the next one's decode to it
+pub record Realises (code : List ℕ) (xs : List Instruction) (off : ℕ → ℕ) : Type 0 where
+  pub begins : off 0 ≡ 0
+  pub ends : off (length xs) ≡ length code
+  pub each : (i : ℕ) (x : Instruction) → getElem? xs i ≡ some x
+    → decode 0 (slice (off i) (off (suc i)) code) ≡ some (record { function = functionCode (functionIn x); operand = operandIn off x; rest = [] })
+
+-- what compiling a table for a code buffer of some length gives: the program and its code, or a refusal's number and what it returns
+pub data Compilation : Type 0 where
+  compiled : Program → (code : List ℕ) → Compilation
+  refused : (number returned : ℕ) → Compilation
+
+-- over 4,096 words with outside channels, or over 16,384 code bytes: 10 at place 0; the buffer too short: 11 with the size needed
+unfoldable pub fitting : (room : ℕ) → Program → List ℕ → Compilation
+fitting room p code =
+    cond (leb (memoryWords p) 4096 && leb (length code) 16384)
+    (cond (leb (length code) room) (compiled p code) (refused 11 (length code)))
+    (refused 10 0)
+
+abbrev ofRead : (room : ℕ) → Read → Compilation
+ofRead room (program p) = fitting room p (codeOf p)
+ofRead room (unread n at) = refused n at
+
+unfoldable pub compile : (table : List ℕ) (room : ℕ) → Compilation
+compile table room = ofRead room (accept table)

@@ -1,0 +1,112 @@
+-- What is counted of a program: registers (refusal 8), live processes (refusal 9), words (01, "Workspace and code").
+use Prim.Native.Nat.{ℕ, suc, _+_, max}
+use mathlib.Core.Bool.{Bool, true, false, cond}
+use mathlib.Core.Option.{Option, none, some}
+use lib.Dec.{leb}
+use Rattle.model.specs.Syntax.{Site, Operator, Expr, constant, variable, NOT, binary, Whole, Stmt, SKIP, STOP, assign, input, output, VAR, CHAN, SEQ, PAR, IF, WHILE, ALT, Stmts, noStmt, stmt, Pairs, noPair, pair, Guards, noGuard, inputGuard, skipGuard}
+use Rattle.model.specs.Usage.{orElse}
+
+-- constant or variable 1, NOT as its operand, an operator the larger of left and 1 + right
+unfoldable pub registers : Expr → ℕ
+registers (constant n) = 1
+registers (variable x) = 1
+registers (NOT e) = registers e
+registers (binary op l r) = max (registers l) (1 + registers r)
+
+abbrev over3 : Whole → Option ℕ
+over3 e = cond (leb (registers (e .expr)) 3) none (some (e .place))
+
+-- the place of the first outermost expression that needs over 3 registers
+unfoldable mutual
+  pub firstDeep : Stmt → Option ℕ
+  firstDeep SKIP = none
+  firstDeep STOP = none
+  firstDeep (assign x e) = over3 e
+  firstDeep (input c x) = none
+  firstDeep (output c e) = over3 e
+  firstDeep (VAR p n s) = firstDeep s
+  firstDeep (CHAN p n s) = firstDeep s
+  firstDeep (SEQ ss) = firstDeepAll ss
+  firstDeep (PAR p ss) = firstDeepAll ss
+  firstDeep (IF ps) = firstDeepPairs ps
+  firstDeep (WHILE e s) = orElse (over3 e) (firstDeep s)
+  firstDeep (ALT gs) = firstDeepGuards gs
+
+  pub firstDeepAll : Stmts → Option ℕ
+  firstDeepAll noStmt = none
+  firstDeepAll (stmt s ss) = orElse (firstDeep s) (firstDeepAll ss)
+
+  pub firstDeepPairs : Pairs → Option ℕ
+  firstDeepPairs noPair = none
+  firstDeepPairs (pair e s ps) = orElse (over3 e) (orElse (firstDeep s) (firstDeepPairs ps))
+
+  pub firstDeepGuards : Guards → Option ℕ
+  firstDeepGuards noGuard = none
+  firstDeepGuards (inputGuard e c x s gs) = orElse (over3 e) (orElse (firstDeep s) (firstDeepGuards gs))
+  firstDeepGuards (skipGuard e s gs) = orElse (over3 e) (orElse (firstDeep s) (firstDeepGuards gs))
+
+-- live processes: PAR the sum, others the largest part, each at least 1
+unfoldable mutual
+  pub processes : Stmt → ℕ
+  processes SKIP = 1
+  processes STOP = 1
+  processes (assign x e) = 1
+  processes (input c x) = 1
+  processes (output c e) = 1
+  processes (VAR p n s) = processes s
+  processes (CHAN p n s) = processes s
+  processes (SEQ ss) = max 1 (mostProcesses ss)
+  processes (PAR p ss) = max 1 (sumProcesses ss)
+  processes (IF ps) = max 1 (pairProcesses ps)
+  processes (WHILE e s) = processes s
+  processes (ALT gs) = max 1 (guardProcesses gs)
+
+  pub mostProcesses : Stmts → ℕ
+  mostProcesses noStmt = 0
+  mostProcesses (stmt s ss) = max (processes s) (mostProcesses ss)
+
+  pub sumProcesses : Stmts → ℕ
+  sumProcesses noStmt = 0
+  sumProcesses (stmt s ss) = processes s + sumProcesses ss
+
+  pub pairProcesses : Pairs → ℕ
+  pairProcesses noPair = 0
+  pairProcesses (pair e s ps) = max (processes s) (pairProcesses ps)
+
+  pub guardProcesses : Guards → ℕ
+  guardProcesses noGuard = 0
+  guardProcesses (inputGuard e c x s gs) = max (processes s) (guardProcesses gs)
+  guardProcesses (skipGuard e s gs) = max (processes s) (guardProcesses gs)
+
+-- words that a statement needs below its workspace pointer
+unfoldable mutual
+  pub need : Stmt → ℕ
+  need SKIP = 2
+  need STOP = 2
+  need (assign x e) = 2
+  need (input c x) = 3
+  need (output c e) = 4
+  need (VAR p n s) = n + need s
+  need (CHAN p n s) = n + need s
+  need (SEQ ss) = max 2 (mostNeed ss)
+  need (PAR p ss) = 2 + sumNeed ss
+  need (IF ps) = max 2 (pairNeed ps)
+  need (WHILE e s) = max 2 (need s)
+  need (ALT gs) = max 4 (guardNeed gs)
+
+  pub mostNeed : Stmts → ℕ
+  mostNeed noStmt = 0
+  mostNeed (stmt s ss) = max (need s) (mostNeed ss)
+
+  pub sumNeed : Stmts → ℕ
+  sumNeed noStmt = 0
+  sumNeed (stmt s ss) = need s + sumNeed ss
+
+  pub pairNeed : Pairs → ℕ
+  pairNeed noPair = 0
+  pairNeed (pair e s ps) = max (need s) (pairNeed ps)
+
+  pub guardNeed : Guards → ℕ
+  guardNeed noGuard = 0
+  guardNeed (inputGuard e c x s gs) = max (need s) (guardNeed gs)
+  guardNeed (skipGuard e s gs) = max (need s) (guardNeed gs)

@@ -1,0 +1,292 @@
+-- What each instruction does, as INMOS's guide says (01, "The machine"; for held offers 01's own rules).
+-- Words are touched in the order written, and each touch sees those before it.
+use Prim.Native.Nat.{ℕ, suc, _+_, _-_, _*_, _^_, min}
+use mathlib.Core.Bool.{Bool, true, false, cond, not, _&&_, _||_}
+use mathlib.Core.List.{List}
+use mathlib.Core.Option.{Option, none, some}
+use lib.ListN.{getD, set}
+use lib.Bits.{bitAnd, bitOr, bitXor}
+use lib.Dec.{ltb, eqb}
+use Rattle.model.specs.Word.{low, less, truth, notProcess}
+use Rattle.model.specs.Instruction.{Function, j, ldlp, ldc, ldl, cj, ajw, eqc, stl, opr, Operation, rev, endp, diff, «in», prod, gt, startp, outword, stopp, ldpi, disc, diss, xor, mint, alt, altwt, altend, and, enbc, enbs, or, sum, operationOf}
+use Rattle.model.specs.Machine.{World, Act, _>>=_, _>>_, return, fault, withOffers, registers, setRegisters, setup, communicate, stack, goto, work, running, peek, poke, testPlace, resumeWord, stateWord, release, join, isHeld, done}
+use Rattle.model.specs.declared.Cpu.{Cpu}
+use Rattle.model.specs.declared.FaultKind.the-variants.{Operation as BadOperation, Count}
+
+-- a value comes onto the stack, or its top goes
+abbrev pub push : ℕ → Cpu → Cpu
+push v r = stack v (r .a) (r .b) r
+
+abbrev pub pop : Cpu → Cpu
+pop r = stack (r .b) (r .c) (r .c) r
+
+-- a result in place of the two topmost values
+abbrev pub reduce : ℕ → Cpu → Cpu
+reduce v r = stack v (r .c) (r .c) r
+
+abbrev local : Cpu → ℕ → ℕ
+local r n = low (r .workspace + n)
+
+-- J: the only place where the slice can end. The process then goes to the back of the queue; where it will go on is tested
+-- after all words and before the place of the process that is taken
+unfoldable pub jump : ℕ → Act (Unit {0})
+jump n = do
+  r ← registers
+  u ← setup
+  cond (ltb (r .count) (u .slice))
+    (setRegisters (goto (low (r .place + n)) r))
+    (do
+      poke (resumeWord (r .workspace)) (low (r .place + n))
+      join (r .workspace)
+      release
+      testPlace (low (r .place + n)))
+
+unfoldable pub loadLocal : ℕ → Act (Unit {0})
+loadLocal n = do
+  r ← registers
+  v ← peek (local r n)
+  setRegisters (push v r)
+
+unfoldable pub storeLocal : ℕ → Act (Unit {0})
+storeLocal n = do
+  r ← registers
+  poke (local r n) (r .a)
+  setRegisters (pop r)
+
+unfoldable pub conditionalJump : ℕ → Act (Unit {0})
+conditionalJump n = do
+  r ← registers
+  cond (eqb (r .a) 0) (setRegisters (goto (low (r .place + n)) r)) (setRegisters (pop r))
+
+-- the registers alone
+abbrev pub changing : (Cpu → Cpu) → Act (Unit {0})
+changing f = do
+  r ← registers
+  setRegisters (f r)
+
+-- GT compares signed words: with 2 ^ 31 added to both they compare unsigned
+abbrev pub above : ℕ → ℕ → Bool
+above b a = ltb (low (a + 2 ^ 31)) (low (b + 2 ^ 31))
+
+unfoldable pub startProcess : Act (Unit {0})
+startProcess = do
+  r ← registers
+  poke (resumeWord (r .a)) (low (r .place + r .b))
+  join (r .a)
+
+unfoldable pub endProcess : Act (Unit {0})
+endProcess = do
+  r ← registers
+  n ← peek (low (r .a + 1))
+  cond (eqb n 1)
+    (do p ← peek (r .a); setRegisters (goto p (work (r .a) r)))
+    (do poke (low (r .a + 1)) (less n 1); release)
+
+unfoldable pub stopProcess : Act (Unit {0})
+stopProcess = do
+  r ← registers
+  poke (resumeWord (r .workspace)) (r .place)
+  release
+
+-- a process waits at a channel's word, with its resume place and a message place
+unfoldable pub waitAt : (channel message : ℕ) → Act (Unit {0})
+waitAt c m = do
+  r ← registers
+  poke c (r .workspace)
+  poke (resumeWord (r .workspace)) (r .place)
+  poke (stateWord (r .workspace)) m
+
+-- an offer that was held is taken from its channel
+abbrev pub dropOffer : (channel : ℕ) → Act ℕ
+dropOffer c s =
+    let k = c - s .machine .setup .base in
+    done (getD (s .machine .offers) k 0) (withOffers (s .machine .offers) (set (s .machine .held) k false) s)
+
+-- the sender that waits at a channel's word gives its value, and is woken
+unfoldable pub receive : (channel sender : ℕ) → Act ℕ
+receive c p = do
+  m ← peek (stateWord p)
+  peek m
+
+unfoldable pub received : (channel sender value : ℕ) → Act (Unit {0})
+received c p v = do
+  poke c notProcess
+  join p
+  communicate c v
+
+abbrev pub heldAt : ℕ → Act Bool
+heldAt c s = done (isHeld c (s .machine)) s
+
+unfoldable pub inputWord : Act (Unit {0})
+inputWord = do
+  r ← registers
+  h ← heldAt (r .b)
+  cond h
+    (do v ← dropOffer (r .b); poke (r .c) v; communicate (r .b) v)
+    (do
+      p ← peek (r .b)
+      cond (eqb p notProcess)
+        (do waitAt (r .b) (r .c); release)
+        (do v ← receive (r .b) p; poke (r .c) v; received (r .b) p v))
+
+unfoldable pub inputMessage : Act (Unit {0})
+inputMessage = do
+  r ← registers
+  cond (eqb (r .a) 4) inputWord (fault (Count (r .a)))
+
+-- ALT states
+abbrev pub enabling : ℕ
+enabling = 2 ^ 31 + 1
+
+abbrev pub waiting : ℕ
+waiting = 2 ^ 31 + 2
+
+abbrev pub ready : ℕ
+ready = 2 ^ 31 + 3
+
+abbrev pub isAltState : ℕ → Bool
+isAltState s = eqb s enabling || eqb s waiting || eqb s ready
+
+-- the chosen branch's word while none is chosen
+abbrev pub noneSelected : ℕ
+noneSelected = 2 ^ 32 - 1
+
+-- an ALT process, by its state, learns that a channel is ready
+unfoldable pub notify : (process state : ℕ) → Act (Unit {0})
+notify p s = do
+  poke (stateWord p) ready
+  cond (eqb s waiting) (join p) (return tt)
+
+unfoldable pub deliver : (channel process place value : ℕ) → Act (Unit {0})
+deliver c p m v = do
+  poke m v
+  received c p v
+
+unfoldable pub outputWord : Act (Unit {0})
+outputWord = do
+  r ← registers
+  poke (r .workspace) (r .a)
+  p ← peek (r .b)
+  cond (eqb p notProcess)
+    (do waitAt (r .b) (r .workspace); release)
+    (do
+      s ← peek (stateWord p)
+      cond (isAltState s)
+        (do waitAt (r .b) (r .workspace); notify p s; release)
+        (deliver (r .b) p s (r .a)))
+
+unfoldable pub beginAlt : Act (Unit {0})
+beginAlt = do
+  r ← registers
+  poke (stateWord (r .workspace)) enabling
+
+unfoldable pub setReady : Act (Unit {0})
+setReady = do
+  r ← registers
+  poke (stateWord (r .workspace)) ready
+
+unfoldable pub enableReady : (channel : ℕ) → Act (Unit {0})
+enableReady c = do
+  r ← registers
+  h ← heldAt c
+  cond h setReady
+    (do
+      p ← peek c
+      cond (eqb p notProcess) (poke c (r .workspace)) (cond (eqb p (r .workspace)) (return tt) setReady))
+
+unfoldable pub enableChannel : Act (Unit {0})
+enableChannel = do
+  r ← registers
+  cond (eqb (r .a) 0) (return tt) (enableReady (r .b))
+  changing (λ q. stack (q .a) (q .c) (q .c) q)
+
+unfoldable pub enableSkip : Act (Unit {0})
+enableSkip = do
+  r ← registers
+  cond (eqb (r .a) 0) (return tt) setReady
+
+unfoldable pub waitAlt : Act (Unit {0})
+waitAlt = do
+  r ← registers
+  poke (r .workspace) noneSelected
+  s ← peek (stateWord (r .workspace))
+  cond (eqb s ready) (return tt)
+    (do
+      poke (stateWord (r .workspace)) waiting
+      poke (resumeWord (r .workspace)) (r .place)
+      release)
+
+-- a ready guard: its branch is selected if none is yet. Gives whether it was
+unfoldable pub select : (branch : ℕ) → Act ℕ
+select b = do
+  r ← registers
+  t ← peek (r .workspace)
+  cond (eqb t noneSelected) (do poke (r .workspace) b; return 1) (return 0)
+
+-- a true guard's channel: a held offer or a sender is ready; the ALT's own mark goes
+unfoldable pub disableReady : (channel branch : ℕ) → Act ℕ
+disableReady c b = do
+  r ← registers
+  h ← heldAt c
+  p ← peek c
+  cond h
+    (do t ← select b; poke c notProcess; return t)
+    (cond (eqb p notProcess) (return 0) (cond (eqb p (r .workspace)) (do poke c notProcess; return 0) (select b)))
+
+unfoldable pub disableChannel : Act (Unit {0})
+disableChannel = do
+  r ← registers
+  t ← cond (eqb (r .b) 0) (return 0) (disableReady (r .c) (r .a))
+  changing (λ q. stack t (q .b) (q .c) q)
+
+unfoldable pub disableSkip : Act (Unit {0})
+disableSkip = do
+  r ← registers
+  t ← cond (eqb (r .b) 0) (return 0) (select (r .a))
+  changing (λ q. stack t (q .c) (q .c) q)
+
+unfoldable pub endAlt : Act (Unit {0})
+endAlt = do
+  r ← registers
+  d ← peek (r .workspace)
+  setRegisters (goto (low (r .place + d)) r)
+
+unfoldable pub operate : Operation → Act (Unit {0})
+operate rev = changing (λ r. stack (r .b) (r .a) (r .c) r)
+operate sum = changing (λ r. reduce (low (r .b + r .a)) r)
+operate diff = changing (λ r. reduce (less (r .b) (r .a)) r)
+operate prod = changing (λ r. reduce (low (r .b * r .a)) r)
+operate gt = changing (λ r. reduce (truth (above (r .b) (r .a))) r)
+operate and = changing (λ r. reduce (bitAnd (r .b) (r .a)) r)
+operate or = changing (λ r. reduce (bitOr (r .b) (r .a)) r)
+operate xor = changing (λ r. reduce (bitXor (r .b) (r .a)) r)
+operate mint = changing (push notProcess)
+operate ldpi = changing (λ r. stack (low (r .place + r .a)) (r .b) (r .c) r)
+operate startp = startProcess
+operate endp = endProcess
+operate stopp = stopProcess
+operate «in» = inputMessage
+operate outword = outputWord
+operate alt = beginAlt
+operate enbc = enableChannel
+operate enbs = enableSkip
+operate altwt = waitAlt
+operate disc = disableChannel
+operate diss = disableSkip
+operate altend = endAlt
+
+abbrev operateOr12 : Option Operation → ℕ → Act (Unit {0})
+operateOr12 none n = fault (BadOperation n)
+operateOr12 (some o) n = operate o
+
+-- a direct function with its operand. `place` is that of the next byte
+unfoldable pub execute : Function → ℕ → Act (Unit {0})
+execute j n = jump n
+execute ldlp n = changing (λ r. push (local r n) r)
+execute ldc n = changing (push n)
+execute ldl n = loadLocal n
+execute cj n = conditionalJump n
+execute ajw n = changing (λ r. work (local r n) r)
+execute eqc n = changing (λ r. stack (truth (eqb (r .a) n)) (r .b) (r .c) r)
+execute stl n = storeLocal n
+execute opr n = operateOr12 (operationOf n) n

@@ -1,0 +1,17 @@
+pub mod Word
+pub mod Number
+pub mod Syntax
+pub mod Reader
+pub mod Usage
+pub mod Counts
+pub mod Accept
+pub mod Instruction
+pub mod Prefix
+pub mod Layout
+pub mod Scheme
+pub mod Code
+pub mod Machine
+pub mod Execute
+pub mod Run
+pub mod Outside
+pub mod Bench

@@ -1,0 +1,253 @@
+-- Reading a table to a program, or to a refusal 1 to 6 with its place (01, "The program table", "When a call is turned down").
+-- Reading goes left to right. At one byte 2 comes first, then 4, 3 and 5.
+use Prim.Native.Nat.{ℕ, zero, suc, _+_}
+use mathlib.Core.Bool.{Bool, true, false, cond, _&&_}
+use mathlib.Core.List.{List, [], _∷_, _++_}
+use mathlib.Core.Option.{Option, none, some}
+use lib.ListN.{length, drop, getElem?}
+use lib.Dec.{leb, eqb}
+use Rattle.model.specs.Number.{Number, number}
+use Rattle.model.specs.Syntax.{Site, inputOf, outputOf, declared, Operator, PLUS, MINUS, TIMES, GT, EQ, AND, OR, XOR, Expr, constant, variable, NOT, binary, Whole, Stmt, SKIP, STOP, assign, input, output, VAR, CHAN, SEQ, PAR, IF, WHILE, ALT, Stmts, noStmt, stmt, Pairs, noPair, pair, Guards, noGuard, inputGuard, skipGuard, Program}
+
+-- what was read, the place of the next byte and the bytes from there on; or a refusal's number and place
+pub data Parsed (A : Type 0) : Type 0 where
+  parsed : A → ℕ → List ℕ → Parsed A
+  fails : (number place : ℕ) → Parsed A
+
+-- a part of a table is read from a place, over the bytes from there on
+abbrev pub Reader : Type 0 → Type 0
+Reader A = ℕ → List ℕ → Parsed A
+
+abbrev pub onward : {A B : Type 0} → Parsed A → (A → Reader B) → Parsed B
+onward (parsed a at bytes) f = f a at bytes
+onward (fails n p) f = fails n p
+
+abbrev pub _>>=_ : {A B : Type 0} → Reader A → (A → Reader B) → Reader B
+_>>=_ r f at bytes = onward (r at bytes) f
+
+abbrev pub pure : {A : Type 0} → A → Reader A
+pure a at bytes = parsed a at bytes
+
+abbrev pub refuse : {A : Type 0} → (number place : ℕ) → Reader A
+refuse n p at bytes = fails n p
+
+-- the place of the next byte
+abbrev pub here : Reader ℕ
+here at bytes = parsed at at bytes
+
+abbrev numberOr2 : Option Number → Reader ℕ
+numberOr2 none at bytes = fails 2 at
+numberOr2 (some n) at bytes = parsed (n .value) (at + n .size) (drop (n .size) bytes)
+
+-- a number; 2 at its first byte, or at the table's length if none is left
+unfoldable pub readNumber : Reader ℕ
+readNumber at bytes = numberOr2 (number bytes) at bytes
+
+-- a number that stands for one of the things listed, from 0; else 3 at its byte
+abbrev oneOf3 : {A : Type 0} → Option A → ℕ → Reader A
+oneOf3 none at = refuse 3 at
+oneOf3 (some a) at = pure a
+
+unfoldable pub oneOf : {A : Type 0} → List A → Reader A
+oneOf things = do
+  at ← here
+  n ← readNumber
+  oneOf3 (getElem? things n) at
+
+-- a count from lo to hi; else 3 at its byte
+unfoldable pub readCount : (lo hi : ℕ) → Reader ℕ
+readCount lo hi = do
+  at ← here
+  n ← readNumber
+  cond (leb lo n && leb n hi) (pure n) (refuse 3 at)
+
+-- the names in scope, outermost first: the number of a name is its index here
+pub record Scope : Type 0 where
+  pub variables : List Site
+  pub channels : List Site
+
+-- a name's site if it may stand there; else 5 at the name's byte
+abbrev nameOr5 : (Site → Bool) → Option Site → ℕ → Reader Site
+nameOr5 fits none at = refuse 5 at
+nameOr5 fits (some s) at = cond (fits s) (pure s) (refuse 5 at)
+
+unfoldable pub readName : (Site → Bool) → List Site → Reader Site
+readName fits names = do
+  at ← here
+  n ← readNumber
+  nameOr5 fits (getElem? names n) at
+
+abbrev pub anySite : Site → Bool
+anySite s = true
+
+-- an outside output is no channel to input from, and an outside input none to output to
+abbrev pub canInput : Site → Bool
+canInput (inputOf k) = true
+canInput (outputOf k) = false
+canInput (declared p j) = true
+
+abbrev pub canOutput : Site → Bool
+canOutput (inputOf k) = false
+canOutput (outputOf k) = true
+canOutput (declared p j) = true
+
+abbrev pub readVariable : Scope → Reader Site
+readVariable names = readName anySite (names .variables)
+
+abbrev pub readInput : Scope → Reader Site
+readInput names = readName canInput (names .channels)
+
+abbrev pub readOutput : Scope → Reader Site
+readOutput names = readName canOutput (names .channels)
+
+-- the names of a VAR or CHAN at a place
+unfoldable pub names : (place count : ℕ) → List Site
+names p zero = []
+names p (suc n) = names p n ++ declared p n ∷ []
+
+abbrev pub withVariables : ℕ → ℕ → Scope → Scope
+withVariables p n s = record { variables = s .variables ++ names p n; channels = s .channels }
+
+abbrev pub withChannels : ℕ → ℕ → Scope → Scope
+withChannels p n s = record { variables = s .variables; channels = s .channels ++ names p n }
+
+pub data ExprKind : Type 0 where
+  isConstant isVariable isNot isBinary : ExprKind
+
+abbrev pub exprKinds : List ExprKind
+exprKinds = isConstant ∷ isVariable ∷ isNot ∷ isBinary ∷ []
+
+abbrev pub operators : List Operator
+operators = PLUS ∷ MINUS ∷ TIMES ∷ GT ∷ EQ ∷ AND ∷ OR ∷ XOR ∷ []
+
+-- depth 33: its first number may be bad, else 4 at its first byte
+unfoldable pub tooDeep : {A : Type 0} → Reader A
+tooDeep = do
+  at ← here
+  n ← readNumber
+  refuse 4 at
+
+-- what follows an expression's kind, with a reader of the expressions inside it
+unfoldable pub exprOf : Scope → Reader Expr → ExprKind → Reader Expr
+exprOf names inner isConstant = do n ← readNumber; pure (constant n)
+exprOf names inner isVariable = do x ← readVariable names; pure (variable x)
+exprOf names inner isNot = do e ← inner; pure (NOT e)
+exprOf names inner isBinary = do
+  op ← oneOf operators
+  left ← inner
+  right ← inner
+  pure (binary op left right)
+
+-- an expression, with the depths left from it on
+unfoldable pub readExpr : ℕ → Scope → Reader Expr
+readExpr zero names = tooDeep
+readExpr (suc d) names = do
+  k ← oneOf exprKinds
+  exprOf names (readExpr d names) k
+
+unfoldable pub readWhole : ℕ → Scope → Reader Whole
+readWhole d names = do
+  at ← here
+  e ← readExpr d names
+  pure (record { place = at; expr = e })
+
+-- so many parts, one after the other
+unfoldable pub readMany : {A L : Type 0} → L → (A → L → L) → Reader A → ℕ → Reader L
+readMany empty more part zero = pure empty
+readMany empty more part (suc n) = do
+  a ← part
+  rest ← readMany empty more part n
+  pure (more a rest)
+
+pub data StmtKind : Type 0 where
+  isSkip isStop isAssign isInput isOutput isVar isChan isSeq isPar isIf isWhile isAlt : StmtKind
+
+abbrev pub stmtKinds : List StmtKind
+stmtKinds = isSkip ∷ isStop ∷ isAssign ∷ isInput ∷ isOutput ∷ isVar ∷ isChan ∷ isSeq ∷ isPar ∷ isIf ∷ isWhile ∷ isAlt ∷ []
+
+pub data GuardKind : Type 0 where
+  isInputGuard isSkipGuard : GuardKind
+
+abbrev pub guardKinds : List GuardKind
+guardKinds = isInputGuard ∷ isSkipGuard ∷ []
+
+-- the readers of the parts inside a statement
+pub record Inner : Type 0 where
+  pub expr : Reader Whole
+  pub stmt : Scope → Reader Stmt
+
+unfoldable pub readPair : Scope → Inner → Reader (Pairs → Pairs)
+readPair names inner = do
+  e ← inner .expr
+  s ← inner .stmt names
+  pure (pair e s)
+
+unfoldable pub guardOf : Scope → Inner → GuardKind → Reader (Guards → Guards)
+guardOf names inner isInputGuard = do
+  e ← inner .expr
+  c ← readInput names
+  x ← readVariable names
+  s ← inner .stmt names
+  pure (inputGuard e c x s)
+guardOf names inner isSkipGuard = do
+  e ← inner .expr
+  s ← inner .stmt names
+  pure (skipGuard e s)
+
+unfoldable pub readGuard : Scope → Inner → Reader (Guards → Guards)
+readGuard names inner = do
+  k ← oneOf guardKinds
+  guardOf names inner k
+
+abbrev pub applied : {L : Type 0} → (L → L) → L → L
+applied f l = f l
+
+-- what follows a statement's kind, for a statement at a place
+unfoldable pub stmtOf : (place : ℕ) → Scope → Inner → StmtKind → Reader Stmt
+stmtOf p names inner isSkip = pure SKIP
+stmtOf p names inner isStop = pure STOP
+stmtOf p names inner isAssign = do x ← readVariable names; e ← inner .expr; pure (assign x e)
+stmtOf p names inner isInput = do c ← readInput names; x ← readVariable names; pure (input c x)
+stmtOf p names inner isOutput = do c ← readOutput names; e ← inner .expr; pure (output c e)
+stmtOf p names inner isVar = do n ← readCount 1 32; s ← inner .stmt (withVariables p n names); pure (VAR p n s)
+stmtOf p names inner isChan = do n ← readCount 1 32; s ← inner .stmt (withChannels p n names); pure (CHAN p n s)
+stmtOf p names inner isSeq = do n ← readCount 0 32; ss ← readMany noStmt stmt (inner .stmt names) n; pure (SEQ ss)
+stmtOf p names inner isPar = do n ← readCount 0 16; ss ← readMany noStmt stmt (inner .stmt names) n; pure (PAR p ss)
+stmtOf p names inner isIf = do n ← readCount 0 32; ps ← readMany noPair applied (readPair names inner) n; pure (IF ps)
+stmtOf p names inner isWhile = do e ← inner .expr; s ← inner .stmt names; pure (WHILE e s)
+stmtOf p names inner isAlt = do n ← readCount 0 32; gs ← readMany noGuard applied (readGuard names inner) n; pure (ALT gs)
+
+-- a statement, with the depths left from it on
+unfoldable pub readStmt : ℕ → Scope → Reader Stmt
+readStmt zero names = tooDeep
+readStmt (suc d) names = do
+  at ← here
+  k ← oneOf stmtKinds
+  stmtOf at names (record { expr = readWhole d names; stmt = readStmt d }) k
+
+-- the outside channels, as they are numbered: inputs first
+unfoldable pub outside : (ℕ → Site) → ℕ → List Site
+outside of zero = []
+outside of (suc n) = outside of n ++ of n ∷ []
+
+unfoldable pub readProgram : Reader Program
+readProgram = do
+  ins ← readCount 0 8
+  outs ← readCount 0 8
+  s ← readStmt 32 (record { variables = []; channels = outside inputOf ins ++ outside outputOf outs })
+  pure (record { inputs = ins; outputs = outs; body = s })
+
+-- a program, or a refusal's number and place
+pub data Read : Type 0 where
+  program : Program → Read
+  refused : (number place : ℕ) → Read
+
+-- 6 at the first byte after the program
+abbrev whole : Parsed Program → Read
+whole (parsed p at []) = program p
+whole (parsed p at (b ∷ bytes)) = refused 6 at
+whole (fails n at) = refused n at
+
+-- a table of 0 or over 16,384 bytes is refused first
+unfoldable pub readTable : List ℕ → Read
+readTable table = let r = whole (readProgram 0 table) in cond (leb 1 (length table) && leb (length table) 16384) r (refused 1 0)

@@ -1,0 +1,177 @@
+-- One byte, a start, and a run with a budget (01, "The machine", "When a call is turned down").
+use Prim.Native.Nat.{ℕ, zero, suc, _+_, _/_, min}
+use mathlib.Core.Bool.{Bool, true, false, cond, not, _&&_, _||_}
+use mathlib.Core.List.{List, [], _∷_, _++_}
+use mathlib.Core.Option.{Option, none, some}
+use lib.ListN.{length, getD, drop, replicate}
+use lib.Dec.{ltb, leb, eqb}
+use Rattle.model.specs.Word.{low, notProcess}
+use Rattle.model.specs.Instruction.{Function, pfixCode, nfixCode, functionOf}
+use Rattle.model.specs.Prefix.{gathered, pfixed, nfixed}
+use Rattle.model.specs.Machine.{World, Result, done, faults, Act, _>>=_, _>>_, return, fault, registers, setRegisters, setup, goto, gathering, counting, testPlace, memorySize}
+use Rattle.model.specs.Execute.{execute}
+use Rattle.model.specs.declared.Cpu.{Cpu}
+use Rattle.model.specs.declared.Setup.{Setup}
+use Rattle.model.specs.declared.Machine.{Machine}
+use Rattle.model.specs.declared.Kept.{Kept}
+use Rattle.model.specs.declared.Kept.the-variants.{Nothing, Fault as KeptFault}
+use Rattle.model.specs.declared.FaultKind.{FaultKind}
+use Rattle.model.specs.declared.FaultKind.the-variants.{Function as BadFunction, Place}
+use Rattle.model.specs.declared.Outcome.{Outcome}
+use Rattle.model.specs.declared.Outcome.the-variants.{Ended, Waiting, Spent, Fault as RunFault}
+use Rattle.model.specs.declared.RunAnswer.{RunAnswer}
+use Rattle.model.specs.declared.RunAnswer.the-variants.{Ran, Short as RunShort}
+use Rattle.model.specs.declared.StartAnswer.{StartAnswer}
+use Rattle.model.specs.declared.StartAnswer.the-variants.{Started, BadSlice, BadCount, TooLarge, Short as StartShort}
+
+-- the byte at the process's place; later runs use as much code as the start had
+unfoldable pub fetch : List ℕ → Act ℕ
+fetch code = do
+  r ← registers
+  u ← setup
+  cond (ltb (r .place) (u .code)) (return (getD code (r .place) 0)) (fault (Place (r .place)))
+
+abbrev functionOr12 : Option Function → (code operand : ℕ) → Act (Unit {0})
+functionOr12 none n o = fault (BadFunction n)
+functionOr12 (some f) n o = do
+  r ← registers
+  setRegisters (gathering 0 r)
+  execute f o
+
+-- what a byte does once it is fetched: a prefix gathers, any other uses the operand and leaves 0
+unfoldable pub act : (byte : ℕ) → Act (Unit {0})
+act b = do
+  r ← registers
+  setRegisters (counting (min (suc (r .count)) 65535) (goto (low (suc (r .place))) r))
+  q ← registers
+  cond (eqb (b / 16) pfixCode) (setRegisters (gathering (pfixed (gathered (r .operand) b)) q))
+    (cond (eqb (b / 16) nfixCode) (setRegisters (gathering (nfixed (gathered (r .operand) b)) q))
+      (functionOr12 (functionOf (b / 16)) (b / 16) (gathered (r .operand) b)))
+
+-- a code place is tested when the processor goes there, after all words
+unfoldable pub land : Act (Unit {0})
+land = do
+  r ← registers
+  cond (r .running) (testPlace (r .place)) (return tt)
+
+-- one byte: one instruction of the count
+unfoldable pub byte : List ℕ → Act (Unit {0})
+byte code = do
+  b ← fetch code
+  act b
+  land
+
+-- the process that has the processor stands at the code's end
+abbrev pub ended : Machine → Bool
+ended m = m .cpu .running && eqb (m .cpu .place) (m .setup .code)
+
+-- no process has the processor, and none is queued
+abbrev pub waits : Machine → Bool
+waits m = not (m .cpu .running)
+
+-- how a run stood, and the world after it
+pub record Finish : Type 0 where
+  pub outcome : Outcome
+  pub world : World
+
+-- a fault is kept; state and memory stay as they were before the byte
+abbrev pub keep : FaultKind → World → World
+keep k s =
+    record {
+      machine = record { cpu = s .machine .cpu; setup = s .machine .setup; offers = s .machine .offers; held = s .machine .held; fault = KeptFault k };
+      memory = s .memory;
+      talk = s .talk
+    }
+
+abbrev onward : Result (Unit {0}) → World → ℕ → (World → Finish) → Finish
+onward (done u t) s n more = more t
+onward (faults k) s n more = record { outcome = RunFault n k; world = keep k s }
+
+-- ended, waiting, spent or fault, tested in that order, with the instructions executed; n of them are before
+unfoldable pub runFrom : (budget : ℕ) → List ℕ → (n : ℕ) → World → Finish
+runFrom zero code n s =
+    cond (ended (s .machine)) (record { outcome = Ended n; world = s })
+    (cond (waits (s .machine)) (record { outcome = Waiting n; world = s }) (record { outcome = Spent n; world = s }))
+runFrom (suc k) code n s =
+    let more = onward (byte code s) s n (λ t. runFrom k code (suc n) t) in
+    cond (ended (s .machine)) (record { outcome = Ended n; world = s })
+    (cond (waits (s .machine)) (record { outcome = Waiting n; world = s }) more)
+
+-- memory too short: the size needed
+abbrev pub shortMemory : Machine → List ℕ → Bool
+shortMemory m memory = ltb (length memory) (memorySize (m .setup))
+
+-- a call's answer, and the machine and the lent memory after it
+pub record After (Answer : Type 0) : Type 0 where
+  pub answer : Answer
+  pub machine : Machine
+  pub memory : List ℕ
+
+abbrev pub unchanged : {Answer : Type 0} → Answer → Machine → List ℕ → After Answer
+unchanged a m memory = record { answer = a; machine = m; memory = memory }
+
+abbrev pub worldOf : Machine → List ℕ → World
+worldOf m memory = record { machine = m; memory = memory; talk = [] }
+
+abbrev finished : Finish → After RunAnswer
+finished f = record { answer = Ran (f .outcome); machine = f .world .machine; memory = f .world .memory }
+
+-- a kept fault is answered again, with 0 instructions
+abbrev keptOrRun : Kept → Machine → List ℕ → Finish → After RunAnswer
+keptOrRun (KeptFault k) m memory f = unchanged (Ran (RunFault 0 k)) m memory
+keptOrRun Nothing m memory f = finished f
+
+-- a run over lent code and lent memory: 11 first, code before memory
+unfoldable pub run : Machine → (code memory : List ℕ) → (budget : ℕ) → After RunAnswer
+run m code memory budget =
+    let ran = keptOrRun (m .fault) m memory (runFrom budget code 0 (worldOf m memory)) in
+    cond (ltb (length code) (m .setup .code)) (unchanged (RunShort (m .setup .code)) m memory)
+    (cond (shortMemory m memory) (unchanged (RunShort (memorySize (m .setup))) m memory) ran)
+
+abbrev pub noOffers : List ℕ
+noOffers = replicate 8 0
+
+abbrev pub noneHeld : List Bool
+noneHeld = replicate 8 false
+
+-- the machine with nothing in it, which a refused start gives back
+unfoldable pub blank : Machine
+blank =
+    record {
+      cpu =
+        record { a = 0; b = 0; c = 0; operand = 0; place = 0; workspace = 0; count = 0; front = 0; back = 0; running = false; queued = false };
+      setup = record { code = 0; base = 0; inputs = 0; outputs = 0; slice = 0 };
+      offers = noOffers;
+      held = noneHeld;
+      fault = Nothing
+    }
+
+-- registers start as 0; the process at W has the processor
+unfoldable pub fresh : Setup → Machine
+fresh u =
+    record {
+      cpu =
+        record { a = 0; b = 0; c = 0; operand = 0; place = 0; workspace = u .base; count = 0; front = 0; back = 0; running = true; queued = false };
+      setup = u;
+      offers = noOffers;
+      held = noneHeld;
+      fault = Nothing
+    }
+
+-- every needed word starts as 0, channels as NotProcess; later words stay
+unfoldable pub cleared : Setup → List ℕ → List ℕ
+cleared u memory = replicate (u .base) 0 ++ replicate (u .inputs + u .outputs) notProcess ++ drop (memorySize u) memory
+
+-- a start: 15 first, then 3 for a channel count over 8 and 10, then 11
+unfoldable pub start : (code memory : List ℕ) → (w inputs outputs slice : ℕ) → After StartAnswer
+start code memory w i o q =
+    let u : Setup = record { code = length code; base = w; inputs = i; outputs = o; slice = q } in
+    cond (leb 1 q && leb q 65535)
+    (cond (leb i 8 && leb o 8)
+    (cond (leb (w + i + o) 4096 && leb (length code) 16384)
+    (cond (leb (w + i + o) (length memory))
+    (record { answer = Started; machine = fresh u; memory = cleared u memory })
+    (unchanged (StartShort (w + i + o)) blank memory))
+    (unchanged TooLarge blank memory))
+    (unchanged BadCount blank memory))
+    (unchanged BadSlice blank memory)

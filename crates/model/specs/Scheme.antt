@@ -1,0 +1,229 @@
+-- The compiling scheme as a list of instructions (01, "Workspace and code").
+use Prim.Native.Nat.{ℕ, zero, suc, _+_, _-_, _*_}
+use mathlib.Core.List.{List, [], _∷_, _++_}
+use Rattle.model.specs.Word.{less, minus}
+use Rattle.model.specs.Syntax.{Site, Operator, PLUS, MINUS, TIMES, GT, EQ, AND, OR, XOR, Expr, constant, variable, NOT, binary, Whole, Stmt, SKIP, STOP, assign, input, output, VAR, CHAN, SEQ, PAR, IF, WHILE, ALT, Stmts, noStmt, stmt, Pairs, noPair, pair, Guards, noGuard, inputGuard, skipGuard, Program}
+use Rattle.model.specs.Counts.{need}
+use Rattle.model.specs.Layout.{base, wordOf}
+use Rattle.model.specs.Instruction as I
+use Rattle.model.specs.Instruction.{Instruction, plain, distance, operation, ldlp, ldc, ldl, cj, ajw, eqc, stl, rev, endp, diff, «in», prod, startp, outword, stopp, ldpi, disc, diss, mint, altwt, altend, enbc, enbs}
+
+-- the operation of an operator; EQ is DIFF, EQC 0
+unfoldable pub operatorCode : Operator → List Instruction
+operatorCode PLUS = operation I.sum ∷ []
+operatorCode MINUS = operation diff ∷ []
+operatorCode TIMES = operation prod ∷ []
+operatorCode GT = operation I.gt ∷ []
+operatorCode EQ = operation diff ∷ plain eqc 0 ∷ []
+operatorCode AND = operation I.and ∷ []
+operatorCode OR = operation I.or ∷ []
+operatorCode XOR = operation I.xor ∷ []
+
+-- so many declared words set by an instruction that brings in their first value
+unfoldable pub initialise : Instruction → ℕ → List Instruction
+initialise first zero = []
+initialise first (suc n) = initialise first n ++ first ∷ plain stl n ∷ []
+
+-- how many instructions an expression has
+unfoldable pub operatorSize : Operator → ℕ
+operatorSize PLUS = 1
+operatorSize MINUS = 1
+operatorSize TIMES = 1
+operatorSize GT = 1
+operatorSize EQ = 2
+operatorSize AND = 1
+operatorSize OR = 1
+operatorSize XOR = 1
+
+unfoldable pub exprSize : Expr → ℕ
+exprSize (constant n) = 1
+exprSize (variable x) = 1
+exprSize (NOT e) = exprSize e + 1
+exprSize (binary op l r) = exprSize l + exprSize r + operatorSize op
+
+abbrev pub wholeSize : Whole → ℕ
+wholeSize e = exprSize (e .expr)
+
+-- how many statements or branches there are
+unfoldable pub howMany : Stmts → ℕ
+howMany noStmt = 0
+howMany (stmt s ss) = suc (howMany ss)
+
+-- the instructions of a guard's enabling, disabling and branch, and of a statement
+unfoldable mutual
+  pub size : Stmt → ℕ
+  size SKIP = 0
+  size STOP = 1
+  size (assign x e) = wholeSize e + 1
+  size (input c x) = 4
+  size (output c e) = wholeSize e + 5
+  size (VAR p n s) = 1 + (n + n) + size s + 1
+  size (CHAN p n s) = 1 + (n + n) + size s + 1
+  size (SEQ ss) = sizeAll ss
+  size (PAR p ss) = sizePar ss
+  size (IF ps) = sizePairs ps
+  size (WHILE e s) = wholeSize e + 1 + size s + 1
+  size (ALT gs) = 2 + sizeEnable gs + 1 + sizeDisable gs + 1 + sizeBranches gs
+
+  pub sizeAll : Stmts → ℕ
+  sizeAll noStmt = 0
+  sizeAll (stmt s ss) = size s + sizeAll ss
+
+  pub sizePar : Stmts → ℕ
+  sizePar noStmt = 0
+  sizePar (stmt s ss) = 6 + 3 * howMany ss + (size s + 2 + sizeEnds ss) + 1
+
+  -- each branch's code with its end
+  pub sizeEnds : Stmts → ℕ
+  sizeEnds noStmt = 0
+  sizeEnds (stmt s ss) = size s + 2 + sizeEnds ss
+
+  pub sizePairs : Pairs → ℕ
+  sizePairs noPair = 0
+  sizePairs (pair e s ps) = wholeSize e + 1 + size s + 1 + sizePairs ps
+
+  pub sizeEnable : Guards → ℕ
+  sizeEnable noGuard = 0
+  sizeEnable (inputGuard e c x s gs) = wholeSize e + 3 + sizeEnable gs
+  sizeEnable (skipGuard e s gs) = wholeSize e + 1 + sizeEnable gs
+
+  pub sizeDisable : Guards → ℕ
+  sizeDisable noGuard = 0
+  sizeDisable (inputGuard e c x s gs) = wholeSize e + 4 + sizeDisable gs
+  sizeDisable (skipGuard e s gs) = wholeSize e + 2 + sizeDisable gs
+
+  pub sizeBranches : Guards → ℕ
+  sizeBranches noGuard = 0
+  sizeBranches (inputGuard e c x s gs) = 1 + 4 + size s + 1 + sizeBranches gs
+  sizeBranches (skipGuard e s gs) = 1 + size s + 1 + sizeBranches gs
+
+-- the code, where names stand in the words of `word`. `w` is W as adjusted at the place, `i` the index of the first instruction
+module _ (word : Site → ℕ) where
+  -- a name's word, counted from w
+  abbrev pub local : (w : ℕ) → Site → ℕ
+  local w x = less (word x) w
+
+  -- left, right, then the operation; NOT is EQC 0
+  unfoldable pub exprCode : (w : ℕ) → Expr → List Instruction
+  exprCode w (constant n) = plain ldc n ∷ []
+  exprCode w (variable x) = plain ldl (local w x) ∷ []
+  exprCode w (NOT e) = exprCode w e ++ plain eqc 0 ∷ []
+  exprCode w (binary op l r) = exprCode w l ++ exprCode w r ++ operatorCode op
+
+  abbrev pub wholeCode : (w : ℕ) → Whole → List Instruction
+  wholeCode w e = exprCode w (e .expr)
+
+  abbrev pub inputCode : (w : ℕ) → (channel variable : Site) → List Instruction
+  inputCode w c x = plain ldlp (local w x) ∷ plain ldlp (local w c) ∷ plain ldc 4 ∷ operation «in» ∷ []
+
+  unfoldable mutual
+    pub code : (w i : ℕ) → Stmt → List Instruction
+    code w i SKIP = []
+    code w i STOP = operation stopp ∷ []
+    code w i (assign x e) = wholeCode w e ++ plain stl (local w x) ∷ []
+    code w i (input c x) = inputCode w c x
+    code w i (output c e) =
+        wholeCode w e ++ plain ldlp (local w c) ∷ operation rev ∷ plain ajw (minus 1) ∷ operation outword ∷ plain ajw 1 ∷ []
+    code w i (VAR p n s) =
+        plain ajw (minus n) ∷ initialise (plain ldc 0) n ++ code (w - n) (i + 1 + (n + n)) s ++ plain ajw n ∷ []
+    code w i (CHAN p n s) =
+        plain ajw (minus n) ∷ initialise (operation mint) n ++ code (w - n) (i + 1 + (n + n)) s ++ plain ajw n ∷ []
+    code w i (SEQ ss) = codeAll w i ss
+    code w i (PAR p ss) = codePar w i ss
+    code w i (IF ps) = codePairs w i (i + sizePairs ps) ps
+    code w i (WHILE e s) =
+        let test = i + wholeSize e in
+        let back = test + 1 + size s in
+        wholeCode w e ++ distance cj (back + 1) test ∷ code w (test + 1) s ++ distance I.j i back ∷ []
+    code w i (ALT gs) =
+        let choice = i + 2 + sizeEnable gs + 1 + sizeDisable gs in
+        plain ajw (minus 1)
+        ∷ operation I.alt
+        ∷ codeEnable (w - 1) gs
+        ++ operation altwt
+        ∷ codeDisable (w - 1) choice (choice + 1) gs
+        ++ operation altend
+        ∷ codeBranches w (choice + 1) (choice + 1 + sizeBranches gs) gs
+
+    pub codeAll : (w i : ℕ) → Stmts → List Instruction
+    codeAll w i noStmt = []
+    codeAll w i (stmt s ss) = code w i s ++ codeAll w (i + size s) ss
+
+    -- the words 0 and 1 of a PAR hold where it goes on and how many branches are not over
+    pub codePar : (w i : ℕ) → Stmts → List Instruction
+    codePar w i noStmt = []
+    codePar w i (stmt s ss) =
+        let first = i + 6 + 3 * howMany ss in
+        let over = first + size s + 2 + sizeEnds ss in
+        plain ajw (minus 2)
+        ∷ distance ldc over (i + 2)
+        ∷ operation ldpi
+        ∷ plain stl 0
+        ∷ plain ldc (suc (howMany ss))
+        ∷ plain stl 1
+        ∷ codeStarts (need s) (i + 6) (first + size s + 2) ss
+        ++ code (w - 2) first s
+        ++ plain ldlp 0
+        ∷ operation endp
+        ∷ codeEnds (w - 2) (need s) (first + size s + 2) ss
+        ++ plain ajw 2
+        ∷ []
+
+    -- starting branches: the first of them runs at d below, its code is at index b
+    pub codeStarts : (d i b : ℕ) → Stmts → List Instruction
+    codeStarts d i b noStmt = []
+    codeStarts d i b (stmt s ss) =
+        distance ldc b (i + 2) ∷ plain ldlp (minus d) ∷ operation startp ∷ codeStarts (d + need s) (i + 3) (b + size s + 2) ss
+
+    -- the branches themselves, each with its end
+    pub codeEnds : (w d i : ℕ) → Stmts → List Instruction
+    codeEnds w d i noStmt = []
+    codeEnds w d i (stmt s ss) =
+        code (w - d) i s ++ plain ldlp d ∷ operation endp ∷ codeEnds w (d + need s) (i + size s + 2) ss
+
+    pub codePairs : (w i over : ℕ) → Pairs → List Instruction
+    codePairs w i over noPair = []
+    codePairs w i over (pair e s ps) =
+        let test = i + wholeSize e in
+        let leave = test + 1 + size s in
+        wholeCode w e
+        ++ distance cj (leave + 1) test
+        ∷ code w (test + 1) s
+        ++ distance I.j over leave
+        ∷ codePairs w (leave + 1) over ps
+
+    pub codeEnable : (w : ℕ) → Guards → List Instruction
+    codeEnable w noGuard = []
+    codeEnable w (inputGuard e c x s gs) =
+        wholeCode w e ++ plain ldlp (local w c) ∷ operation rev ∷ operation enbc ∷ codeEnable w gs
+    codeEnable w (skipGuard e s gs) = wholeCode w e ++ operation enbs ∷ codeEnable w gs
+
+    -- `choice` is the index of ALTEND, b that of the first branch
+    pub codeDisable : (w choice b : ℕ) → Guards → List Instruction
+    codeDisable w choice b noGuard = []
+    codeDisable w choice b (inputGuard e c x s gs) =
+        wholeCode w e
+        ++ plain ldlp (local w c)
+        ∷ operation rev
+        ∷ distance ldc b choice
+        ∷ operation disc
+        ∷ codeDisable w choice (b + 1 + 4 + size s + 1) gs
+    codeDisable w choice b (skipGuard e s gs) =
+        wholeCode w e ++ distance ldc b choice ∷ operation diss ∷ codeDisable w choice (b + 1 + size s + 1) gs
+
+    pub codeBranches : (w i over : ℕ) → Guards → List Instruction
+    codeBranches w i over noGuard = []
+    codeBranches w i over (inputGuard e c x s gs) =
+        let leave = i + 1 + 4 + size s in
+        plain ajw 1
+        ∷ inputCode w c x
+        ++ code w (i + 1 + 4) s
+        ++ distance I.j over leave
+        ∷ codeBranches w (leave + 1) over gs
+    codeBranches w i over (skipGuard e s gs) =
+        let leave = i + 1 + size s in
+        plain ajw 1 ∷ code w (i + 1) s ++ distance I.j over leave ∷ codeBranches w (leave + 1) over gs
+
+-- the scheme for a program
+unfoldable pub scheme : Program → List Instruction
+scheme p = code (wordOf p) (base p) 0 (p .body)

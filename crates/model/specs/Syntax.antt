@@ -1,0 +1,59 @@
+-- Programs as a table has them (01, "The program table"), with each name resolved to its declaration.
+-- Places are bytes of the table.
+use Prim.Native.Nat.{ℕ}
+use mathlib.Core.List.{List}
+
+-- what a name stands for: an outside input or output channel, each counted from 0, or the j-th name of the VAR or CHAN
+-- whose first byte is at a place
+pub data Site : Type 0 where
+  inputOf : ℕ → Site
+  outputOf : ℕ → Site
+  declared : (place j : ℕ) → Site
+
+pub data Operator : Type 0 where
+  PLUS MINUS TIMES GT EQ AND OR XOR : Operator
+
+pub data Expr : Type 0 where
+  constant : ℕ → Expr
+  variable : Site → Expr
+  NOT : Expr → Expr
+  binary : Operator → Expr → Expr → Expr
+
+-- an expression that stands in no other, with the place of its first byte, which refusal 8 returns
+pub record Whole : Type 0 where
+  pub place : ℕ
+  pub expr : Expr
+
+-- VAR, CHAN and PAR have the place of their first byte: it tells declarations apart, and refusal 7 returns it
+mutual
+  pub data Stmt : Type 0 where
+    SKIP STOP : Stmt
+    assign : Site → Whole → Stmt
+    input : (channel variable : Site) → Stmt
+    output : (channel : Site) → Whole → Stmt
+    VAR CHAN : (place count : ℕ) → Stmt → Stmt
+    SEQ : Stmts → Stmt
+    PAR : (place : ℕ) → Stmts → Stmt
+    IF : Pairs → Stmt
+    WHILE : Whole → Stmt → Stmt
+    ALT : Guards → Stmt
+
+  pub data Stmts : Type 0 where
+    noStmt : Stmts
+    stmt : Stmt → Stmts → Stmts
+
+  pub data Pairs : Type 0 where
+    noPair : Pairs
+    pair : Whole → Stmt → Pairs → Pairs
+
+  -- a guard that waits for input, or a SKIP guard, and the statement that it guards
+  pub data Guards : Type 0 where
+    noGuard : Guards
+    inputGuard : Whole → (channel variable : Site) → Stmt → Guards → Guards
+    skipGuard : Whole → Stmt → Guards → Guards
+
+-- outside input channels, outside output channels, the statement
+pub record Program : Type 0 where
+  pub inputs : ℕ
+  pub outputs : ℕ
+  pub body : Stmt

@@ -1,0 +1,140 @@
+-- What the branches of a PAR use (01: "In a PAR, a variable that one branch assigns or inputs is not used by another, and no two
+-- branches input from, or output to, one channel"), refusal 7.
+use Prim.Native.Nat.{ℕ}
+use mathlib.Core.Bool.{Bool, true, false, cond, _&&_, _||_}
+use mathlib.Core.List.{List, [], _∷_, _++_}
+use mathlib.Core.Option.{Option, none, some}
+use lib.Dec.{eqb}
+use Rattle.model.specs.Syntax.{Site, inputOf, outputOf, declared, Operator, Expr, constant, variable, NOT, binary, Whole, Stmt, SKIP, STOP, assign, input, output, VAR, CHAN, SEQ, PAR, IF, WHILE, ALT, Stmts, noStmt, stmt, Pairs, noPair, pair, Guards, noGuard, inputGuard, skipGuard}
+
+-- what a part of the program does to names. Names that it declares itself are among them, and in no other part
+pub record Usage : Type 0 where
+  pub changes : List Site     -- variables assigned or input
+  pub uses : List Site        -- variables read, assigned or input
+  pub inputs : List Site      -- channels input from
+  pub outputs : List Site     -- channels output to
+
+abbrev pub nothing : Usage
+nothing = record { changes = []; uses = []; inputs = []; outputs = [] }
+
+infixr 60 _⊕_
+abbrev pub _⊕_ : Usage → Usage → Usage
+_⊕_ u v =
+    record {
+      changes = u .changes ++ v .changes;
+      uses = u .uses ++ v .uses;
+      inputs = u .inputs ++ v .inputs;
+      outputs = u .outputs ++ v .outputs
+    }
+
+unfoldable pub reads : Expr → List Site
+reads (constant n) = []
+reads (variable x) = x ∷ []
+reads (NOT e) = reads e
+reads (binary op l r) = reads l ++ reads r
+
+abbrev pub reading : Whole → Usage
+reading e = record { changes = []; uses = reads (e .expr); inputs = []; outputs = [] }
+
+abbrev pub changing : Site → Usage
+changing x = record { changes = x ∷ []; uses = x ∷ []; inputs = []; outputs = [] }
+
+abbrev pub inputting : Site → Usage
+inputting c = record { changes = []; uses = []; inputs = c ∷ []; outputs = [] }
+
+abbrev pub outputting : Site → Usage
+outputting c = record { changes = []; uses = []; inputs = []; outputs = c ∷ [] }
+
+unfoldable mutual
+  pub usage : Stmt → Usage
+  usage SKIP = nothing
+  usage STOP = nothing
+  usage (assign x e) = changing x ⊕ reading e
+  usage (input c x) = inputting c ⊕ changing x
+  usage (output c e) = outputting c ⊕ reading e
+  usage (VAR p n s) = usage s
+  usage (CHAN p n s) = usage s
+  usage (SEQ ss) = usageAll ss
+  usage (PAR p ss) = usageAll ss
+  usage (IF ps) = usagePairs ps
+  usage (WHILE e s) = reading e ⊕ usage s
+  usage (ALT gs) = usageGuards gs
+
+  pub usageAll : Stmts → Usage
+  usageAll noStmt = nothing
+  usageAll (stmt s ss) = usage s ⊕ usageAll ss
+
+  pub usagePairs : Pairs → Usage
+  usagePairs noPair = nothing
+  usagePairs (pair e s ps) = reading e ⊕ usage s ⊕ usagePairs ps
+
+  pub usageGuards : Guards → Usage
+  usageGuards noGuard = nothing
+  usageGuards (inputGuard e c x s gs) = reading e ⊕ inputting c ⊕ changing x ⊕ usage s ⊕ usageGuards gs
+  usageGuards (skipGuard e s gs) = reading e ⊕ usage s ⊕ usageGuards gs
+
+unfoldable pub same : Site → Site → Bool
+same (inputOf j) (inputOf k) = eqb j k
+same (inputOf j) (outputOf k) = false
+same (inputOf j) (declared p k) = false
+same (outputOf j) (inputOf k) = false
+same (outputOf j) (outputOf k) = eqb j k
+same (outputOf j) (declared p k) = false
+same (declared p j) (inputOf k) = false
+same (declared p j) (outputOf k) = false
+same (declared p j) (declared q k) = eqb p q && eqb j k
+
+unfoldable pub isIn : Site → List Site → Bool
+isIn x [] = false
+isIn x (y ∷ ys) = same x y || isIn x ys
+
+unfoldable pub share : List Site → List Site → Bool
+share [] ys = false
+share (x ∷ xs) ys = isIn x ys || share xs ys
+
+-- two branches that may not stand in one PAR
+unfoldable pub clash : Usage → Usage → Bool
+clash u v =
+    share (u .changes) (v .uses) || share (v .changes) (u .uses) || share (u .inputs) (v .inputs) || share (u .outputs) (v .outputs)
+
+-- some two of the branches clash: one with a later one
+unfoldable pub clashesLater : Usage → Stmts → Bool
+clashesLater u noStmt = false
+clashesLater u (stmt s ss) = clash u (usage s) || clashesLater u ss
+
+unfoldable pub anyClash : Stmts → Bool
+anyClash noStmt = false
+anyClash (stmt s ss) = clashesLater (usage s) ss || anyClash ss
+
+abbrev pub orElse : Option ℕ → Option ℕ → Option ℕ
+orElse none o = o
+orElse (some p) o = some p
+
+-- the place of the first PAR with a clash: an outer one before the ones inside it
+unfoldable mutual
+  pub firstClash : Stmt → Option ℕ
+  firstClash SKIP = none
+  firstClash STOP = none
+  firstClash (assign x e) = none
+  firstClash (input c x) = none
+  firstClash (output c e) = none
+  firstClash (VAR p n s) = firstClash s
+  firstClash (CHAN p n s) = firstClash s
+  firstClash (SEQ ss) = firstClashAll ss
+  firstClash (PAR p ss) = cond (anyClash ss) (some p) (firstClashAll ss)
+  firstClash (IF ps) = firstClashPairs ps
+  firstClash (WHILE e s) = firstClash s
+  firstClash (ALT gs) = firstClashGuards gs
+
+  pub firstClashAll : Stmts → Option ℕ
+  firstClashAll noStmt = none
+  firstClashAll (stmt s ss) = orElse (firstClash s) (firstClashAll ss)
+
+  pub firstClashPairs : Pairs → Option ℕ
+  firstClashPairs noPair = none
+  firstClashPairs (pair e s ps) = orElse (firstClash s) (firstClashPairs ps)
+
+  pub firstClashGuards : Guards → Option ℕ
+  firstClashGuards noGuard = none
+  firstClashGuards (inputGuard e c x s gs) = orElse (firstClash s) (firstClashGuards gs)
+  firstClashGuards (skipGuard e s gs) = orElse (firstClash s) (firstClashGuards gs)
