@@ -15,3 +15,6 @@ pub mod Execute
 pub mod Run
 pub mod Outside
 pub mod Bench
+pub mod Occam
+pub mod History
+pub mod Demand

@@ -1,7 +1,7 @@
 -- Offers and takes from outside (01, "The machine", "When a call is turned down").
 use Prim.Native.Nat.{ℕ, _+_, _-_}
 use mathlib.Core.Bool.{Bool, true, false, cond, not, _&&_, _||_}
-use mathlib.Core.List.{List}
+use mathlib.Core.List.{List, []}
 use mathlib.Core.Option.{Option, none, some}
 use lib.ListN.{getD, set}
 use lib.Dec.{ltb, leb, eqb}
@@ -63,8 +63,8 @@ taking k = do
 
 -- a call that would fault keeps the fault; state and memory stay
 abbrev offered : Result (Unit {0}) → Machine → List ℕ → After OfferAnswer
-offered (done a t) m memory = record { answer = Offered; machine = t .machine; memory = t .memory }
-offered (faults k) m memory = record { answer = OfferFault k; machine = keep k (worldOf m memory) .machine; memory = memory }
+offered (done a t) m memory = record { answer = Offered; machine = t .machine; memory = t .memory; talk = t .talk }
+offered (faults k) m memory = record { answer = OfferFault k; machine = keep k (worldOf m memory) .machine; memory = memory; talk = [] }
 
 abbrev offerUnless : Kept → Machine → List ℕ → (k value : ℕ) → After OfferAnswer
 offerUnless (KeptFault f) m memory k v = unchanged (OfferFault f) m memory
@@ -85,8 +85,8 @@ valueOrNone none = Nothing
 valueOrNone (some v) = Taken v
 
 abbrev took : Result (Option ℕ) → Machine → List ℕ → After TakeAnswer
-took (done v t) m memory = record { answer = valueOrNone v; machine = t .machine; memory = t .memory }
-took (faults k) m memory = record { answer = TakeFault k; machine = keep k (worldOf m memory) .machine; memory = memory }
+took (done v t) m memory = record { answer = valueOrNone v; machine = t .machine; memory = t .memory; talk = t .talk }
+took (faults k) m memory = record { answer = TakeFault k; machine = keep k (worldOf m memory) .machine; memory = memory; talk = [] }
 
 abbrev takeUnless : Kept → Machine → List ℕ → (k : ℕ) → After TakeAnswer
 takeUnless (KeptFault f) m memory k = unchanged (TakeFault f) m memory

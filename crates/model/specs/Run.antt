@@ -8,7 +8,7 @@ use lib.Dec.{ltb, leb, eqb}
 use Rattle.model.specs.Word.{low, notProcess}
 use Rattle.model.specs.Instruction.{Function, pfixCode, nfixCode, functionOf}
 use Rattle.model.specs.Prefix.{gathered, pfixed, nfixed}
-use Rattle.model.specs.Machine.{World, Result, done, faults, Act, _>>=_, _>>_, return, fault, registers, setRegisters, setup, goto, gathering, counting, testPlace, memorySize}
+use Rattle.model.specs.Machine.{Talk, World, Result, done, faults, Act, _>>=_, _>>_, return, fault, registers, setRegisters, setup, goto, gathering, counting, testPlace, memorySize}
 use Rattle.model.specs.Execute.{execute}
 use Rattle.model.specs.declared.Cpu.{Cpu}
 use Rattle.model.specs.declared.Setup.{Setup}
@@ -101,20 +101,21 @@ runFrom (suc k) code n s =
 abbrev pub shortMemory : Machine → List ℕ → Bool
 shortMemory m memory = ltb (length memory) (memorySize (m .setup))
 
--- a call's answer, and the machine and the lent memory after it
+-- a call's answer, the machine and the lent memory after it, and its communications
 pub record After (Answer : Type 0) : Type 0 where
   pub answer : Answer
   pub machine : Machine
   pub memory : List ℕ
+  pub talk : List Talk
 
 abbrev pub unchanged : {Answer : Type 0} → Answer → Machine → List ℕ → After Answer
-unchanged a m memory = record { answer = a; machine = m; memory = memory }
+unchanged a m memory = record { answer = a; machine = m; memory = memory; talk = [] }
 
 abbrev pub worldOf : Machine → List ℕ → World
 worldOf m memory = record { machine = m; memory = memory; talk = [] }
 
 abbrev finished : Finish → After RunAnswer
-finished f = record { answer = Ran (f .outcome); machine = f .world .machine; memory = f .world .memory }
+finished f = record { answer = Ran (f .outcome); machine = f .world .machine; memory = f .world .memory; talk = f .world .talk }
 
 -- a kept fault is answered again, with 0 instructions
 abbrev keptOrRun : Kept → Machine → List ℕ → Finish → After RunAnswer
@@ -170,7 +171,7 @@ start code memory w i o q =
     (cond (leb i 8 && leb o 8)
     (cond (leb (w + i + o) 4096 && leb (length code) 16384)
     (cond (leb (w + i + o) (length memory))
-    (record { answer = Started; machine = fresh u; memory = cleared u memory })
+    (record { answer = Started; machine = fresh u; memory = cleared u memory; talk = [] })
     (unchanged (StartShort (w + i + o)) blank memory))
     (unchanged TooLarge blank memory))
     (unchanged BadCount blank memory))

@@ -1,0 +1,131 @@
+-- Demand 3 as one statement.
+use Prim.Native.Nat.{ℕ, zero, suc, _+_, _*_, _<_}
+use mathlib.Core.Path.{_≡_}
+use mathlib.Core.Bool.{Bool, true, false}
+use mathlib.Core.List.{List, [], _∷_, _++_, map, List·Memᴰ}
+use mathlib.Core.Option.{Option, some}
+use lib.ListN.{length, getD}
+use Rattle.model.specs.Syntax.{Site, Program}
+use Rattle.model.specs.Accept.{limit}
+use Rattle.model.specs.Layout.{base, wordOf}
+use Rattle.model.specs.Code.{Compilation, compiled, compile}
+use Rattle.model.specs.Machine.{Talk}
+use Rattle.model.specs.Run.{After, start, ended, waits}
+use Rattle.model.specs.Occam.{Frame, inSeq, inVar, inWhile, Process, finished, framesOf, look, State, Communication, Step, Event, Outside, initial, Stuck}
+use Rattle.model.specs.History.{Call, Moment, quietly, history}
+use Rattle.model.specs.declared.Machine.{Machine}
+use Rattle.model.specs.declared.Kept.the-variants.{Nothing}
+use Rattle.model.specs.declared.StartAnswer.{StartAnswer}
+use Rattle.model.specs.declared.StartAnswer.the-variants.{Started}
+
+-- one move of an Occam run: a step, or an offer or take, with its communications and the state that it leaves
+pub data Move : Type 0 where
+  step : List Communication → State → Move
+  outside : Event → List Communication → State → Move
+
+abbrev pub Legal : State → Move → Type 0
+Legal st (step cs st′) = Step st cs st′
+Legal st (outside e cs st′) = Outside st e cs st′
+
+abbrev pub left : Move → State
+left (step cs st) = st
+left (outside e cs st) = st
+
+-- the moves made up to a moment since the moment before
+abbrev pub Segment : Type 0
+Segment = List Move
+
+abbrev pub Valid : State → Segment → Type 0
+Valid st [] = Unit {0}
+Valid st (m ∷ ms) = Legal st m × Valid (left m) ms
+
+abbrev pub reaches : State → Segment → State
+reaches st [] = st
+reaches st (m ∷ ms) = reaches (left m) ms
+
+abbrev pub steps : Segment → ℕ
+steps [] = 0
+steps (step cs st ∷ ms) = suc (steps ms)
+steps (outside e cs st ∷ ms) = steps ms
+
+abbrev pub eventsOf : Segment → List Event
+eventsOf [] = []
+eventsOf (step cs st ∷ ms) = eventsOf ms
+eventsOf (outside e cs st ∷ ms) = e ∷ eventsOf ms
+
+abbrev pub communications : Segment → List Communication
+communications [] = []
+communications (step cs st ∷ ms) = cs ++ communications ms
+communications (outside e cs st ∷ ms) = cs ++ communications ms
+
+-- the variables of the VARs that are entered and not over
+abbrev pub liveIn : List Frame → List Site
+liveIn [] = []
+liveIn (inSeq ss ∷ k) = liveIn k
+liveIn (inVar xs ∷ k) = xs ++ liveIn k
+liveIn (inWhile e s ∷ k) = liveIn k
+
+abbrev pub Live : Process → Site → Type 0
+Live p x = (path : List ℕ) × (q : Process) × (look path p ≡ some q) × List·Memᴰ x (liveIn (framesOf q))
+
+module _ (p : Program) where
+  -- a communication is compared by its channel's word and its value
+  abbrev pub talkOf : Communication → Talk
+  talkOf c = record { channel = wordOf p (c .channel); value = c .value }
+
+  -- what is found in the machine is what the run leaves by then
+  pub record Agrees (m : Moment) (st : State) : Type 0 where
+    pub variables : (x : Site) → Live (st .process) x → st .store x ≡ getD (m .memory) (wordOf p x) 0
+    pub no-fault : m .machine .fault ≡ Nothing
+    pub ends : ended (m .machine) ≡ true → st .process ≡ finished
+    pub waits-stuck : waits (m .machine) ≡ true → Stuck st
+    pub stuck-waits : Stuck st → waits (m .machine) ≡ true
+
+  -- a segment for a moment, from the state that the run had before
+  pub record Follows (m : Moment) (st : State) (moves : Segment) : Type 0 where
+    pub valid : Valid st moves
+    pub same-talk : map talkOf (communications moves) ≡ m .talk
+    pub same-events : eventsOf moves ≡ m .events
+    pub agrees : Agrees m (reaches st moves)
+
+  -- a run is a segment for each moment
+  abbrev pub Matches : List Moment → State → List Segment → Type 0
+  Matches [] st [] = Unit {0}
+  Matches [] st (g ∷ gs) = ⊥
+  Matches (m ∷ ms) st [] = ⊥
+  Matches (m ∷ ms) st (g ∷ gs) = Follows m st g × Matches ms (reaches st g) gs
+
+-- for each instruction, how many Occam steps it brought
+abbrev pub counted : Bool → ℕ → List ℕ → List ℕ
+counted true n l = n ∷ l
+counted false n l = l
+
+abbrev pub perInstruction : List Moment → List Segment → List ℕ
+perInstruction [] gs = []
+perInstruction (m ∷ ms) [] = []
+perInstruction (m ∷ ms) (g ∷ gs) = counted (m .instruction) (steps g) (perInstruction ms gs)
+
+abbrev pub total : List ℕ → ℕ
+total [] = 0
+total (n ∷ l) = n + total l
+
+-- any so many in a row hold at least one step
+abbrev pub Progress : ℕ → List ℕ → Type 0
+Progress n l = (before window after : List ℕ) → l ≡ before ++ window ++ after → length window ≡ n → 0 < total window
+
+-- a program that was started afresh: for every list of calls, one run by Occam's own rules that grows with the list
+pub record Faithful (p : Program) (code : List ℕ) (m : Machine) (memory : List ℕ) : Type 0 where
+  pub run : List Call → List Segment
+  pub grows : (cs : List Call) (c : Call) → (more : List Segment) × (run (cs ++ c ∷ []) ≡ run cs ++ more)
+  pub matches : (cs : List Call) → Matches p (quietly m memory ∷ history code cs m memory) (initial p) (run cs)
+  pub progress : (cs : List Call)
+    → Progress (suc (limit * length code)) (perInstruction (quietly m memory ∷ history code cs m memory) (run cs))
+
+-- demand 3 for one table: any code buffer in which it compiles, any slice and memory with which it starts
+abbrev pub Demand3 : (table : List ℕ) → Type 0
+Demand3 table =
+    (room slice : ℕ) (memory : List ℕ) (p : Program) (code : List ℕ) (s : After StartAnswer)
+    → compile table room ≡ compiled p code
+    → start code memory (base p) (p .inputs) (p .outputs) slice ≡ s
+    → s .answer ≡ Started
+    → Faithful p code (s .machine) (s .memory)

@@ -1,0 +1,109 @@
+-- What is found in the machine over a list of calls (demand 3): a moment after the start, at each run's beginning, after each byte
+-- executed and after each call. Each call has the state, code and memory as the one before left them.
+use Prim.Native.Nat.{ℕ, zero, suc}
+use mathlib.Core.Bool.{Bool, true, false, cond, _||_}
+use mathlib.Core.List.{List, [], _∷_, _++_}
+use lib.ListN as L
+use lib.ListN.{length, drop}
+use lib.Dec.{ltb}
+use Rattle.model.specs.Machine.{Talk, World, Result, done, faults}
+use Rattle.model.specs.Run.{After, worldOf, shortMemory, byte, ended, waits, run}
+use Rattle.model.specs.Outside.{offer, take}
+use Rattle.model.specs.Occam.{Event, offers, takes}
+use Rattle.model.specs.declared.Machine.{Machine}
+use Rattle.model.specs.declared.Kept.{Kept}
+use Rattle.model.specs.declared.Kept.the-variants.{Nothing as NoFault, Fault as KeptFault}
+use Rattle.model.specs.declared.OfferAnswer.{OfferAnswer}
+use Rattle.model.specs.declared.OfferAnswer.the-variants.{Offered, Short as OfferShort, Fault as OfferFault, NoChannel as OfferNoChannel, Held}
+use Rattle.model.specs.declared.TakeAnswer.{TakeAnswer}
+use Rattle.model.specs.declared.TakeAnswer.the-variants.{Taken, Nothing, Short as TakeShort, Fault as TakeFault, NoChannel as TakeNoChannel}
+
+-- a call, with how many bytes of the code and words of the memory it lends
+pub data Call : Type 0 where
+  callRun : (codeLent memoryLent budget : ℕ) → Call
+  callOffer : (memoryLent k value : ℕ) → Call
+  callTake : (memoryLent k : ℕ) → Call
+
+-- what is found at a moment, with the communications, and the offer or take with its answer, since the moment before.
+-- `instruction` says whether the moment is after a byte executed
+pub record Moment : Type 0 where
+  pub instruction : Bool
+  pub machine : Machine
+  pub memory : List ℕ
+  pub talk : List Talk
+  pub events : List Event
+
+abbrev pub quietly : Machine → List ℕ → Moment
+quietly m memory = record { instruction = false; machine = m; memory = memory; talk = []; events = [] }
+
+abbrev pub executed : World → (rest : List ℕ) → Moment
+executed t rest = record { instruction = true; machine = t .machine; memory = t .memory ++ rest; talk = t .talk; events = [] }
+
+abbrev onward : Result (Unit {0}) → (World → List Moment) → List Moment
+onward (done u t) more = more t
+onward (faults k) more = []
+
+-- the moments of a run's bytes over the memory that it is lent; `rest` is the memory that it is not
+unfoldable pub bytes : (budget : ℕ) → (code rest : List ℕ) → World → List Moment
+bytes zero code rest s = []
+bytes (suc n) code rest s =
+    let more = onward (byte code s) (λ t. executed t rest ∷ bytes n code rest (worldOf (t .machine) (t .memory))) in
+    cond (ended (s .machine) || waits (s .machine)) [] more
+
+abbrev unlessKept : Kept → List Moment → List Moment
+unlessKept NoFault l = l
+unlessKept (KeptFault k) l = []
+
+-- what a take or an offer said to the other side, if anything: 01, "What 11 or 13 refuses stays out"
+abbrev pub offerEvent : (k value : ℕ) → OfferAnswer → List Event
+offerEvent k v Offered = offers k v Offered ∷ []
+offerEvent k v Held = offers k v Held ∷ []
+offerEvent k v (OfferShort n) = []
+offerEvent k v (OfferFault f) = []
+offerEvent k v OfferNoChannel = []
+
+abbrev pub takeEvent : (k : ℕ) → TakeAnswer → List Event
+takeEvent k (Taken v) = takes k (Taken v) ∷ []
+takeEvent k Nothing = takes k Nothing ∷ []
+takeEvent k (TakeShort n) = []
+takeEvent k (TakeFault f) = []
+takeEvent k TakeNoChannel = []
+
+-- a run's moments after its beginning and before its answer
+unfoldable pub during : Machine → (code memory rest : List ℕ) → (budget : ℕ) → List Moment
+during m code memory rest budget =
+    let all = unlessKept (m .fault) (bytes budget code rest (worldOf m memory)) in
+    cond (ltb (length code) (m .setup .code) || shortMemory m memory) [] all
+
+-- the moments of a call, and the machine and memory that it leaves
+pub record Called : Type 0 where
+  pub moments : List Moment
+  pub machine : Machine
+  pub memory : List ℕ
+
+abbrev answered : {Answer : Type 0} → After Answer → (rest : List ℕ) → (Answer → List Event) → Called
+answered r rest said =
+    record {
+      moments = record { instruction = false; machine = r .machine; memory = r .memory ++ rest; talk = r .talk; events = said (r .answer) } ∷ [];
+      machine = r .machine;
+      memory = r .memory ++ rest
+    }
+
+unfoldable pub call : (code : List ℕ) → Call → Machine → (memory : List ℕ) → Called
+call code (callRun codeLent lent budget) m memory =
+    let r = run m (L.take codeLent code) (L.take lent memory) budget in
+    let left = r .memory ++ drop lent memory in
+    record {
+      moments = quietly m memory ∷ during m (L.take codeLent code) (L.take lent memory) (drop lent memory) budget ++ quietly (r .machine) left ∷ [];
+      machine = r .machine;
+      memory = left
+    }
+call code (callOffer lent k v) m memory = answered (offer m (L.take lent memory) k v) (drop lent memory) (offerEvent k v)
+call code (callTake lent k) m memory = answered (take m (L.take lent memory) k) (drop lent memory) (takeEvent k)
+
+-- the moments of a list of calls
+unfoldable pub history : (code : List ℕ) → List Call → Machine → (memory : List ℕ) → List Moment
+history code [] m memory = []
+history code (c ∷ cs) m memory =
+    let r = call code c m memory in
+    r .moments ++ history code cs (r .machine) (r .memory)

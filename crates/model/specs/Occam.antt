@@ -1,0 +1,279 @@
+-- Occam's own rules (01, "Occam's steps"). They know sites and no words: channels and variables are not laid out here.
+use Prim.Native.Nat.{ℕ, zero, suc, _+_, _*_}
+use mathlib.Core.Path.{_≡_}
+use mathlib.Core.Bool.{Bool, true, false, cond, not, _&&_}
+use mathlib.Core.List.{List, [], _∷_, _++_}
+use mathlib.Core.Option.{Option, none, some}
+use lib.Bits.{bitAnd, bitOr, bitXor}
+use lib.Dec.{eqb}
+use lib.Signed.{ltZ}
+use Rattle.model.specs.Word.{low, less, signed, truth}
+use Rattle.model.specs.Syntax.{Site, inputOf, outputOf, Operator, PLUS, MINUS, TIMES, GT, EQ, AND, OR, XOR, Expr, constant, variable, NOT, binary, Whole, Stmt, SKIP, STOP, assign, input, output, VAR, CHAN, SEQ, PAR, IF, WHILE, ALT, Stmts, noStmt, stmt, Pairs, noPair, pair, Guards, noGuard, inputGuard, skipGuard, Program}
+use Rattle.model.specs.Reader.{names}
+use Rattle.model.specs.Usage.{same, isIn}
+use Rattle.model.specs.declared.OfferAnswer.{OfferAnswer}
+use Rattle.model.specs.declared.OfferAnswer.the-variants.{Offered, Held}
+use Rattle.model.specs.declared.TakeAnswer.{TakeAnswer}
+use Rattle.model.specs.declared.TakeAnswer.the-variants.{Taken, Nothing}
+
+-- PLUS, MINUS and TIMES keep the low 32 bits. GT compares signed words; GT and EQ give 1 or 0. AND, OR, XOR work bit by bit
+unfoldable pub operate : Operator → ℕ → ℕ → ℕ
+operate PLUS l r = low (l + r)
+operate MINUS l r = less l r
+operate TIMES l r = low (l * r)
+operate GT l r = truth (ltZ (signed r) (signed l))
+operate EQ l r = truth (eqb l r)
+operate AND l r = bitAnd l r
+operate OR l r = bitOr l r
+operate XOR l r = bitXor l r
+
+-- NOT gives 1 for 0, else 0
+unfoldable pub deny : ℕ → ℕ
+deny v = truth (eqb v 0)
+
+-- the values of the variables
+abbrev pub Store : Type 0
+Store = Site → ℕ
+
+unfoldable pub eval : Store → Expr → ℕ
+eval σ (constant n) = n
+eval σ (variable x) = σ x
+eval σ (NOT e) = deny (eval σ e)
+eval σ (binary op l r) = operate op (eval σ l) (eval σ r)
+
+abbrev pub value : Store → Whole → ℕ
+value σ e = eval σ (e .expr)
+
+-- a condition is true when not 0
+abbrev pub isTrue : Store → Whole → Bool
+isTrue σ e = not (eqb (value σ e) 0)
+
+abbrev pub store : Site → ℕ → Store → Store
+store x v σ = λ y. cond (same y x) v (σ y)
+
+-- the variables of a VAR become 0
+abbrev pub zeros : List Site → Store → Store
+zeros xs σ = λ y. cond (isIn y xs) 0 (σ y)
+
+-- what a process is in the middle of: a SEQ, with the statements left; a VAR, whose variables are live; a WHILE's body
+pub data Frame : Type 0 where
+  inSeq : Stmts → Frame
+  inVar : List Site → Frame
+  inWhile : Whole → Stmt → Frame
+
+-- a process, and what it goes on with. `before`: about to begin a statement. The next four: waiting there; an output holds its value.
+-- In a PAR, a branch whose process is finished has not yet taken the step of its end; after it, it is over
+mutual
+  pub data Process : Type 0 where
+    before : Stmt → List Frame → Process
+    atInput : (channel variable : Site) → List Frame → Process
+    atOutput : (channel : Site) (value : ℕ) → List Frame → Process
+    atStop : List Frame → Process
+    atAlt : Guards → List Frame → Process
+    inPar : Branches → List Frame → Process
+    finished : Process
+
+  pub data Branches : Type 0 where
+    noBranch : Branches
+    branch : Process → Branches → Branches
+    over : Branches → Branches
+
+-- Beginning or ending a SEQ, the end of a VAR, of an IF's branch and of a WHILE's body are no steps: they are gone through at
+-- once, so a VAR is over with its body's last step. `after` is what follows where there is nothing to do
+unfoldable mutual
+  pub enter : Stmt → List Frame → (after : Process) → Process
+  enter SKIP k after = before SKIP k
+  enter STOP k after = before STOP k
+  enter (assign x e) k after = before (assign x e) k
+  enter (input c x) k after = before (input c x) k
+  enter (output c e) k after = before (output c e) k
+  enter (VAR p n s) k after = before (VAR p n s) k
+  enter (CHAN p n s) k after = before (CHAN p n s) k
+  enter (SEQ ss) k after = enterAll ss k after
+  enter (PAR p ss) k after = before (PAR p ss) k
+  enter (IF ps) k after = before (IF ps) k
+  enter (WHILE e s) k after = before (WHILE e s) k
+  enter (ALT gs) k after = before (ALT gs) k
+
+  pub enterAll : Stmts → List Frame → (after : Process) → Process
+  enterAll noStmt k after = after
+  enterAll (stmt s ss) k after = enter s (inSeq ss ∷ k) (enterAll ss k after)
+
+-- what follows where a part is over
+unfoldable pub resume : List Frame → Process
+resume [] = finished
+resume (inSeq ss ∷ k) = enterAll ss k (resume k)
+resume (inVar xs ∷ k) = resume k
+resume (inWhile e s ∷ k) = before (WHILE e s) k
+
+abbrev pub begin : Stmt → List Frame → Process
+begin s k = enter s k (resume k)
+
+unfoldable pub branches : Stmts → Branches
+branches noStmt = noBranch
+branches (stmt s ss) = branch (begin s []) (branches ss)
+
+-- an IF takes its first true branch, or goes on where none is true
+unfoldable pub firstTrue : Store → Pairs → List Frame → Process
+firstTrue σ noPair k = resume k
+firstTrue σ (pair e s ps) k = cond (isTrue σ e) (begin s k) (firstTrue σ ps k)
+
+-- a process and the store after a step
+pub record Moved : Type 0 where
+  pub process : Process
+  pub store : Store
+
+abbrev pub moved : Process → Store → Moved
+moved p σ = record { process = p; store = σ }
+
+-- the step that begins a statement. A PAR of none is over with its start
+unfoldable pub go : Stmt → List Frame → Store → Moved
+go SKIP k σ = moved (resume k) σ
+go STOP k σ = moved (atStop k) σ
+go (assign x e) k σ = moved (resume k) (store x (value σ e) σ)
+go (input c x) k σ = moved (atInput c x k) σ
+go (output c e) k σ = moved (atOutput c (value σ e) k) σ
+go (VAR p n s) k σ = moved (begin s (inVar (names p n) ∷ k)) (zeros (names p n) σ)
+go (CHAN p n s) k σ = moved (begin s k) σ
+go (SEQ ss) k σ = moved (begin (SEQ ss) k) σ
+go (PAR p noStmt) k σ = moved (resume k) σ
+go (PAR p (stmt s ss)) k σ = moved (inPar (branches (stmt s ss)) k) σ
+go (IF ps) k σ = moved (firstTrue σ ps k) σ
+go (WHILE e s) k σ = moved (cond (isTrue σ e) (begin s (inWhile e s ∷ k)) (resume k)) σ
+go (ALT gs) k σ = moved (atAlt gs k) σ
+
+-- the process of a branch that is not over, and another in its place
+unfoldable pub branchAt : ℕ → Branches → Option Process
+branchAt i noBranch = none
+branchAt zero (branch p bs) = some p
+branchAt (suc i) (branch p bs) = branchAt i bs
+branchAt zero (over bs) = none
+branchAt (suc i) (over bs) = branchAt i bs
+
+unfoldable pub setBranch : ℕ → Process → Branches → Branches
+setBranch i q noBranch = noBranch
+setBranch zero q (branch p bs) = branch q bs
+setBranch (suc i) q (branch p bs) = branch p (setBranch i q bs)
+setBranch zero q (over bs) = over bs
+setBranch (suc i) q (over bs) = over (setBranch i q bs)
+
+unfoldable pub endBranch : ℕ → Branches → Branches
+endBranch i noBranch = noBranch
+endBranch zero (branch p bs) = over bs
+endBranch (suc i) (branch p bs) = branch p (endBranch i bs)
+endBranch zero (over bs) = over bs
+endBranch (suc i) (over bs) = over (endBranch i bs)
+
+unfoldable pub allOver : Branches → Bool
+allOver noBranch = true
+allOver (branch p bs) = false
+allOver (over bs) = allOver bs
+
+-- the last branch's end lets the PAR go on
+abbrev pub closed : Branches → List Frame → Process
+closed bs k = cond (allOver bs) (resume k) (inPar bs k)
+
+-- the branches of a process that is in a PAR
+abbrev pub branchesOf : Process → Branches
+branchesOf (before s k) = noBranch
+branchesOf (atInput c x k) = noBranch
+branchesOf (atOutput c v k) = noBranch
+branchesOf (atStop k) = noBranch
+branchesOf (atAlt gs k) = noBranch
+branchesOf (inPar bs k) = bs
+branchesOf finished = noBranch
+
+abbrev pub framesOf : Process → List Frame
+framesOf (before s k) = k
+framesOf (atInput c x k) = k
+framesOf (atOutput c v k) = k
+framesOf (atStop k) = k
+framesOf (atAlt gs k) = k
+framesOf (inPar bs k) = k
+framesOf finished = []
+
+-- the process that branches lead to, outermost first, and another in its place
+unfoldable pub look : List ℕ → Process → Option Process
+look [] p = some p
+look (i ∷ path) p = elim (branchAt i (branchesOf p)) [ none ↦ none | some q ↦ look path q ]
+
+unfoldable pub put : List ℕ → Process → Process → Process
+put [] q p = q
+put (i ∷ path) q p = elim (branchAt i (branchesOf p)) [ none ↦ p | some b ↦ inPar (setBranch i (put path q b) (branchesOf p)) (framesOf p) ]
+
+-- the outermost process, the variables, and for each outside input the offer that waits there
+pub record State : Type 0 where
+  pub process : Process
+  pub store : Store
+  pub offers : ℕ → Option ℕ
+
+-- a communication
+pub record Communication : Type 0 where
+  pub channel : Site
+  pub value : ℕ
+
+abbrev pub over-channel : Site → ℕ → List Communication
+over-channel c v = record { channel = c; value = v } ∷ []
+
+module _ (st : State) where
+  abbrev replaced : List ℕ → Process → Store → State
+  replaced path p σ = record { process = put path p (st .process); store = σ; offers = st .offers }
+
+  abbrev withOffer : ℕ → Option ℕ → ℕ → Option ℕ
+  withOffer k o = λ j. cond (eqb j k) o (st .offers j)
+
+  -- a channel's sender waits: in an output, or outside
+  pub data Sender : Site → Type 0 where
+    process : (path : List ℕ) {c : Site} {v : ℕ} {k : List Frame} → look path (st .process) ≡ some (atOutput c v k) → Sender c
+    outside : {n v : ℕ} → st .offers n ≡ some v → Sender (inputOf n)
+
+  -- an ALT takes any one true guard that is SKIP or whose channel has a sender; the guard's input is a later step
+  pub data Choice (k : List Frame) : Guards → Process → Type 0 where
+    by-input : {e : Whole} {c x : Site} {s : Stmt} {gs : Guards} → isTrue (st .store) e ≡ true → Sender c
+      → Choice k (inputGuard e c x s gs) (begin (SEQ (stmt (input c x) (stmt s noStmt))) k)
+    by-skip : {e : Whole} {s : Stmt} {gs : Guards} → isTrue (st .store) e ≡ true → Choice k (skipGuard e s gs) (begin s k)
+    past-input : {e : Whole} {c x : Site} {s : Stmt} {gs : Guards} {p : Process} → Choice k gs p → Choice k (inputGuard e c x s gs) p
+    past-skip : {e : Whole} {s : Stmt} {gs : Guards} {p : Process} → Choice k gs p → Choice k (skipGuard e s gs) p
+
+  -- any live process that can go may take the next step
+  pub data Step : List Communication → State → Type 0 where
+    begins : (path : List ℕ) {s : Stmt} {k : List Frame} → look path (st .process) ≡ some (before s k)
+      → Step [] (replaced path (go s k (st .store) .process) (go s k (st .store) .store))
+    ends : (path : List ℕ) (i : ℕ) {bs : Branches} {k : List Frame} → look path (st .process) ≡ some (inPar bs k)
+      → branchAt i bs ≡ some finished → Step [] (replaced path (closed (endBranch i bs) k) (st .store))
+    chooses : (path : List ℕ) {gs : Guards} {k : List Frame} {p : Process} → look path (st .process) ≡ some (atAlt gs k) → Choice k gs p
+      → Step [] (replaced path p (st .store))
+    -- a communication, when sender and receiver are both there, as one step of both
+    communicates : (sender receiver : List ℕ) {c x : Site} {v : ℕ} {k l : List Frame} → look sender (st .process) ≡ some (atOutput c v k)
+      → look receiver (st .process) ≡ some (atInput c x l)
+      → Step (over-channel c v)
+          (record { process = put sender (resume k) (put receiver (resume l) (st .process)); store = store x v (st .store); offers = st .offers })
+    receives : (path : List ℕ) {n v : ℕ} {x : Site} {k : List Frame} → look path (st .process) ≡ some (atInput (inputOf n) x k)
+      → st .offers n ≡ some v
+      → Step (over-channel (inputOf n) v)
+          (record { process = put path (resume k) (st .process); store = store x v (st .store); offers = withOffer n none })
+
+-- what the outside does, and what it is answered
+pub data Event : Type 0 where
+  offers : (k value : ℕ) → OfferAnswer → Event
+  takes : (k : ℕ) → TakeAnswer → Event
+
+module _ (st : State) where
+  -- an offer is a sender waiting until received; another there meanwhile gets 14 and changes nothing. A take receives from a
+  -- sender, else answers none
+  pub data Outside : Event → List Communication → State → Type 0 where
+    offered : {k v : ℕ} → st .offers k ≡ none
+      → Outside (offers k v Offered) [] (record { process = st .process; store = st .store; offers = withOffer st k (some v) })
+    held : {k v u : ℕ} → st .offers k ≡ some u → Outside (offers k v Held) [] st
+    taken : {k v : ℕ} (path : List ℕ) {f : List Frame} → look path (st .process) ≡ some (atOutput (outputOf k) v f)
+      → Outside (takes k (Taken v)) (over-channel (outputOf k) v) (replaced st path (resume f) (st .store))
+    nobody : {k : ℕ} → (Sender st (outputOf k) → ⊥) → Outside (takes k Nothing) [] st
+
+-- a program before its first step
+unfoldable pub initial : Program → State
+initial p = record { process = begin (p .body) []; store = λ x. 0; offers = λ k. none }
+
+-- Occam cannot go on and has not ended
+pub record Stuck (st : State) : Type 0 where
+  pub still : (cs : List Communication) (st′ : State) → Step st cs st′ → ⊥
+  pub unfinished : st .process ≡ finished → ⊥
