@@ -115,12 +115,14 @@ onTakes t total more =
 abbrev onRun : After RunAnswer → (outputs total : ℕ) → (ℕ → Machine → List ℕ → List ℕ) → List ℕ
 onRun r outs total more =
     elim (r .answer) [
-      Ran o ↦ elim o [
-        Ended n ↦ endedLine (total + n)
-      | Waiting n ↦ onTakes (takes outs 0 (r .machine) (r .memory)) (total + n) (more (total + n))
-      | Spent n ↦ spentLine (total + n)
-      | Fault n k ↦ faultLine (total + n) ]
-    | Short n ↦ [] ]
+      | Ran o ↦ elim o [
+        | Ended n ↦ endedLine (total + n)
+        | Waiting n ↦ onTakes (takes outs 0 (r .machine) (r .memory)) (total + n) (more (total + n))
+        | Spent n ↦ spentLine (total + n)
+        | Fault n k ↦ faultLine (total + n)
+      ]
+      | Short n ↦ []
+    ]
 
 -- runs and takes, at most so many rounds of them, after `total` instructions. Each round but the last takes from a process,
 -- which then executes an instruction, so there are fewer rounds than instructions and one more

@@ -119,7 +119,7 @@ pub record Faithful (p : Program) (code : List ℕ) (m : Machine) (memory : List
   pub grows : (cs : List Call) (c : Call) → (more : List Segment) × (run (cs ++ c ∷ []) ≡ run cs ++ more)
   pub matches : (cs : List Call) → Matches p (quietly m memory ∷ history code cs m memory) (initial p) (run cs)
   pub progress : (cs : List Call)
-    → Progress (suc (limit * length code)) (perInstruction (quietly m memory ∷ history code cs m memory) (run cs))
+      → Progress (suc (limit * length code)) (perInstruction (quietly m memory ∷ history code cs m memory) (run cs))
 
 -- demand 3 for one table: any code buffer in which it compiles, any slice and memory with which it starts
 abbrev pub Demand3 : (table : List ℕ) → Type 0

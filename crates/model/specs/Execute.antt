@@ -34,12 +34,12 @@ jump n = do
   r ← registers
   u ← setup
   cond (ltb (r .count) (u .slice))
-    (setRegisters (goto (low (r .place + n)) r))
-    (do
-      poke (resumeWord (r .workspace)) (low (r .place + n))
-      join (r .workspace)
-      release
-      testPlace (low (r .place + n)))
+      (setRegisters (goto (low (r .place + n)) r))
+      (do
+        poke (resumeWord (r .workspace)) (low (r .place + n))
+        join (r .workspace)
+        release
+        testPlace (low (r .place + n)))
 
 unfoldable pub loadLocal : ℕ → Act (Unit {0})
 loadLocal n = do
@@ -79,8 +79,8 @@ endProcess = do
   r ← registers
   n ← peek (low (r .a + 1))
   cond (eqb n 1)
-    (do p ← peek (r .a); setRegisters (goto p (work (r .a) r)))
-    (do poke (low (r .a + 1)) (less n 1); release)
+      (do p ← peek (r .a); setRegisters (goto p (work (r .a) r)))
+      (do poke (low (r .a + 1)) (less n 1); release)
 
 unfoldable pub stopProcess : Act (Unit {0})
 stopProcess = do
@@ -122,12 +122,12 @@ inputWord = do
   r ← registers
   h ← heldAt (r .b)
   cond h
-    (do v ← dropOffer (r .b); poke (r .c) v; communicate (r .b) v)
-    (do
-      p ← peek (r .b)
-      cond (eqb p notProcess)
-        (do waitAt (r .b) (r .c); release)
-        (do v ← receive (r .b) p; poke (r .c) v; received (r .b) p v))
+      (do v ← dropOffer (r .b); poke (r .c) v; communicate (r .b) v)
+      (do
+        p ← peek (r .b)
+        cond (eqb p notProcess)
+            (do waitAt (r .b) (r .c); release)
+            (do v ← receive (r .b) p; poke (r .c) v; received (r .b) p v))
 
 unfoldable pub inputMessage : Act (Unit {0})
 inputMessage = do
@@ -168,12 +168,12 @@ outputWord = do
   poke (r .workspace) (r .a)
   p ← peek (r .b)
   cond (eqb p notProcess)
-    (do waitAt (r .b) (r .workspace); release)
-    (do
-      s ← peek (stateWord p)
-      cond (isAltState s)
-        (do waitAt (r .b) (r .workspace); notify p s; release)
-        (deliver (r .b) p s (r .a)))
+      (do waitAt (r .b) (r .workspace); release)
+      (do
+        s ← peek (stateWord p)
+        cond (isAltState s)
+            (do waitAt (r .b) (r .workspace); notify p s; release)
+            (deliver (r .b) p s (r .a)))
 
 unfoldable pub beginAlt : Act (Unit {0})
 beginAlt = do
@@ -190,9 +190,9 @@ enableReady c = do
   r ← registers
   h ← heldAt c
   cond h setReady
-    (do
-      p ← peek c
-      cond (eqb p notProcess) (poke c (r .workspace)) (cond (eqb p (r .workspace)) (return tt) setReady))
+      (do
+        p ← peek c
+        cond (eqb p notProcess) (poke c (r .workspace)) (cond (eqb p (r .workspace)) (return tt) setReady))
 
 unfoldable pub enableChannel : Act (Unit {0})
 enableChannel = do
@@ -211,10 +211,10 @@ waitAlt = do
   poke (r .workspace) noneSelected
   s ← peek (stateWord (r .workspace))
   cond (eqb s ready) (return tt)
-    (do
-      poke (stateWord (r .workspace)) waiting
-      poke (resumeWord (r .workspace)) (r .place)
-      release)
+      (do
+        poke (stateWord (r .workspace)) waiting
+        poke (resumeWord (r .workspace)) (r .place)
+        release)
 
 -- a ready guard: its branch is selected if none is yet. Gives whether it was
 unfoldable pub select : (branch : ℕ) → Act ℕ
@@ -230,8 +230,8 @@ disableReady c b = do
   h ← heldAt c
   p ← peek c
   cond h
-    (do t ← select b; poke c notProcess; return t)
-    (cond (eqb p notProcess) (return 0) (cond (eqb p (r .workspace)) (do poke c notProcess; return 0) (select b)))
+      (do t ← select b; poke c notProcess; return t)
+      (cond (eqb p notProcess) (return 0) (cond (eqb p (r .workspace)) (do poke c notProcess; return 0) (select b)))
 
 unfoldable pub disableChannel : Act (Unit {0})
 disableChannel = do

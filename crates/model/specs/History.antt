@@ -86,7 +86,7 @@ answered r rest said =
     record {
       moments = record { instruction = false; machine = r .machine; memory = r .memory ++ rest; talk = r .talk; events = said (r .answer) } ∷ [];
       machine = r .machine;
-      memory = r .memory ++ rest
+      memory = r .memory ++ rest;
     }
 
 unfoldable pub call : (code : List ℕ) → Call → Machine → (memory : List ℕ) → Called
@@ -96,7 +96,7 @@ call code (callRun codeLent lent budget) m memory =
     record {
       moments = quietly m memory ∷ during m (L.take codeLent code) (L.take lent memory) (drop lent memory) budget ++ quietly (r .machine) left ∷ [];
       machine = r .machine;
-      memory = left
+      memory = left;
     }
 call code (callOffer lent k v) m memory = answered (offer m (L.take lent memory) k v) (drop lent memory) (offerEvent k v)
 call code (callTake lent k) m memory = answered (take m (L.take lent memory) k) (drop lent memory) (takeEvent k)

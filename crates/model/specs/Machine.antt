@@ -53,7 +53,7 @@ withCpu r s =
     record {
       machine = record { cpu = r; setup = s .machine .setup; offers = s .machine .offers; held = s .machine .held; fault = s .machine .fault };
       memory = s .memory;
-      talk = s .talk
+      talk = s .talk;
     }
 
 abbrev pub withMemory : List ℕ → World → World
@@ -64,7 +64,7 @@ withOffers o h s =
     record {
       machine = record { cpu = s .machine .cpu; setup = s .machine .setup; offers = o; held = h; fault = s .machine .fault };
       memory = s .memory;
-      talk = s .talk
+      talk = s .talk;
     }
 
 abbrev pub registers : Act Cpu
@@ -83,50 +83,113 @@ communicate c v s = done tt (record { machine = s .machine; memory = s .memory; 
 abbrev pub stack : (a b c : ℕ) → Cpu → Cpu
 stack a b c r =
     record {
-      a = a; b = b; c = c; operand = r .operand; place = r .place; workspace = r .workspace; count = r .count; front = r .front; back = r .back;
-      running = r .running; queued = r .queued
+      a = a;
+      b = b;
+      c = c;
+      operand = r .operand;
+      place = r .place;
+      workspace = r .workspace;
+      count = r .count;
+      front = r .front;
+      back = r .back;
+      running = r .running;
+      queued = r .queued;
     }
 
 abbrev pub goto : ℕ → Cpu → Cpu
 goto p r =
     record {
-      a = r .a; b = r .b; c = r .c; operand = r .operand; place = p; workspace = r .workspace; count = r .count; front = r .front; back = r .back;
-      running = r .running; queued = r .queued
+      a = r .a;
+      b = r .b;
+      c = r .c;
+      operand = r .operand;
+      place = p;
+      workspace = r .workspace;
+      count = r .count;
+      front = r .front;
+      back = r .back;
+      running = r .running;
+      queued = r .queued;
     }
 
 abbrev pub work : ℕ → Cpu → Cpu
 work w r =
     record {
-      a = r .a; b = r .b; c = r .c; operand = r .operand; place = r .place; workspace = w; count = r .count; front = r .front; back = r .back;
-      running = r .running; queued = r .queued
+      a = r .a;
+      b = r .b;
+      c = r .c;
+      operand = r .operand;
+      place = r .place;
+      workspace = w;
+      count = r .count;
+      front = r .front;
+      back = r .back;
+      running = r .running;
+      queued = r .queued;
     }
 
 abbrev pub gathering : ℕ → Cpu → Cpu
 gathering o r =
     record {
-      a = r .a; b = r .b; c = r .c; operand = o; place = r .place; workspace = r .workspace; count = r .count; front = r .front; back = r .back;
-      running = r .running; queued = r .queued
+      a = r .a;
+      b = r .b;
+      c = r .c;
+      operand = o;
+      place = r .place;
+      workspace = r .workspace;
+      count = r .count;
+      front = r .front;
+      back = r .back;
+      running = r .running;
+      queued = r .queued;
     }
 
 abbrev pub counting : ℕ → Cpu → Cpu
 counting n r =
     record {
-      a = r .a; b = r .b; c = r .c; operand = r .operand; place = r .place; workspace = r .workspace; count = n; front = r .front; back = r .back;
-      running = r .running; queued = r .queued
+      a = r .a;
+      b = r .b;
+      c = r .c;
+      operand = r .operand;
+      place = r .place;
+      workspace = r .workspace;
+      count = n;
+      front = r .front;
+      back = r .back;
+      running = r .running;
+      queued = r .queued;
     }
 
 abbrev pub queueing : (front back : ℕ) (queued : Bool) → Cpu → Cpu
 queueing f b q r =
     record {
-      a = r .a; b = r .b; c = r .c; operand = r .operand; place = r .place; workspace = r .workspace; count = r .count; front = f; back = b;
-      running = r .running; queued = q
+      a = r .a;
+      b = r .b;
+      c = r .c;
+      operand = r .operand;
+      place = r .place;
+      workspace = r .workspace;
+      count = r .count;
+      front = f;
+      back = b;
+      running = r .running;
+      queued = q;
     }
 
 abbrev pub running : Bool → Cpu → Cpu
 running t r =
     record {
-      a = r .a; b = r .b; c = r .c; operand = r .operand; place = r .place; workspace = r .workspace; count = r .count; front = r .front; back = r .back;
-      running = t; queued = r .queued
+      a = r .a;
+      b = r .b;
+      c = r .c;
+      operand = r .operand;
+      place = r .place;
+      workspace = r .workspace;
+      count = r .count;
+      front = r .front;
+      back = r .back;
+      running = t;
+      queued = r .queued;
     }
 
 -- the machine's memory is the first W + channels words; later words are never touched
@@ -166,8 +229,8 @@ unfoldable pub takeFront : Act (Unit {0})
 takeFront = do
   r ← registers
   cond (eqb (r .front) (r .back))
-    (setRegisters (queueing (r .front) (r .back) false r))
-    (do f ← peek (linkWord (r .front)); setRegisters (queueing f (r .back) true r))
+      (setRegisters (queueing (r .front) (r .back) false r))
+      (do f ← peek (linkWord (r .front)); setRegisters (queueing f (r .back) true r))
   resume (r .front)
 
 -- the processor is free: it takes the front of the queue
@@ -181,10 +244,10 @@ unfoldable pub join : ℕ → Act (Unit {0})
 join w = do
   r ← registers
   cond (r .running)
-    (cond (r .queued)
+      (cond (r .queued)
       (do poke (linkWord (r .back)) w; setRegisters (queueing (r .front) w true r))
       (setRegisters (queueing w w true r)))
-    (do setRegisters (queueing w w false r); resume w)
+      (do setRegisters (queueing w w false r); resume w)
 
 -- the outside input that a channel word is, and whether an offer is held there: by address, the start's W + k
 abbrev pub isHeld : ℕ → Machine → Bool

@@ -230,7 +230,7 @@ module _ (st : State) where
   -- an ALT takes any one true guard that is SKIP or whose channel has a sender; the guard's input is a later step
   pub data Choice (k : List Frame) : Guards → Process → Type 0 where
     by-input : {e : Whole} {c x : Site} {s : Stmt} {gs : Guards} → isTrue (st .store) e ≡ true → Sender c
-      → Choice k (inputGuard e c x s gs) (begin (SEQ (stmt (input c x) (stmt s noStmt))) k)
+        → Choice k (inputGuard e c x s gs) (begin (SEQ (stmt (input c x) (stmt s noStmt))) k)
     by-skip : {e : Whole} {s : Stmt} {gs : Guards} → isTrue (st .store) e ≡ true → Choice k (skipGuard e s gs) (begin s k)
     past-input : {e : Whole} {c x : Site} {s : Stmt} {gs : Guards} {p : Process} → Choice k gs p → Choice k (inputGuard e c x s gs) p
     past-skip : {e : Whole} {s : Stmt} {gs : Guards} {p : Process} → Choice k gs p → Choice k (skipGuard e s gs) p
@@ -238,20 +238,20 @@ module _ (st : State) where
   -- any live process that can go may take the next step
   pub data Step : List Communication → State → Type 0 where
     begins : (path : List ℕ) {s : Stmt} {k : List Frame} → look path (st .process) ≡ some (before s k)
-      → Step [] (replaced path (go s k (st .store) .process) (go s k (st .store) .store))
+        → Step [] (replaced path (go s k (st .store) .process) (go s k (st .store) .store))
     ends : (path : List ℕ) (i : ℕ) {bs : Branches} {k : List Frame} → look path (st .process) ≡ some (inPar bs k)
-      → branchAt i bs ≡ some finished → Step [] (replaced path (closed (endBranch i bs) k) (st .store))
+        → branchAt i bs ≡ some finished → Step [] (replaced path (closed (endBranch i bs) k) (st .store))
     chooses : (path : List ℕ) {gs : Guards} {k : List Frame} {p : Process} → look path (st .process) ≡ some (atAlt gs k) → Choice k gs p
-      → Step [] (replaced path p (st .store))
+        → Step [] (replaced path p (st .store))
     -- a communication, when sender and receiver are both there, as one step of both
     communicates : (sender receiver : List ℕ) {c x : Site} {v : ℕ} {k l : List Frame} → look sender (st .process) ≡ some (atOutput c v k)
-      → look receiver (st .process) ≡ some (atInput c x l)
-      → Step (over-channel c v)
-          (record { process = put sender (resume k) (put receiver (resume l) (st .process)); store = store x v (st .store); offers = st .offers })
+        → look receiver (st .process) ≡ some (atInput c x l)
+        → Step (over-channel c v)
+        (record { process = put sender (resume k) (put receiver (resume l) (st .process)); store = store x v (st .store); offers = st .offers })
     receives : (path : List ℕ) {n v : ℕ} {x : Site} {k : List Frame} → look path (st .process) ≡ some (atInput (inputOf n) x k)
-      → st .offers n ≡ some v
-      → Step (over-channel (inputOf n) v)
-          (record { process = put path (resume k) (st .process); store = store x v (st .store); offers = withOffer n none })
+        → st .offers n ≡ some v
+        → Step (over-channel (inputOf n) v)
+        (record { process = put path (resume k) (st .process); store = store x v (st .store); offers = withOffer n none })
 
 -- what the outside does, and what it is answered
 pub data Event : Type 0 where
@@ -263,10 +263,10 @@ module _ (st : State) where
   -- sender, else answers none
   pub data Outside : Event → List Communication → State → Type 0 where
     offered : {k v : ℕ} → st .offers k ≡ none
-      → Outside (offers k v Offered) [] (record { process = st .process; store = st .store; offers = withOffer st k (some v) })
+        → Outside (offers k v Offered) [] (record { process = st .process; store = st .store; offers = withOffer st k (some v) })
     held : {k v u : ℕ} → st .offers k ≡ some u → Outside (offers k v Held) [] st
     taken : {k v : ℕ} (path : List ℕ) {f : List Frame} → look path (st .process) ≡ some (atOutput (outputOf k) v f)
-      → Outside (takes k (Taken v)) (over-channel (outputOf k) v) (replaced st path (resume f) (st .store))
+        → Outside (takes k (Taken v)) (over-channel (outputOf k) v) (replaced st path (resume f) (st .store))
     nobody : {k : ℕ} → (Sender st (outputOf k) → ⊥) → Outside (takes k Nothing) [] st
 
 -- a program before its first step

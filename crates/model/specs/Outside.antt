@@ -27,12 +27,12 @@ offering k v = do
   u ← setup
   p ← peek (u .base + k)
   cond (eqb p notProcess)
-    (hold k v)
-    (do
-      s ← peek (stateWord p)
-      cond (isAltState s)
-        (do hold k v; notify p s)
-        (deliver (u .base + k) p s v))
+      (hold k v)
+      (do
+        s ← peek (stateWord p)
+        cond (isAltState s)
+            (do hold k v; notify p s)
+            (deliver (u .base + k) p s v))
   land
 
 -- the word of the outside output k, and the process that waits there

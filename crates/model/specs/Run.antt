@@ -45,7 +45,7 @@ act b = do
   setRegisters (counting (min (suc (r .count)) 65535) (goto (low (suc (r .place))) r))
   q ← registers
   cond (eqb (b / 16) pfixCode) (setRegisters (gathering (pfixed (gathered (r .operand) b)) q))
-    (cond (eqb (b / 16) nfixCode) (setRegisters (gathering (nfixed (gathered (r .operand) b)) q))
+      (cond (eqb (b / 16) nfixCode) (setRegisters (gathering (nfixed (gathered (r .operand) b)) q))
       (functionOr12 (functionOf (b / 16)) (b / 16) (gathered (r .operand) b)))
 
 -- a code place is tested when the processor goes there, after all words
@@ -80,7 +80,7 @@ keep k s =
     record {
       machine = record { cpu = s .machine .cpu; setup = s .machine .setup; offers = s .machine .offers; held = s .machine .held; fault = KeptFault k };
       memory = s .memory;
-      talk = s .talk
+      talk = s .talk;
     }
 
 abbrev onward : Result (Unit {0}) → World → ℕ → (World → Finish) → Finish
@@ -140,11 +140,11 @@ unfoldable pub blank : Machine
 blank =
     record {
       cpu =
-        record { a = 0; b = 0; c = 0; operand = 0; place = 0; workspace = 0; count = 0; front = 0; back = 0; running = false; queued = false };
+          record { a = 0; b = 0; c = 0; operand = 0; place = 0; workspace = 0; count = 0; front = 0; back = 0; running = false; queued = false };
       setup = record { code = 0; base = 0; inputs = 0; outputs = 0; slice = 0 };
       offers = noOffers;
       held = noneHeld;
-      fault = Nothing
+      fault = Nothing;
     }
 
 -- registers start as 0; the process at W has the processor
@@ -152,11 +152,11 @@ unfoldable pub fresh : Setup → Machine
 fresh u =
     record {
       cpu =
-        record { a = 0; b = 0; c = 0; operand = 0; place = 0; workspace = u .base; count = 0; front = 0; back = 0; running = true; queued = false };
+          record { a = 0; b = 0; c = 0; operand = 0; place = 0; workspace = u .base; count = 0; front = 0; back = 0; running = true; queued = false };
       setup = u;
       offers = noOffers;
       held = noneHeld;
-      fault = Nothing
+      fault = Nothing;
     }
 
 -- every needed word starts as 0, channels as NotProcess; later words stay

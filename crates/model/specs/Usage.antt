@@ -9,10 +9,10 @@ use Rattle.model.specs.Syntax.{Site, inputOf, outputOf, declared, Operat
 
 -- what a part of the program does to names. Names that it declares itself are among them, and in no other part
 pub record Usage : Type 0 where
-  pub changes : List Site     -- variables assigned or input
-  pub uses : List Site        -- variables read, assigned or input
-  pub inputs : List Site      -- channels input from
-  pub outputs : List Site     -- channels output to
+  pub changes : List Site  -- variables assigned or input
+  pub uses : List Site  -- variables read, assigned or input
+  pub inputs : List Site  -- channels input from
+  pub outputs : List Site  -- channels output to
 
 abbrev pub nothing : Usage
 nothing = record { changes = []; uses = []; inputs = []; outputs = [] }
@@ -24,7 +24,7 @@ _⊕_ u v =
       changes = u .changes ++ v .changes;
       uses = u .uses ++ v .uses;
       inputs = u .inputs ++ v .inputs;
-      outputs = u .outputs ++ v .outputs
+      outputs = u .outputs ++ v .outputs;
     }
 
 unfoldable pub reads : Expr → List Site
