@@ -7,7 +7,8 @@ use mathlib.Core.Option.{Option, none, some}
 use lib.ListN.{length}
 use lib.Dec.{leb}
 use borrow.Author.Tests.{leb-true}
-use Rattle.model.specs.Syntax.{Site, Whole, Stmt, assign, output, PAR, WHILE, Stmts, stmt, Pairs, pair, Guards, inputGuard, skipGuard, Program}
+use Rattle.model.specs.Syntax.{Site, Whole, Stmt, assign, output, PAR, WHILE, Stmts, stmt, Pairs, pair, Guards, inputGuard, skipGuard}
+use Rattle.model.specs.Syntax.{Program}
 use Rattle.model.specs.Reader.{Read, program, refused, readTable}
 use Rattle.model.specs.Usage.{orElse, anyClash, firstClash, firstClashAll}
 use Rattle.model.specs.Counts.{registers, firstDeep, firstDeepAll, firstDeepPairs, firstDeepGuards, processes}

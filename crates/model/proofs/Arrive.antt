@@ -12,19 +12,23 @@ use lib.ListN.{length, getElem?, length-append}
 use lib.Dec.{eqb}
 use borrow.Author.Tests.{eqb-true, eqb-false}
 use Rattle.model.specs.Word.{low, less, minus}
-use Rattle.model.specs.Syntax.{Site, declared, Expr, Whole, Stmt, SKIP, STOP, assign, input, output, VAR, CHAN, SEQ, PAR, IF, WHILE, ALT, Stmts, noStmt, stmt, Pairs, noPair, pair}
+use Rattle.model.specs.Syntax.{Site, declared, Expr, Whole, Stmt, SKIP, STOP, assign, input, output, VAR, CHAN, SEQ, PAR, IF, WHILE}
+use Rattle.model.specs.Syntax.{ALT, Stmts, noStmt, stmt, Pairs, noPair, pair}
 use Rattle.model.specs.Reader.{names}
 use Rattle.model.specs.Counts.{registers}
 use Rattle.model.specs.Instruction.{Function, ldc, cj, ajw, stl, stopp, Instruction, plain, distance, operation}
 use Rattle.model.specs.Instruction as I
 use Rattle.model.specs.Scheme.{initialise, wholeSize, exprSize, size, sizePairs, local, exprCode, wholeCode, code, codeAll, codePairs}
-use Rattle.model.specs.Occam.{Store, value, isTrue, Frame, inSeq, inVar, inWhile, Process, before, finished, framesOf, resume, begin, enter, enterAll, firstTrue}
+use Rattle.model.specs.Occam.{Store, value, isTrue, Frame, inSeq, inVar, inWhile, Process, before, finished, framesOf, resume, begin}
+use Rattle.model.specs.Occam.{enter, enterAll, firstTrue}
 use Rattle.model.specs.Demand.{liveIn}
 use Rattle.model.proofs.Way.{Regs, pushing, moving, Mem, Way, arrived, through, quiet, loads, jumps, falls, quiet-ldc, quiet-ajw}
 use Rattle.model.proofs.Values.{FineExpr}
 use Rattle.model.proofs.Expr.{Seg, nil, at, Split, split, apart, cut, seg-length, Evaluated, evaluates, local-word}
 use Rattle.model.proofs.Sizes.{code-length, expr-length, initialise-length}
-use Rattle.model.proofs.Points.{Fine, FineAll, FinePairs, FineWhole, Setting, whole, getElem-inside, At, Cont, c-end, c-seq, c-var, c-while, c-hop, Opening, Point, pt-stop, pt-assign, pt-init, pt-taken, pt-none, pt-while, Skips, s-none, s-skip, s-if, Comes, comes}
+use Rattle.model.proofs.Points.{Fine, FineAll, FinePairs, FineWhole, Setting, whole, getElem-inside, At, Cont, c-end, c-seq, c-var}
+use Rattle.model.proofs.Points.{c-while, c-hop, Opening, Point, pt-stop, pt-assign, pt-init, pt-taken, pt-none, pt-while, Skips}
+use Rattle.model.proofs.Points.{s-none, s-skip, s-if, Comes, comes}
 
 -- the names of a VAR
 pub data Named (p n : ℕ) (x : Site) : Type 0 where
@@ -68,7 +72,8 @@ module _ (S : Setting) where
   cont-low (c-hop e h l c) = cont-low c
 
   -- the words of live variables are at and above the workspace
-  pub live-words : {hi i w : ℕ} {k : List Frame} → Cont S hi k i w → (x : Site) → List·Memᴰ x (liveIn k) → (w ≤ S .word x) × (S .word x < S .top)
+  pub live-words : {hi i w : ℕ} {k : List Frame} → Cont S hi k i w → (x : Site) → List·Memᴰ x (liveIn k)
+      → (w ≤ S .word x) × (S .word x < S .top)
   live-words c-end x m = absurd (List·Memᴰ·not-nil m)
   live-words (c-seq g f c) x m = live-words c x m
   live-words (c-var {w} {p} {n} {k} e h c) x m =
@@ -105,11 +110,13 @@ module _ (S : Setting) where
 
   -- a condition, CJ past the J, a statement, and a J to t: in a WHILE, and for each pair of an IF
   pub data Tested (w i t i′ : ℕ) (e : Whole) (s : Stmt) (zs : ℕ → List Instruction) : Type 0 where
-    tested : (m : ℕ) → Seg (S .xs) i (wholeCode (S .word) w e) (i + wholeSize e) → At S (i + wholeSize e) (distance cj (suc m) (i + wholeSize e))
+    tested : (m : ℕ) → Seg (S .xs) i (wholeCode (S .word) w e) (i + wholeSize e)
+        → At S (i + wholeSize e) (distance cj (suc m) (i + wholeSize e))
         → Seg (S .xs) (suc (i + wholeSize e)) (code (S .word) w (suc (i + wholeSize e)) s) m → At S m (distance I.j t m)
         → Seg (S .xs) (suc m) (zs (suc m)) i′ → Tested w i t i′ e s zs
 
-  test-pick : {w i t i′ m : ℕ} {e : Whole} {s : Stmt} (zs : ℕ → List Instruction) → Seg (S .xs) i (wholeCode (S .word) w e) (i + wholeSize e)
+  test-pick : {w i t i′ m : ℕ} {e : Whole} {s : Stmt} (zs : ℕ → List Instruction)
+      → Seg (S .xs) i (wholeCode (S .word) w e) (i + wholeSize e)
       → Seg (S .xs) (i + wholeSize e) (distance cj (m + 1) (i + wholeSize e) ∷ code (S .word) w (i + wholeSize e + 1) s) m
       → Seg (S .xs) m (distance I.j t m ∷ zs (m + 1)) i′ → Tested w i t i′ e s zs
   test-pick {i} {m} {e} zs g (at p h) (at q r) =
@@ -180,7 +187,8 @@ module _ (S : Setting) where
 
   var-pick : {hi i d m i′ w p n : ℕ} {s : Stmt} {k : List Frame} → Fine (S .word) (liveIn k) w (VAR p n s) → hi ≤ whole S + S .off i
       → Seg (S .xs) i (plain ajw (minus n) ∷ initialise (plain ldc 0) n) d
-      → Seg (S .xs) (suc i + (n + n)) (code (S .word) (w - n) (suc i + (n + n)) s) m → Seg (S .xs) m (plain ajw n ∷ []) i′ → Cont S hi k i′ w
+      → Seg (S .xs) (suc i + (n + n)) (code (S .word) (w - n) (suc i + (n + n)) s) m → Seg (S .xs) m (plain ajw n ∷ []) i′
+      → Cont S hi k i′ w
       → Opened p n s k hi i w
   var-pick {i} {m} {w} {p} {n} {k} f near (at a g₁) g₂ (at b nil) c =
       let q : w ≡ w - n + n = omega (arith, f .1) in

@@ -12,7 +12,8 @@ use lib.Dec.{eqb, ltb}
 use native.Mathlib.Decide.{decLt}
 use borrow.Author.Tests.{lt-ltb, le-leb, eqb-true}
 use Rattle.model.specs.Word.{low}
-use Rattle.model.specs.Instruction.{Function, j, ldlp, ldc, ldl, cj, ajw, eqc, stl, opr, functionCode, functionOf, functions, coded, pfixCode, nfixCode, Instruction}
+use Rattle.model.specs.Instruction.{Function, j, ldlp, ldc, ldl, cj, ajw, eqc, stl, opr, functionCode, functionOf, functions, coded}
+use Rattle.model.specs.Instruction.{pfixCode, nfixCode, Instruction}
 use Rattle.model.specs.Prefix.{gathered, pfixed, nfixed, Decoded, decode}
 use Rattle.model.specs.Code.{functionIn, operandIn, Realises}
 use Rattle.model.specs.Machine.{World, Result, done, faults, withCpu, goto, gathering, counting, next, testPlace}
@@ -59,7 +60,8 @@ pub data Turn (code : List ℕ) (off : ℕ → ℕ) (i : ℕ) (x : Instruction) 
   last : byte code s ≡ next (execute (functionIn x) (operandIn off x) (withCpu (gathering 0 (advance (s .machine .cpu))) s)) (λ u. land)
       → suc (s .machine .cpu .place) ≡ off (suc i) → Turn code off i x s
 
-pub next-land : {r : Result (Unit {0})} {t : World} → r ≡ done tt t → t .machine .cpu .running ≡ true → t .machine .cpu .place ≤ t .machine .setup .code
+pub next-land : {r : Result (Unit {0})} {t : World} → r ≡ done tt t → t .machine .cpu .running ≡ true
+    → t .machine .cpu .place ≤ t .machine .setup .code
     → next r (λ u. land) ≡ done tt t
 next-land {t} e r h = rw e (lands t r h)
 
@@ -88,7 +90,8 @@ module _ (s : World) (b : ℕ) where
 abbrev placeIn : World → ℕ
 placeIn s = s .machine .cpu .place
 
-module _ (code : List ℕ) (off : ℕ → ℕ) (i : ℕ) (x : Instruction) (s : World) (inside : off (suc i) ≤ length code) (small : length code < 2 ^ 31)
+module _ (code : List ℕ) (off : ℕ → ℕ) (i : ℕ) (x : Instruction) (s : World) (inside : off (suc i) ≤ length code)
+    (small : length code < 2 ^ 31)
     (whole : s .machine .setup .code ≡ length code) (runs : s .machine .cpu .running ≡ true) (from : off i ≤ placeIn s)
     (upto : placeIn s < off (suc i)) where
   went-on : (o b : ℕ) → getD code (placeIn s) 0 ≡ b → Reads off x o (slice (suc (placeIn s)) (off (suc i)) code)
@@ -108,7 +111,12 @@ module _ (code : List ℕ) (off : ℕ → ℕ) (i : ℕ) (x : Instruction) (s : 
   turn-by b eb true q ep eq r = went-on _ b eb (rw ep at r) (act-pfix s b ep) (decLt _ _)
   turn-by b eb false true ep eq r = went-on _ b eb (rw (ep, eq) at r) (act-nfix s b ep eq) (decLt _ _)
   turn-by b eb false false ep eq r =
-      let e : Decoded = record { function = b / 16; operand = gathered (s .machine .cpu .operand) b; rest = slice (suc (placeIn s)) (off (suc i)) code } in
+      let e : Decoded = record {
+        function = b / 16;
+        operand = gathered (s .machine .cpu .operand) b;
+        rest = slice (suc (placeIn s))
+            (off (suc i)) code;
+      } in
       let d : Decoded = record { function = functionCode (functionIn x); operand = operandIn off x; rest = [] } in
       let same : e ≡ d = Option·some-injective e d (rw (ep, eq) at r) in
       let empty : slice (suc (placeIn s)) (off (suc i)) code ≡ [] = ap (λ t. t .rest) same in

@@ -17,7 +17,8 @@ use Rattle.model.specs.Run.{After, unchanged, worldOf, shortMemory, runF
 use Rattle.model.specs.Outside.{offer, take}
 use Rattle.model.specs.Occam.{Store, Process, State, Event}
 use Rattle.model.specs.Demand.{Segment, reaches}
-use Rattle.model.specs.History.{Call, callRun, callOffer, callTake, Moment, quietly, bytes, during, call, history, offerEvent, takeEvent}
+use Rattle.model.specs.History.{Call, callRun, callOffer, callTake, Moment, quietly, bytes, during, call, history, offerEvent}
+use Rattle.model.specs.History.{takeEvent}
 use Rattle.model.specs.declared.Machine.{Machine}
 use Rattle.model.specs.declared.Setup.{Setup}
 use Rattle.model.specs.declared.Kept.the-variants.{Nothing}
@@ -30,7 +31,8 @@ use Rattle.model.proofs.Points.{Setting, whole}
 use Rattle.model.proofs.Moves.{m-none}
 use Rattle.model.proofs.Slice.{Loaded, Sane, Inv, S}
 use Rattle.model.proofs.Memory.{world, inv-memory, inv-sane}
-use Rattle.model.proofs.Fold.{Chain, chain-nil, chain-byte, chain-other, chain-append, state, follows, Ran, ran, runs, or-left, or-right}
+use Rattle.model.proofs.Fold.{Chain, chain-nil, chain-byte, chain-other, chain-append, state, follows, Ran, ran, runs, or-left}
+use Rattle.model.proofs.Fold.{or-right}
 
 module _ (m : Machine) (code memory : List ℕ) (budget : ℕ) where
   -- a run that is lent enough, of a machine without a fault
@@ -53,7 +55,8 @@ module _ (m : Machine) (code memory : List ℕ) (budget : ℕ) where
       by-bool (ltb (length code) (m .setup .code)) (λ e. (rw e, rw e))
       (λ e. by-bool (shortMemory m memory) (λ w. (rw (e, w), rw (e, w))) (λ w. never (cc (rw (e, w) at z))))
 
-  during-short : (rest : List ℕ) → (ltb (length code) (m .setup .code) || shortMemory m memory) ≡ true → during m code memory rest budget ≡ []
+  during-short : (rest : List ℕ) → (ltb (length code) (m .setup .code) || shortMemory m memory) ≡ true
+      → during m code memory rest budget ≡ []
   unfolding during
   during-short rest z = rw z
 
@@ -91,10 +94,13 @@ module _ (L : Loaded) (prog : Program) (named : (x : Site) → S L .word x ≡ w
   leftOf (sim p σ n inv) = n
 
   -- a moment at which nothing has happened
-  same-moment : {m : Machine} {memory : List ℕ} {p : Process} {σ : Store} {n : ℕ} (memory′ : List ℕ) → memory′ ≡ memory → Inv L (worldOf m memory) p σ n
+  same-moment : {m : Machine} {memory : List ℕ} {p : Process} {σ : Store} {n : ℕ} (memory′ : List ℕ) → memory′ ≡ memory
+      → Inv L (worldOf m memory) p σ n
       → Chain prog (whole (S L)) (quietly m memory′ ∷ []) (state L prog named o p σ) ([] ∷ []) (state L prog named o p σ) n n
   same-moment {m} {memory} memory′ e inv =
-      chain-other (follows L prog named o {talk = []} [] (quietly m memory′) refl (e ∙ sym (append-nil memory)) refl refl m-none inv) refl refl chain-nil
+      chain-other
+      (follows L prog named o {talk = []} [] (quietly m memory′) refl
+      (e ∙ sym (append-nil memory)) refl refl m-none inv) refl refl chain-nil
 
   -- what a call comes to
   pub data Simulated (c : Call) (m : Machine) (memory : List ℕ) (st : State) (n : ℕ) : Type 0 where
@@ -105,11 +111,13 @@ module _ (L : Loaded) (prog : Program) (named : (x : Site) → S L .word x ≡ w
   data Still {Answer : Type 0} (said : Answer → List Event) (rest : List ℕ) (st : State) (n : ℕ) (r : After Answer) : Type 0 where
     still : (s : Sim (r .machine) (r .memory ++ rest))
         → Chain prog (whole (S L))
-        (record { instruction = false; machine = r .machine; memory = r .memory ++ rest; talk = r .talk; events = said (r .answer) } ∷ []) st ([] ∷ [])
+        (record { instruction = false; machine = r .machine; memory = r .memory ++ rest; talk = r .talk; events = said (r .answer) } ∷
+        []) st ([] ∷ [])
         (stateOf s) n (leftOf s)
         → Still said rest st n r
 
-  still-refused : {Answer : Type 0} {said : Answer → List Event} {m : Machine} {part memory rest : List ℕ} {r : After Answer} {p : Process} {σ : Store} {n : ℕ}
+  still-refused : {Answer : Type 0} {said : Answer
+      → List Event} {m : Machine} {part memory rest : List ℕ} {r : After Answer} {p : Process} {σ : Store} {n : ℕ}
       → Refused m part said r → part ++ rest ≡ memory → Inv L (worldOf m memory) p σ n → Still said rest (state L prog named o p σ) n r
   still-refused {said} {m} {part} {memory} {rest} {p} {σ} {n} (refused a e q) whole-memory inv =
       subst (λ z. Still said rest (state L prog named o p σ) n z) (sym e)
@@ -126,7 +134,8 @@ module _ (L : Loaded) (prog : Program) (named : (x : Site) → S L .word x ≡ w
         → RunEnd m memory rest st n dur m′ part
 
   run-ends : {m : Machine} {memory : List ℕ} {p q : Process} {σ τ : Store} {n k : ℕ} {dur : List Moment} {gs : List Segment} (rest : List ℕ) (t : World)
-      → Inv L (worldOf m memory) p σ n → Chain prog (whole (S L)) dur (state L prog named o p σ) gs (state L prog named o q τ) n k → Inv L t q τ k
+      → Inv L (worldOf m memory) p σ n → Chain prog (whole (S L)) dur (state L prog named o p σ) gs (state L prog named o q τ) n k
+      → Inv L t q τ k
       → RunEnd m memory rest (state L prog named o p σ) n dur (t .machine) (t .memory)
   run-ends {memory} {q} {τ} {k} {gs} rest t inv c inv′ =
       let on : Inv L (worldOf (t .machine) (t .memory ++ rest)) q τ k =
@@ -140,19 +149,26 @@ module _ (L : Loaded) (prog : Program) (named : (x : Site) → S L .word x ≡ w
     call-offer : (lent k v : ℕ) → Simulated (callOffer lent k v) m memory (state L prog named o p σ) n
     unfolding call
     call-offer lent k v =
-        elim (still-refused {p = p} {σ = σ} {n = n} (offer-refused m (Ls.take lent memory)
-        (ap (λ (u : Setup). u .inputs) (inv-sane L inv .setup-kept) ∙ alone .0, ap (λ (u : Setup). u .outputs) (inv-sane L inv .setup-kept) ∙ alone .1)
+        elim (still-refused {p = p} {σ = σ} {n = n} (offer-refused m (Ls.take lent memory) (
+          ap (λ (u : Setup). u .inputs) (inv-sane L inv .setup-kept) ∙ alone .0,
+          ap (λ (u : Setup). u .outputs) (inv-sane L inv .setup-kept)
+              ∙ alone .1,
+        )
         (inv-sane L inv .no-fault) k v) (take-append-drop lent memory) inv) [ still s c ↦ simulated ([] ∷ []) s c ]
 
     call-take : (lent k : ℕ) → Simulated (callTake lent k) m memory (state L prog named o p σ) n
     unfolding call
     call-take lent k =
-        elim (still-refused {p = p} {σ = σ} {n = n} (take-refused m (Ls.take lent memory)
-        (ap (λ (u : Setup). u .inputs) (inv-sane L inv .setup-kept) ∙ alone .0, ap (λ (u : Setup). u .outputs) (inv-sane L inv .setup-kept) ∙ alone .1)
+        elim (still-refused {p = p} {σ = σ} {n = n} (take-refused m (Ls.take lent memory) (
+          ap (λ (u : Setup). u .inputs) (inv-sane L inv .setup-kept) ∙ alone .0,
+          ap (λ (u : Setup). u .outputs) (inv-sane L inv .setup-kept)
+              ∙ alone .1,
+        )
         (inv-sane L inv .no-fault) k) (take-append-drop lent memory) inv) [ still s c ↦ simulated ([] ∷ []) s c ]
 
     -- a run that is lent too little
-    run-refused : (code part rest : List ℕ) (budget : ℕ) → part ++ rest ≡ memory → (ltb (length code) (m .setup .code) || shortMemory m part) ≡ true
+    run-refused : (code part rest : List ℕ) (budget : ℕ) → part ++ rest ≡ memory
+        → (ltb (length code) (m .setup .code) || shortMemory m part) ≡ true
         → RunEnd m memory rest (state L prog named o p σ) n (during m code part rest budget) (run m code part budget .machine) (run m code part budget .memory)
     run-refused code part rest budget e z =
         let (a, b) = run-short m code part budget z in
@@ -162,12 +178,14 @@ module _ (L : Loaded) (prog : Program) (named : (x : Site) → S L .word x ≡ w
         (chain-append (same-moment memory refl inv) (same-moment (part ++ rest) refl kept)))
 
     -- a run that is lent enough
-    run-whole : (part rest : List ℕ) (budget : ℕ) → part ++ rest ≡ memory → ltb (length (L .code)) (m .setup .code) ≡ false → shortMemory m part ≡ false
+    run-whole : (part rest : List ℕ) (budget : ℕ) → part ++ rest ≡ memory → ltb (length (L .code)) (m .setup .code) ≡ false
+        → shortMemory m part ≡ false
         → RunEnd m memory rest (state L prog named o p σ) n (during m (L .code) part rest budget) (run m (L .code) part budget .machine)
         (run m (L .code) part budget .memory)
     run-whole part rest budget e a b =
         let ok = inv-sane L inv in
-        let fits : memorySize (L .setup) ≤ length part = omega (arith, ltb-false (length part) (memorySize (m .setup)) b, ap memorySize (ok .setup-kept)) in
+        let fits : memorySize (L .setup) ≤ length part = omega
+        (arith, ltb-false (length part) (memorySize (m .setup)) b, ap memorySize (ok .setup-kept)) in
         let lent : Inv L (worldOf m part) p σ n =
         inv-memory L {talk = []} {talk′ = []}
         (λ i h. ap (λ l. getD l i 0) (sym e) ∙ List·getD-append part rest 0 i (omega (arith, L .words-in))) fits inv in
@@ -191,7 +209,14 @@ module _ (L : Loaded) (prog : Program) (named : (x : Site) → S L .word x ≡ w
         let b = or-right (ltb (length code) (m .setup .code)) (shortMemory m part) z in
         let all : code ≡ L .code =
         take-all codeLent (L .code)
-        (omega (arith, ltb-false (length code) (m .setup .code) a, length-take codeLent (L .code), ap (λ (u : Setup). u .code) (inv-sane L inv .setup-kept), L .code-whole)) in
+        (omega (
+          arith,
+          ltb-false (length code) (m .setup .code) a,
+          length-take codeLent (L .code),
+          ap (λ (u : Setup). u .code)
+              (inv-sane L inv .setup-kept),
+          L .code-whole,
+        )) in
         elim (subst (λ l. RunEnd m memory rest (state L prog named o p σ) n (during m l part rest budget) (run m l part budget .machine)
         (run m l part budget .memory)) (sym all) (run-whole part rest budget e (rw all at a) b)) [ run-end gs s c ↦ simulated gs s c ])
 

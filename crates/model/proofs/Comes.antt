@@ -11,21 +11,26 @@ use lib.ListN.{length, getElem?}
 use lib.Dec.{eqb}
 use borrow.Author.Tests.{eqb-true, eqb-false}
 use Rattle.model.specs.Word.{low, less, minus}
-use Rattle.model.specs.Syntax.{Site, declared, Expr, Whole, Stmt, SKIP, STOP, assign, VAR, SEQ, IF, WHILE, Stmts, noStmt, stmt, Pairs, noPair, pair}
+use Rattle.model.specs.Syntax.{Site, declared, Expr, Whole, Stmt, SKIP, STOP, assign, VAR, SEQ, IF, WHILE, Stmts, noStmt, stmt, Pairs}
+use Rattle.model.specs.Syntax.{noPair, pair}
 use Rattle.model.specs.Syntax as Y
 use Rattle.model.specs.Reader.{names}
 use Rattle.model.specs.Counts.{registers}
 use Rattle.model.specs.Instruction.{Function, ldc, cj, ajw, stl, stopp, Instruction, plain, distance, operation}
 use Rattle.model.specs.Instruction as I
 use Rattle.model.specs.Scheme.{wholeSize, size, sizePairs, local, exprCode, wholeCode, code, codeAll, codePairs}
-use Rattle.model.specs.Occam.{Store, value, isTrue, Frame, inSeq, inVar, inWhile, Process, before, finished, framesOf, resume, begin, enter, enterAll, firstTrue}
+use Rattle.model.specs.Occam.{Store, value, isTrue, Frame, inSeq, inVar, inWhile, Process, before, finished, framesOf, resume, begin}
+use Rattle.model.specs.Occam.{enter, enterAll, firstTrue}
 use Rattle.model.specs.Demand.{liveIn}
 use Rattle.model.proofs.Way.{Regs, pushing, moving, Mem, Way, arrived, through, quiet, loads, jumps, falls, quiet-ldc, quiet-ajw}
 use Rattle.model.proofs.Values.{eval-word}
 use Rattle.model.proofs.Expr.{Seg, nil, at, Split, split, apart, cut, seg-length, Evaluated, evaluates, local-word}
 use Rattle.model.proofs.Sizes.{code-length, expr-length, pairs-length}
-use Rattle.model.proofs.Points.{Fine, FineAll, FinePairs, FineWhole, Setting, whole, At, Cont, c-end, c-seq, c-var, c-while, c-hop, Opening, Point, pt-stop, pt-assign, pt-init, pt-taken, pt-none, pt-while, Skips, s-none, s-skip, s-if, Comes, comes}
-use Rattle.model.proofs.Arrive.{inside, up, rises-le, cont-inside, cont-low, live-words, cont-bound, Tested, tested, loop-parts, pair-parts, Opened, opened, var-parts}
+use Rattle.model.proofs.Points.{Fine, FineAll, FinePairs, FineWhole, Setting, whole, At, Cont, c-end, c-seq, c-var, c-while, c-hop}
+use Rattle.model.proofs.Points.{Opening, Point, pt-stop, pt-assign, pt-init, pt-taken, pt-none, pt-while, Skips, s-none, s-skip}
+use Rattle.model.proofs.Points.{s-if, Comes, comes}
+use Rattle.model.proofs.Arrive.{inside, up, rises-le, cont-inside, cont-low, live-words, cont-bound, Tested, tested, loop-parts}
+use Rattle.model.proofs.Arrive.{pair-parts, Opened, opened, var-parts}
 
 module _ (S : Setting) (σ : Store) where
   -- the live variables hold words
@@ -43,7 +48,8 @@ module _ (S : Setting) (σ : Store) where
 
   -- through an expression of a statement whose frames are k
   module _ {k : List Frame} {hi′ c w : ℕ} (cont : Cont S hi′ k c w) (v : Valued k) where
-    through-expr : (s : Stmt) (e : Whole) {hi i i′ : ℕ} {μ : Mem} {r : Regs} → FineWhole (liveIn k) e → Seg (S .xs) i (wholeCode (S .word) w e) i′
+    through-expr : (s : Stmt) (e : Whole) {hi i i′ : ℕ} {μ : Mem} {r : Regs} → FineWhole (liveIn k) e
+        → Seg (S .xs) i (wholeCode (S .word) w e) i′
         → r .w ≡ w → ((r′ : Regs) → r′ .a ≡ value σ e → r′ .w ≡ w → Goes (before s k) hi μ i′ r′) → Goes (before s k) hi μ i r
     through-expr s e f g q next =
         evaluates (S .xs) (S .off) (S .word) (S .top) (Point S (before s k) σ) (before s k ≡ finished) σ (liveIn k) w
@@ -51,8 +57,10 @@ module _ (S : Setting) (σ : Store) where
         (λ x m. omega (arith, live-words S cont x m .1, S .top-small)) v (e .expr) g (f .0) (f .1) q
         (λ r′ d. next r′ (d .value) (d .same-w ∙ q))
 
-    while-way : (e : Whole) (s : Stmt) {hi i : ℕ} → Seg (S .xs) i (code (S .word) w i (WHILE e s)) c → Fine (S .word) (liveIn k) w (WHILE e s)
-        → hi′ ≤ whole S + S .off i → S .off (suc (i + wholeSize e)) ≤ hi → (μ : Mem) (r : Regs) → r .w ≡ w → Goes (before (WHILE e s) k) hi μ i r
+    while-way : (e : Whole) (s : Stmt) {hi i : ℕ} → Seg (S .xs) i (code (S .word) w i (WHILE e s)) c
+        → Fine (S .word) (liveIn k) w (WHILE e s)
+        → hi′ ≤ whole S + S .off i → S .off (suc (i + wholeSize e)) ≤ hi → (μ : Mem) (r : Regs) → r .w ≡ w
+        → Goes (before (WHILE e s) k) hi μ i r
     while-way e s {i} g f near bound μ r q = elim (loop-parts S e s g) [
       | tested m g₁ a g₂ d g₃ ↦
           let p : c ≡ suc m = seg-length g₃ ∙ omega arith in
@@ -87,7 +95,8 @@ module _ (S : Setting) (σ : Store) where
 
     -- through the conditions of an IF that are false, to the CJ of the first true pair or of the last
     pairs-way : (all : Pairs) (e : Whole) (s : Stmt) (ps : Pairs) {i : ℕ} → Seg (S .xs) i (codePairs (S .word) w i c (pair e s ps)) c
-        → 2 ≤ w → FinePairs (S .word) (liveIn k) w (pair e s ps) → firstTrue σ all k ≡ firstTrue σ (pair e s ps) k → hi′ ≤ whole S + S .off i
+        → 2 ≤ w → FinePairs (S .word) (liveIn k) w (pair e s ps) → firstTrue σ all k ≡ firstTrue σ (pair e s ps) k
+        → hi′ ≤ whole S + S .off i
         → (μ : Mem) (r : Regs) → r .w ≡ w → Goes (before (IF all) k) hi′ μ i r
     unfolding firstTrue codePairs
     pairs-way all e s noPair {i} g two f same near μ r q = elim (pair-parts S e s noPair g) [
@@ -111,7 +120,8 @@ module _ (S : Setting) (σ : Store) where
           omega (arith, rises-le S i (suc m) (omega arith) (omega (arith, inside S d))) in
           let hop : S .off (suc test) ≤ S .off (suc m) = rises-le S (suc test) (suc m) later (inside S d) in
           through-expr (IF all) e (f .0) g₁ q (λ r′ val q′.
-          pair-way all e s (pair e₂ s₂ ps) two (f .1) same near-on a g₂ d (omega (arith, seg-length g₃)) val q′ (eqb (value σ e) 0) refl (λ z none.
+          pair-way all e s (pair e₂ s₂ ps) two (f .1) same near-on a g₂ d (omega (arith, seg-length g₃)) val q′ (eqb (value σ e) 0) refl
+          (λ z none.
           falls a (inside S d) z hop (pairs-way all e₂ s₂ ps g₃ two (f .2) none near-next μ r′ q′)))
     ]
 
@@ -120,7 +130,8 @@ module _ (S : Setting) (σ : Store) where
   above c x m = live-words S c x m .0
 
   -- a VAR's code leads to its first store
-  var-way : {k : List Frame} {hi i w p n : ℕ} {s : Stmt} → Opened S p n s k hi i w → 1 ≤ n → n ≤ w → w ≤ 4096 → (μ : Mem) (r : Regs) → r .w ≡ w
+  var-way : {k : List Frame} {hi i w p n : ℕ} {s : Stmt} → Opened S p n s k hi i w → 1 ≤ n → n ≤ w → w ≤ 4096 → (μ : Mem) (r : Regs)
+      → r .w ≡ w
       → Goes (before (VAR p n s) k) hi μ i r
   var-way {k} {hi} {i} {w} {p} {n} {s} (opened a op) one fits small μ r q =
       let down : low (r .w + minus n) ≡ w - n = rw q (omega arith) in
@@ -130,7 +141,12 @@ module _ (S : Setting) (σ : Store) where
       let same : hi ≤ hi = omega arith in
       let none : (l : ℕ) → l < 0 → μ (w - n + l) ≡ 0 = λ l h. absurd (omega arith) in
       let bound : S .off (suc (suc (suc i))) ≤ hi =
-      omega (arith, cont-bound S (op .after), rises-le S (suc (suc (suc i))) (suc (op .close)) (omega (arith, seg-length (op .body))) (cont-inside S (op .after))) in
+      omega (
+        arith,
+        cont-bound S (op .after),
+        rises-le S (suc (suc (suc i))) (suc (op .close)) (omega (arith, seg-length (op .body)))
+            (cont-inside S (op .after)),
+      ) in
       quiet (moving (minus n)) a (quiet-ajw (minus n))
       (quiet (pushing 0) (rw e at (first .0)) (quiet-ldc 0)
       (arrived (onto (pushing 0 (moving (minus n) r)) down (pt-init op same one e′ refl none)) bound))
@@ -170,7 +186,8 @@ module _ (S : Setting) (σ : Store) where
     unfolding enter enterAll code resume
 
     pub enters : (s : Stmt) {hi i i′ w : ℕ} {k : List Frame} → Seg (S .xs) i (code (S .word) w i s) i′ → Fine (S .word) (liveIn k) w s
-        → Cont S hi k i′ w → hi ≤ whole S + S .off i → Valued k → Comes S hi (liveIn k) (resume k) σ i′ w → Comes S hi (liveIn k) (begin s k) σ i w
+        → Cont S hi k i′ w → hi ≤ whole S + S .off i → Valued k → Comes S hi (liveIn k) (resume k) σ i′ w
+        → Comes S hi (liveIn k) (begin s k) σ i w
     enters SKIP nil f c near v (comes sk sub way) = comes (s-skip sk) sub way
     enters STOP (at a nil) f c near v rest =
         comes s-none (λ x m. (m, above c x m)) (λ μ r q.
@@ -182,7 +199,8 @@ module _ (S : Setting) (σ : Store) where
     enters (Y.input c x) g f k near v rest = absurd f
     enters (Y.output c e) g f k near v rest = absurd f
     enters (VAR p n s) g f c near v rest =
-        comes s-none (λ x m. (m, above c x m)) (var-way (var-parts S g f c near) (f .0) (omega (arith, f .1)) (omega (arith, cont-low S c, S .top-small)))
+        comes s-none (λ x m. (m, above c x m))
+        (var-way (var-parts S g f c near) (f .0) (omega (arith, f .1)) (omega (arith, cont-low S c, S .top-small)))
     enters (Y.CHAN p n s) g f c near v rest = absurd f
     enters (SEQ ss) g f c near v rest = enters-all ss g f c near v rest
     enters (Y.PAR p ss) g f c near v rest = absurd f
@@ -191,8 +209,10 @@ module _ (S : Setting) (σ : Store) where
     enters (WHILE e s) g f c near v rest = while-comes e s g f c near v
     enters (Y.ALT gs) g f c near v rest = absurd f
 
-    pub enters-all : (ss : Stmts) {hi i i′ w : ℕ} {k : List Frame} → Seg (S .xs) i (codeAll (S .word) w i ss) i′ → FineAll (S .word) (liveIn k) w ss
-        → Cont S hi k i′ w → hi ≤ whole S + S .off i → Valued k → Comes S hi (liveIn k) (resume k) σ i′ w → Comes S hi (liveIn k) (enterAll ss k (resume k)) σ i w
+    pub enters-all : (ss : Stmts) {hi i i′ w : ℕ} {k : List Frame} → Seg (S .xs) i (codeAll (S .word) w i ss) i′
+        → FineAll (S .word) (liveIn k) w ss
+        → Cont S hi k i′ w → hi ≤ whole S + S .off i → Valued k → Comes S hi (liveIn k) (resume k) σ i′ w
+        → Comes S hi (liveIn k) (enterAll ss k (resume k)) σ i w
     enters-all noStmt nil f c near v rest = rest
     enters-all (stmt s ss) {hi} {i} {w} {k} g f c near v rest =
         let (g₁, g₂) = cut (code (S .word) w i s) (i + size s) (omega (arith, code-length (S .word) w i s)) g in
@@ -201,15 +221,18 @@ module _ (S : Setting) (σ : Store) where
         enters s g₁ (f .0) (c-seq g₂ (f .1) c) near v (enters-all ss g₂ (f .1) c near-on v rest)
 
   -- from where the frames' parts are over
-  pub arrives : {hi i w : ℕ} {k : List Frame} → Cont S hi k i w → hi ≤ whole S + S .off i → Valued k → Comes S hi (liveIn k) (resume k) σ i w
+  pub arrives : {hi i w : ℕ} {k : List Frame} → Cont S hi k i w → hi ≤ whole S + S .off i → Valued k
+      → Comes S hi (liveIn k) (resume k) σ i w
   unfolding resume
-  arrives c-end near v = comes s-none (λ x m. absurd (List·Memᴰ·not-nil m)) (λ μ r q. let here : whole S ≤ whole S = omega arith in through refl here refl)
+  arrives c-end near v = comes s-none (λ x m. absurd (List·Memᴰ·not-nil m))
+      (λ μ r q. let here : whole S ≤ whole S = omega arith in through refl here refl)
   arrives (c-seq {i} {i′} {ss} g f c) near v =
       enters-all ss g f c near v (arrives c (omega (arith, rises-le S i i′ (omega (arith, seg-length g)) (cont-inside S c))) v)
   arrives (c-var {i} {w} {p} {n} e h c) near v =
       elim (arrives c (omega (arith, up S e)) (λ x m. v x (Memᴰ·append-right (names p n) m))) [
         | comes sk sub way ↦
-            comes sk (λ x m. (Memᴰ·append-right (names p n) (sub x m .0), omega (arith, sub x m .1))) (λ μ r q. quiet (moving n) e (quiet-ajw n)
+            comes sk (λ x m. (Memᴰ·append-right (names p n) (sub x m .0), omega (arith, sub x m .1)))
+            (λ μ r q. quiet (moving n) e (quiet-ajw n)
             (way μ (moving n r) (rw q (omega (arith, cont-low S c, S .top-small)))))
       ]
   arrives (c-while {hi} {i} {b} {w} {e} {s} g f n l c) near v = elim (loop-parts S e s g) [
@@ -219,7 +242,8 @@ module _ (S : Setting) (σ : Store) where
         comes s-none (λ x m. (m, above c x m)) (λ μ r q.
         let two : 2 ≤ r .w = rw q (f .0) in
         let reach : S .off (suc (b + wholeSize e)) + S .off (suc i) ≤ hi + S .off b = omega arith in
-        jumps back (omega (arith, inside S a)) two (rw q (cont-low S c)) (λ x m. rw q (above c x m)) reach (λ μ′ r′ q′. while-way c v e s g f n (omega arith) μ′ r′ (q′ ∙ q)))
+        jumps back (omega (arith, inside S a)) two (rw q (cont-low S c)) (λ x m. rw q (above c x m)) reach
+        (λ μ′ r′ q′. while-way c v e s g f n (omega arith) μ′ r′ (q′ ∙ q)))
   ]
   arrives (c-hop {hi} {i} {t} e two l c) near v =
       elim (arrives c (omega (arith, rises-le S i t (omega arith) (cont-inside S c))) v) [

@@ -12,7 +12,8 @@ use borrow.Author.Tests.{lt-ltb, le-ltb, le-leb, eq-eqb, ne-eqb}
 use Rattle.model.specs.Word.{low, less}
 use Rattle.model.specs.Instruction.{ldl, cj, stl, opr, stopp, operationCode, operationOf, coded}
 use Rattle.model.specs.Instruction as I
-use Rattle.model.specs.Machine.{World, done, withCpu, withMemory, memorySize, peek, poke, testPlace, resume, takeFront, release, join, goto, work, running, counting, queueing, next, resumeWord}
+use Rattle.model.specs.Machine.{World, done, withCpu, withMemory, memorySize, peek, poke, testPlace, resume, takeFront, release, join}
+use Rattle.model.specs.Machine.{goto, work, running, counting, queueing, next, resumeWord}
 use Rattle.model.specs.Execute.{execute, operate, push, pop, jump, loadLocal, storeLocal, conditionalJump, stopProcess}
 use Rattle.model.specs.Run.{land}
 use Rattle.model.specs.declared.Cpu.{Cpu}
@@ -70,7 +71,8 @@ unfolding resume
 resume-in w s h = rw (peek-in (resumeWord w) s h)
 
 -- joining an empty queue
-pub join-empty : (w : ℕ) (s : World) → cpuOf s .running ≡ true → cpuOf s .queued ≡ false → join w s ≡ done tt (withCpu (queueing w w true (cpuOf s)) s)
+pub join-empty : (w : ℕ) (s : World) → cpuOf s .running ≡ true → cpuOf s .queued ≡ false
+    → join w s ≡ done tt (withCpu (queueing w w true (cpuOf s)) s)
 unfolding join
 join-empty w s r q = rw (r, q)
 
@@ -85,7 +87,8 @@ again t s =
     let w = cpuOf s .workspace in
     withCpu (running true (counting 0 (goto t (work w (queueing w w false (cpuOf s)))))) (stored (resumeWord w) t s)
 
-pub exec-j-sliced : (n t : ℕ) (s : World) → s .machine .setup .slice ≤ cpuOf s .count → low (cpuOf s .place + n) ≡ t → t ≤ s .machine .setup .code
+pub exec-j-sliced : (n t : ℕ) (s : World) → s .machine .setup .slice ≤ cpuOf s .count → low (cpuOf s .place + n) ≡ t
+    → t ≤ s .machine .setup .code
     → resumeWord (cpuOf s .workspace) < sizeOf s → sizeOf s ≤ length (s .memory) → cpuOf s .running ≡ true → cpuOf s .queued ≡ false
     → execute I.j n s ≡ done tt (again t s)
 unfolding execute jump testPlace
@@ -93,4 +96,14 @@ exec-j-sliced n t s h e p a m r q =
     let w = cpuOf s .workspace in
     let s₁ = stored (resumeWord w) t s in
     let got : getD (s₁ .memory) (resumeWord w) 0 ≡ t = getD-set-same (s .memory) (resumeWord w) t 0 (omega arith) in
-    rw (le-ltb _ _ h, e, poke-in _ t s a, join-empty w s₁ r q, release-last w s₁, resume-in w (withCpu (queueing w w false (cpuOf s₁)) s₁) a, got, le-leb _ _ p)
+    rw (
+      le-ltb _ _ h,
+      e,
+      poke-in _ t s a,
+      join-empty w s₁ r q,
+      release-last w s₁,
+      resume-in w
+          (withCpu (queueing w w false (cpuOf s₁)) s₁) a,
+      got,
+      le-leb _ _ p,
+    )

@@ -17,7 +17,8 @@ use Rattle.model.specs.Counts.{registers}
 use Rattle.model.specs.Scheme.{operatorCode, exprCode}
 use Rattle.model.specs.Execute.{above}
 use Rattle.model.specs.Occam.{Store, operate, deny, eval}
-use Rattle.model.proofs.Way.{Regs, Quiet, pushing, reducing, testing, Mem, Way, arrived, quiet, loads, jumps, falls, quiet-ldc, quiet-eqc, quiet-sum, quiet-diff, quiet-prod, quiet-gt, quiet-and, quiet-or, quiet-xor}
+use Rattle.model.proofs.Way.{Regs, Quiet, pushing, reducing, testing, Mem, Way, arrived, quiet, loads, jumps, falls, quiet-ldc}
+use Rattle.model.proofs.Way.{quiet-eqc, quiet-sum, quiet-diff, quiet-prod, quiet-gt, quiet-and, quiet-or, quiet-xor}
 use Rattle.model.proofs.Values.{FineExpr, eq-words, gt-words, eval-word}
 
 -- the instructions ys stand in xs from index i up to i′
@@ -28,7 +29,8 @@ pub data Seg (xs : List Instruction) : ℕ → List Instruction → ℕ → Type
 pub data Split (xs : List Instruction) (i : ℕ) (ys zs : List Instruction) (i′ : ℕ) : Type 0 where
   split : {m : ℕ} → Seg xs i ys m → Seg xs m zs i′ → Split xs i ys zs i′
 
-pub apart : {xs : List Instruction} {i i′ : ℕ} (ys : List Instruction) {zs : List Instruction} → Seg xs i (ys ++ zs) i′ → Split xs i ys zs i′
+pub apart : {xs : List Instruction} {i i′ : ℕ} (ys : List Instruction) {zs : List Instruction} → Seg xs i (ys ++ zs) i′
+    → Split xs i ys zs i′
 apart [] g = split nil g
 apart (y ∷ ys) (at e g) = elim (apart ys g) [ split g₁ g₂ ↦ split (at e g₁) g₂ ]
 
@@ -37,7 +39,8 @@ seg-length nil = omega arith
 seg-length (at e g) = omega (arith, seg-length g)
 
 -- the same with the index in between given
-pub cut : {xs : List Instruction} {i i′ : ℕ} (ys : List Instruction) {zs : List Instruction} (m : ℕ) → i + length ys ≡ m → Seg xs i (ys ++ zs) i′
+pub cut : {xs : List Instruction} {i i′ : ℕ} (ys : List Instruction) {zs : List Instruction} (m : ℕ) → i + length ys ≡ m
+    → Seg xs i (ys ++ zs) i′
     → Seg xs i ys m × Seg xs m zs i′
 cut {xs} {i} {i′} ys {zs} m e g = elim (apart ys g) [
   | split {m = n} g₁ g₂ ↦
@@ -62,7 +65,8 @@ registers-pos (binary op l r) = omega (arith, registers-pos l)
 pub local-word : (w a : ℕ) → w < 2 ^ 32 → a < 2 ^ 32 → low (w + less a w) ≡ a
 local-word w a hw ha = omega arith
 
-module _ (xs : List Instruction) (off : ℕ → ℕ) (word : Site → ℕ) (top : ℕ) (Point : ℕ → Mem → ℕ → Regs → Type 0) (End : Type 0) (σ : Store) (live : List Site) where
+module _ (xs : List Instruction) (off : ℕ → ℕ) (word : Site → ℕ) (top : ℕ) (Point : ℕ → Mem → ℕ → Regs → Type 0) (End : Type 0) (σ : Store)
+    (live : List Site) where
   abbrev Goes : ℕ → Mem → ℕ → Regs → Type 0
   Goes hi μ i r = Way xs off word top Point End σ live hi μ i r
 
@@ -83,23 +87,27 @@ module _ (xs : List Instruction) (off : ℕ → ℕ) (word : Site → ℕ) (top 
     operated PLUS g p s hl hk next = reduced (λ x y. low (x + y)) g quiet-sum p s next
     operated MINUS g p s hl hk next = reduced less g quiet-diff p s next
     operated TIMES g p s hl hk next = reduced (λ x y. low (x * y)) g quiet-prod p s next
-    operated GT {l} {k} g p s hl hk next = reduced (λ x y. truth (above x y)) g quiet-gt p s (λ r′ v. next r′ (v ∙ ap truth (gt-words l k hl hk)))
+    operated GT {l} {k} g p s hl hk next = reduced (λ x y. truth (above x y)) g quiet-gt p s
+        (λ r′ v. next r′ (v ∙ ap truth (gt-words l k hl hk)))
     operated EQ {l} {k} g p s hl hk next =
         elim (apart (operation I.diff ∷ []) g) [
           | split g₁ g₂ ↦
-              reduced less g₁ quiet-diff p s (λ r′ v b w. tested r′ g₂ v (λ r″ v″ b″ c″ w″. next r″ (v″ ∙ ap truth (eq-words l k hl hk)) (b″ ∙ b) (w″ ∙ w)))
+              reduced less g₁ quiet-diff p s
+              (λ r′ v b w. tested r′ g₂ v (λ r″ v″ b″ c″ w″. next r″ (v″ ∙ ap truth (eq-words l k hl hk)) (b″ ∙ b) (w″ ∙ w)))
         ]
     operated AND g p s hl hk next = reduced bitAnd g quiet-and p s next
     operated OR g p s hl hk next = reduced bitOr g quiet-or p s next
     operated XOR g p s hl hk next = reduced bitXor g quiet-xor p s next
 
-    module _ (w : ℕ) (wide : w < 2 ^ 32) (words : (x : Site) → List·Memᴰ x live → word x < 2 ^ 32) (values : (x : Site) → List·Memᴰ x live → σ x < 2 ^ 32)
+    module _ (w : ℕ) (wide : w < 2 ^ 32) (words : (x : Site) → List·Memᴰ x live → word x < 2 ^ 32)
+        (values : (x : Site) → List·Memᴰ x live → σ x < 2 ^ 32)
       where
         pub evaluates : (e : Expr) {i i′ : ℕ} {r : Regs} → Seg xs i (exprCode word w e) i′ → FineExpr live e → registers e ≤ 3 → r .w ≡ w
             → ((r′ : Regs) → Evaluated σ e r r′ → Goes hi μ i′ r′) → Goes hi μ i r
         unfolding exprCode eval registers deny
         evaluates (constant n) {r} (at e nil) f k p next =
-            quiet (pushing n) e (quiet-ldc n) (next (pushing n r) (record { value = refl; keeps-b = λ h. refl; keeps-c = λ h. refl; same-w = refl }))
+            quiet (pushing n) e (quiet-ldc n)
+            (next (pushing n r) (record { value = refl; keeps-b = λ h. refl; keeps-c = λ h. refl; same-w = refl }))
         evaluates (variable x) {r} (at e nil) f k p next =
             let a : low (r .w + less (word x) w) ≡ word x = rw p (local-word w (word x) wide (words x f)) in
             loads x e a f
@@ -117,7 +125,8 @@ module _ (xs : List Instruction) (off : ℕ → ℕ) (word : Site → ℕ) (top 
                     | split g₁ g₃ ↦
                         evaluates l g₁ (f .0) (omega arith) p (λ r₁ d₁.
                         evaluates r g₃ (f .1) (omega arith) (d₁ .same-w ∙ p) (λ r₂ d₂.
-                        operated op g₄ (d₂ .keeps-b (omega arith) ∙ d₁ .value) (d₂ .value) (eval-word σ values l (f .0)) (eval-word σ values r (f .1)) (λ r₃ v b s.
+                        operated op g₄ (d₂ .keeps-b (omega arith) ∙ d₁ .value) (d₂ .value) (eval-word σ values l (f .0))
+                        (eval-word σ values r (f .1)) (λ r₃ v b s.
                         next r₃ (record {
                           value = v;
                           keeps-b = λ h. b ∙ d₂ .keeps-c (omega arith) ∙ d₁ .keeps-b (omega arith);

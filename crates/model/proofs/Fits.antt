@@ -5,12 +5,16 @@ use mathlib.Core.Path.{_≡_}
 use mathlib.Core.List.{List, [], _∷_, _++_}
 use mathlib.Core.Option.{some}
 use lib.ListN.{length, getElem?}
-use Rattle.model.specs.Syntax.{Site, Operator, PLUS, MINUS, TIMES, GT, EQ, AND, OR, XOR, Expr, constant, variable, NOT, binary, Stmt, SKIP, STOP, assign, input, output, VAR, CHAN, SEQ, PAR, IF, WHILE, ALT, Stmts, noStmt, stmt, Pairs, noPair, pair, Guards, noGuard, inputGuard, skipGuard, Program}
+use Rattle.model.specs.Syntax.{Site, Operator, PLUS, MINUS, TIMES, GT, EQ, AND, OR, XOR, Expr, constant, variable, NOT, binary, Stmt}
+use Rattle.model.specs.Syntax.{SKIP, STOP, assign, input, output, VAR, CHAN, SEQ, PAR, IF, WHILE, ALT, Stmts, noStmt, stmt, Pairs}
+use Rattle.model.specs.Syntax.{noPair, pair, Guards, noGuard, inputGuard, skipGuard, Program}
 use Rattle.model.specs.Reader.{Scope, withVariables, withChannels}
 use Rattle.model.specs.Counts.{need, mostNeed, sumNeed, pairNeed, guardNeed}
 use Rattle.model.specs.Instruction.{operationCode, Instruction, plain, distance, operation, ldc, mint}
 use Rattle.model.specs.Layout.{base, wordOf}
-use Rattle.model.specs.Scheme.{operatorCode, initialise, exprSize, howMany, size, sizeAll, sizePar, sizeEnds, sizePairs, sizeEnable, sizeDisable, sizeBranches, exprCode, code, codeAll, codePar, codeStarts, codeEnds, codePairs, codeEnable, codeDisable, codeBranches, scheme}
+use Rattle.model.specs.Scheme.{operatorCode, initialise, exprSize, howMany, size, sizeAll, sizePar, sizeEnds, sizePairs, sizeEnable}
+use Rattle.model.specs.Scheme.{sizeDisable, sizeBranches, exprCode, code, codeAll, codePar, codeStarts, codeEnds, codePairs}
+use Rattle.model.specs.Scheme.{codeEnable, codeDisable, codeBranches, scheme}
 use Rattle.model.proofs.Well.{WellExpr, Well, WellAll, WellPairs, WellGuards, WellProgram, outermost}
 use Rattle.model.proofs.Sizes.{code-length}
 

@@ -16,7 +16,8 @@ use Rattle.model.specs.Layout.{wordOf}
 use Rattle.model.specs.Machine.{Talk, World, Result, done, faults, memorySize}
 use Rattle.model.specs.Run.{byte, ended, waits, runFrom, worldOf}
 use Rattle.model.specs.Occam.{Store, Process, State, Event, initial}
-use Rattle.model.specs.Demand.{Move, step, outside, Segment, reaches, steps, Agrees, Follows, Matches, perInstruction, counted, total, Progress}
+use Rattle.model.specs.Demand.{Move, step, outside, Segment, reaches, steps, Agrees, Follows, Matches, perInstruction, counted, total}
+use Rattle.model.specs.Demand.{Progress}
 use Rattle.model.specs.History.{Call, Moment, bytes, executed, quietly}
 use Rattle.model.specs.declared.Machine.{Machine}
 use Rattle.model.proofs.Cases.{never, by-bool}
@@ -81,7 +82,8 @@ falls-window {n} (c ∷ window) after (f-cons {k} h j f) z =
 
 pub falls-progress : {most n : ℕ} {l : List ℕ} (bound : ℕ) → most < bound → n ≤ most → Falls most n l → Progress bound l
 falls-progress {most} bound h k f before window after e size =
-    elim (falls-later before k (rw (e ∙ append-assoc before window after) at f)) [ later {n = m} a g ↦ by a g (ℕ-discrete (total window) 0) ]
+    elim (falls-later before k (rw (e ∙ append-assoc before window after) at f))
+    [ later {n = m} a g ↦ by a g (ℕ-discrete (total window) 0) ]
   where
     by : {m : ℕ} → m ≤ most → Falls most m (window ++ after) → Dec (total window ≡ 0) → 0 < total window
     by a g (yes z) = absurd (omega (arith, falls-window window after g z))
@@ -109,7 +111,8 @@ module _ (L : Loaded) (prog : Program) (named : (x : Site) → S L .word x ≡ w
 
   -- a run's bytes
   pub data Ran (b n₀ : ℕ) (s : World) (p : Process) (σ : Store) (n : ℕ) (rest : List ℕ) : Type 0 where
-    ran : {gs : List Segment} {q : Process} {τ : Store} {k : ℕ} (t : World) → Chain prog (whole (S L)) (bytes b (L .code) rest s) (state p σ) gs (state q τ) n k
+    ran : {gs : List Segment} {q : Process} {τ : Store} {k : ℕ} (t : World)
+        → Chain prog (whole (S L)) (bytes b (L .code) rest s) (state p σ) gs (state q τ) n k
         → runFrom b (L .code) n₀ s .world ≡ t → Inv L t q τ k → Ran b n₀ s p σ n rest
 
   -- a machine that has ended or waits runs no byte
@@ -146,11 +149,13 @@ module _ (L : Loaded) (prog : Program) (named : (x : Site) → S L .word x ≡ w
 
   run-on : (b n₀ : ℕ) (s : World) (rest : List ℕ) {p : Process} {σ : Store} {n : ℕ} → s .talk ≡ [] → ended (s .machine) ≡ false
       → waits (s .machine) ≡ false → Went L s p σ o n
-      → ((t : World) (q : Process) (τ : Store) (k : ℕ) → t .talk ≡ [] → Inv L t q τ k → Ran b (suc n₀) t q τ k rest) → Ran (suc b) n₀ s p σ n rest
+      → ((t : World) (q : Process) (τ : Store) (k : ℕ) → t .talk ≡ [] → Inv L t q τ k → Ran b (suc n₀) t q τ k rest)
+      → Ran (suc b) n₀ s p σ n rest
   run-on b n₀ s rest {p} {σ} {n} z e w (went t {q} {τ} {m} g d talk moves inv less) rec =
       let quietly : t .talk ≡ [] = talk ∙ z in
       let same : worldOf (t .machine) (t .memory) ≡ t = ap (λ l. world L (t .machine) (t .memory) l) (sym quietly) in
-      let f : Follows prog (executed t rest) (state p σ) g = follows {talk = t .talk} rest (executed t rest) refl refl quietly refl moves inv in
+      let f : Follows prog (executed t rest) (state p σ) g = follows {talk = t .talk} rest
+      (executed t rest) refl refl quietly refl moves inv in
       let less′ : (m < n) ⊎ (0 < steps g) = ⊎-elim (λ a. inl a) (λ a. inr (moved-steps moves a)) less in
       elim (rec t q τ m quietly inv) [
         | ran {gs} {q = q′} {τ = τ′} {k} u c eq inv′ ↦

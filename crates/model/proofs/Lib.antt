@@ -24,3 +24,4 @@ pub mod Memory
 pub mod Fold
 pub mod Calls
 pub mod Sequential
+pub mod Examples

@@ -22,7 +22,8 @@ use Rattle.model.proofs.Slice.{Loaded, memOf, Sane, Holds, Inv, going, 
 use Rattle.model.proofs.Turns.{inv-ended, inv-waits, inv-stuck}
 
 -- a significant instruction looks at words below the top only
-point-stable : {S : Setting} {p : Process} {σ : Store} {hi i : ℕ} {μ ν : Mem} {r : Regs} → ((a : ℕ) → a < S .top → μ a ≡ ν a) → Point S p σ hi μ i r → Point S p σ hi ν i r
+point-stable : {S : Setting} {p : Process} {σ : Store} {hi i : ℕ} {μ ν : Mem} {r : Regs} → ((a : ℕ) → a < S .top → μ a ≡ ν a)
+    → Point S p σ hi μ i r → Point S p σ hi ν i r
 point-stable h (pt-stop a two top above) = pt-stop a two top above
 point-stable h (pt-assign a w l v small c near) = pt-assign a w l v small c near
 point-stable {S} {r} h (pt-init op le l e z m) =
@@ -41,7 +42,12 @@ module _ (L : Loaded) where
   inv-memory h l (going sane run que here way holds sole left few) =
       going (record { setup-kept = sane .setup-kept; no-fault = sane .no-fault; room = l }) run que here
       (way-stable (S L .xs) (S L .off) (S L .word) (S L .top) (λ x m. refl) (λ u ν i r pt. pt) (λ u i r pt. point-stable h pt) way)
-      (record { same = λ x m. holds .same x m ∙ h (S L .word x) (holds .inside x m); words = holds .words; inside = holds .inside }) sole left few
+      (record {
+        same = λ x m. holds .same x m ∙ h (S L .word x)
+            (holds .inside x m);
+        words = holds .words;
+        inside = holds .inside;
+      }) sole left few
   inv-memory h l (stopped sane run holds few) =
       stopped (record { setup-kept = sane .setup-kept; no-fault = sane .no-fault; room = l }) run
       (record { same = λ x m. holds .same x m ∙ h (S L .word x) (holds .inside x m); words = holds .words; inside = holds .inside }) few

@@ -3,8 +3,11 @@ use Prim.Native.Nat.{ℕ, zero, suc, _+_}
 use mathlib.Core.Path.{_≡_, refl, sym, ap, _∙_, subst}
 use mathlib.Core.List.{List, [], _∷_, _++_, List·Memᴰ}
 use mathlib.Core.Option.{Option, none, some}
-use Rattle.model.specs.Syntax.{Site, Stmt, SKIP, STOP, assign, input, output, VAR, CHAN, SEQ, PAR, IF, WHILE, ALT, Stmts, noStmt, stmt, Pairs, noPair}
-use Rattle.model.specs.Occam.{Store, Frame, inSeq, inVar, inWhile, Process, before, atStop, atInput, atOutput, atAlt, inPar, finished, Branches, noBranch, branchAt, branchesOf, framesOf, look, put, go, State, Communication, Step, begins, ends, chooses, communicates, receives, Event, enter, enterAll, resume, firstTrue, Stuck}
+use Rattle.model.specs.Syntax.{Site, Stmt, SKIP, STOP, assign, input, output, VAR, CHAN, SEQ, PAR, IF, WHILE, ALT, Stmts, noStmt}
+use Rattle.model.specs.Syntax.{stmt, Pairs, noPair}
+use Rattle.model.specs.Occam.{Store, Frame, inSeq, inVar, inWhile, Process, before, atStop, atInput, atOutput, atAlt, inPar, finished}
+use Rattle.model.specs.Occam.{Branches, noBranch, branchAt, branchesOf, framesOf, look, put, go, State, Communication, Step, begins}
+use Rattle.model.specs.Occam.{ends, chooses, communicates, receives, Event, enter, enterAll, resume, firstTrue, Stuck}
 use Rattle.model.specs.Demand.{Move, step, Segment, Valid, reaches, steps, eventsOf, communications, Live, liveIn}
 use Rattle.model.proofs.Cases.{never}
 use Rattle.model.proofs.Points.{Setting, Skips, s-none, s-skip, s-if}
@@ -38,7 +41,8 @@ unfolding look put
 root-step s k σ o = begins [] refl
 
 pub data Skipped (p q : Process) (σ : Store) (o : ℕ → Option ℕ) : Type 0 where
-  skipped : (g : Segment) → Moves (record { process = p; store = σ; offers = o }) g (record { process = q; store = σ; offers = o }) → Skipped p q σ o
+  skipped : (g : Segment) → Moves (record { process = p; store = σ; offers = o }) g (record { process = q; store = σ; offers = o })
+      → Skipped p q σ o
 
 -- steps without code are moves
 pub skip-moves : {S : Setting} {p q : Process} (σ : Store) (o : ℕ → Option ℕ) → Skips S p q → Skipped p q σ o
@@ -108,5 +112,6 @@ stop-stuck k σ o = record { still = still; unfinished = λ e. never (cc) }
     still cs st (receives path e v) = never (cc (at path e))
 
 -- a process that is about to begin a statement can
-pub before-goes : (s : Stmt) (k : List Frame) (σ : Store) (o : ℕ → Option ℕ) → Stuck (record { process = before s k; store = σ; offers = o }) → ⊥
+pub before-goes : (s : Stmt) (k : List Frame) (σ : Store) (o : ℕ → Option ℕ)
+    → Stuck (record { process = before s k; store = σ; offers = o }) → ⊥
 before-goes s k σ o h = h .still _ _ (root-step s k σ o)

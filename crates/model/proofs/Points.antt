@@ -10,13 +10,15 @@ use mathlib.Core.Option.{Option, none, some}
 use lib.ListN.{length, getElem?}
 use lib.Dec.{eqb}
 use Rattle.model.specs.Word.{low, less, minus}
-use Rattle.model.specs.Syntax.{Site, declared, Expr, Whole, Stmt, SKIP, STOP, assign, input, output, VAR, CHAN, SEQ, PAR, IF, WHILE, ALT, Stmts, noStmt, stmt, Pairs, noPair, pair}
+use Rattle.model.specs.Syntax.{Site, declared, Expr, Whole, Stmt, SKIP, STOP, assign, input, output, VAR, CHAN, SEQ, PAR, IF, WHILE}
+use Rattle.model.specs.Syntax.{ALT, Stmts, noStmt, stmt, Pairs, noPair, pair}
 use Rattle.model.specs.Reader.{names}
 use Rattle.model.specs.Counts.{registers}
 use Rattle.model.specs.Instruction.{Function, ldc, cj, ajw, stl, stopp, Instruction, plain, distance, operation}
 use Rattle.model.specs.Instruction as I
 use Rattle.model.specs.Scheme.{initialise, wholeSize, size, sizePairs, local, exprCode, wholeCode, code, codeAll, codePairs}
-use Rattle.model.specs.Occam.{Store, value, isTrue, Frame, inSeq, inVar, inWhile, Process, before, finished, framesOf, resume, begin, enter, enterAll, firstTrue}
+use Rattle.model.specs.Occam.{Store, value, isTrue, Frame, inSeq, inVar, inWhile, Process, before, finished, framesOf, resume, begin}
+use Rattle.model.specs.Occam.{enter, enterAll, firstTrue}
 use Rattle.model.specs.Demand.{liveIn}
 use Rattle.model.proofs.Way.{Regs, pushing, moving, Mem, Way, arrived, through, quiet, loads, jumps, falls, quiet-ldc, quiet-ajw}
 use Rattle.model.proofs.Values.{FineExpr}
@@ -82,7 +84,8 @@ module _ (S : Setting) where
     c-var : {hi i w p n : ℕ} {k : List Frame} → At i (plain ajw n) → ((j : ℕ) → j < n → S .word (declared p j) ≡ w + j)
         → Cont hi k (suc i) (w + n) → Cont hi (inVar (names p n) ∷ k) i w
     c-while : {hi hi′ i b w : ℕ} {e : Whole} {s : Stmt} {k : List Frame} → Seg (S .xs) b (code (S .word) w b (WHILE e s)) (suc i)
-        → Fine (S .word) (liveIn k) w (WHILE e s) → hi′ ≤ whole S + S .off b → S .off (suc i) + S .off (suc (b + wholeSize e)) ≤ hi + S .off b
+        → Fine (S .word) (liveIn k) w (WHILE e s) → hi′ ≤ whole S + S .off b
+        → S .off (suc i) + S .off (suc (b + wholeSize e)) ≤ hi + S .off b
         → Cont hi′ k (suc i) w → Cont hi (inWhile e s ∷ k) i w
     c-hop : {hi i t w : ℕ} {k : List Frame} → At i (distance I.j t i) → 2 ≤ w → suc i ≤ t → Cont hi k t w → Cont hi k i w
 
@@ -102,16 +105,21 @@ module _ (S : Setting) where
     pt-stop : {k : List Frame} {σ : Store} {up : ℕ} {μ : Mem} {i : ℕ} {r : Regs} → At i (operation stopp) → 2 ≤ r .w → r .w ≤ S .top
         → ((x : Site) → List·Memᴰ x (liveIn k) → r .w ≤ S .word x) → Point (before STOP k) σ up μ i r
     pt-assign : {x : Site} {e : Whole} {k : List Frame} {σ : Store} {up : ℕ} {μ : Mem} {i o hi : ℕ} {r : Regs} → At i (plain stl o)
-        → low (r .w + o) ≡ S .word x → List·Memᴰ x (liveIn k) → r .a ≡ value σ e → value σ e < 2 ^ 32 → Cont hi k (suc i) (r .w) → hi ≤ whole S + S .off i
+        → low (r .w + o) ≡ S .word x → List·Memᴰ x (liveIn k) → r .a ≡ value σ e → value σ e < 2 ^ 32 → Cont hi k (suc i) (r .w)
+        → hi ≤ whole S + S .off i
         → Point (before (assign x e) k) σ up μ i r
-    pt-init : {p n : ℕ} {s : Stmt} {k : List Frame} {σ : Store} {up : ℕ} {μ : Mem} {i hi c j : ℕ} {r : Regs} → Opening p n s k hi c (r .w) → hi ≤ up → j < n
+    pt-init : {p n : ℕ} {s : Stmt} {k : List Frame} {σ : Store} {up : ℕ} {μ : Mem} {i hi c j : ℕ} {r : Regs} → Opening p n s k hi c (r .w)
+        → hi ≤ up → j < n
         → i ≡ suc (c + (j + j)) → r .a ≡ 0 → ((l : ℕ) → l < j → μ (r .w + l) ≡ 0) → Point (before (VAR p n s) k) σ up μ i r
-    pt-taken : {ps : Pairs} (s : Stmt) {k : List Frame} {σ : Store} {up : ℕ} {μ : Mem} {i t m hi : ℕ} {r : Regs} → At i (distance cj t i) → r .a ≢ 0
+    pt-taken : {ps : Pairs} (s : Stmt) {k : List Frame} {σ : Store} {up : ℕ} {μ : Mem} {i t m hi : ℕ} {r : Regs} → At i (distance cj t i)
+        → r .a ≢ 0
         → firstTrue σ ps k ≡ begin s k → Seg (S .xs) (suc i) (code (S .word) (r .w) (suc i) s) m → Fine (S .word) (liveIn k) (r .w) s
         → Cont hi k m (r .w) → hi ≤ whole S + S .off i → Point (before (IF ps) k) σ up μ i r
-    pt-none : {ps : Pairs} {k : List Frame} {σ : Store} {up : ℕ} {μ : Mem} {i t hi : ℕ} {r : Regs} → At i (distance cj t i) → suc i ≤ t → r .a ≡ 0
+    pt-none : {ps : Pairs} {k : List Frame} {σ : Store} {up : ℕ} {μ : Mem} {i t hi : ℕ} {r : Regs} → At i (distance cj t i) → suc i ≤ t
+        → r .a ≡ 0
         → firstTrue σ ps k ≡ resume k → Cont hi k t (r .w) → hi ≤ whole S + S .off i → Point (before (IF ps) k) σ up μ i r
-    pt-while : {e : Whole} {s : Stmt} {k : List Frame} {σ : Store} {up : ℕ} {μ : Mem} {i t m hi hi′ : ℕ} {r : Regs} → At i (distance cj t i) → suc i ≤ t
+    pt-while : {e : Whole} {s : Stmt} {k : List Frame} {σ : Store} {up : ℕ} {μ : Mem} {i t m hi hi′ : ℕ} {r : Regs}
+        → At i (distance cj t i) → suc i ≤ t
         → r .a ≡ value σ e → Seg (S .xs) (suc i) (code (S .word) (r .w) (suc i) s) m → Fine (S .word) (liveIn k) (r .w) s
         → Cont hi′ (inWhile e s ∷ k) m (r .w) → hi′ ≤ whole S + S .off (suc i) → Cont hi k t (r .w) → hi ≤ whole S + S .off i
         → Point (before (WHILE e s) k) σ up μ i r
@@ -126,5 +134,6 @@ module _ (S : Setting) where
   -- among `live`, at and above w
   pub data Comes (hi : ℕ) (live : List Site) (p : Process) (σ : Store) (i w : ℕ) : Type 0 where
     comes : {q : Process} → Skips p q → ((x : Site) → List·Memᴰ x (liveIn (framesOf q)) → List·Memᴰ x live × (w ≤ S .word x))
-        → ((μ : Mem) (r : Regs) → r .w ≡ w → Way (S .xs) (S .off) (S .word) (S .top) (Point q σ) (q ≡ finished) σ (liveIn (framesOf q)) hi μ i r)
+        → ((μ : Mem) (r : Regs) → r .w ≡ w
+        → Way (S .xs) (S .off) (S .word) (S .top) (Point q σ) (q ≡ finished) σ (liveIn (framesOf q)) hi μ i r)
         → Comes hi live p σ i w

@@ -10,10 +10,16 @@ use lib.Dec.{leb, ltb, eqb}
 use borrow.Author.Tests.{leb-true, ltb-true}
 use Rattle.model.specs.Number.{Number, groups, number}
 use Rattle.model.specs.Syntax.{Site, Expr, Whole, Stmt, Stmts, noStmt, stmt, Pairs, Guards, Program}
-use Rattle.model.specs.Reader.{Parsed, parsed, fails, Reader, onward, pure, refuse, readNumber, oneOf, readCount, Scope, readName, canInput, canOutput, anySite, withVariables, withChannels, ExprKind, isConstant, isVariable, isNot, isBinary, exprKinds, operators, tooDeep, exprOf, readExpr, readWhole, readMany, StmtKind, isSkip, isStop, isAssign, isInput, isOutput, isVar, isChan, isSeq, isPar, isIf, isWhile, isAlt, stmtKinds, GuardKind, isInputGuard, isSkipGuard, guardKinds, Inner, readPair, guardOf, readGuard, stmtOf, readStmt, readProgram, program, readTable}
+use Rattle.model.specs.Reader.{Parsed, parsed, fails, Reader, onward, pure, refuse, readNumber, oneOf, readCount, Scope, readName}
+use Rattle.model.specs.Reader.{canInput, canOutput, anySite, withVariables, withChannels, ExprKind, isConstant, isVariable, isNot}
+use Rattle.model.specs.Reader.{isBinary, exprKinds, operators, tooDeep, exprOf, readExpr, readWhole, readMany, StmtKind, isSkip}
+use Rattle.model.specs.Reader.{isStop, isAssign, isInput, isOutput, isVar, isChan, isSeq, isPar, isIf, isWhile, isAlt, stmtKinds}
+use Rattle.model.specs.Reader.{GuardKind, isInputGuard, isSkipGuard, guardKinds, Inner, readPair, guardOf, readGuard, stmtOf}
+use Rattle.model.specs.Reader.{readStmt, readProgram, program, readTable}
 use Rattle.model.specs.Scheme.{howMany}
 use Rattle.model.proofs.Cases.{by-bool, by-option, never, is-true}
-use Rattle.model.proofs.Well.{WellExpr, WellWhole, Well, WellAll, WellPairs, WellGuards, WellProgram, Placed, PlacedAll, PlacedPairs, PlacedGuards}
+use Rattle.model.proofs.Well.{WellExpr, WellWhole, Well, WellAll, WellPairs, WellGuards, WellProgram, Placed, PlacedAll, PlacedPairs}
+use Rattle.model.proofs.Well.{PlacedGuards}
 
 -- a number at the front of k bytes
 abbrev Sized : ℕ → Option Number → Type 0

@@ -5,12 +5,14 @@ use native.Mathlib.Nat.{add-zero, zero-add}
 use mathlib.Core.Path.{_≡_, refl, sym, ap, ap₂, _∙_, subst}
 use mathlib.Core.Logic.{⊎-elim}
 use mathlib.Core.Bool.{Bool, true, false, _&&_}
-use mathlib.Core.List.{List, [], _∷_, _++_, List·Memᴰ, List·Memᴰ·append-cases, Memᴰ·append-left, Memᴰ·append-right, List·Memᴰ·not-nil, append-nil}
+use mathlib.Core.List.{List, [], _∷_, _++_, List·Memᴰ, List·Memᴰ·append-cases, Memᴰ·append-left, Memᴰ·append-right, List·Memᴰ·not-nil}
+use mathlib.Core.List.{append-nil}
 use mathlib.Core.Option.{Option, none, some}
 use lib.ListN.{length, drop, replicate, getElem?, length-append, length-replicate, length-drop}
 use lib.Dec.{leb}
 use borrow.Author.Tests.{leb-true, leb-false}
-use Rattle.model.specs.Syntax.{Site, declared, Expr, constant, variable, NOT, binary, Whole, Stmt, SKIP, STOP, assign, input, output, VAR, CHAN, SEQ, PAR, IF, WHILE, ALT, Stmts, noStmt, stmt, Pairs, noPair, pair, Program}
+use Rattle.model.specs.Syntax.{Site, declared, Expr, constant, variable, NOT, binary, Whole, Stmt, SKIP, STOP, assign, input, output}
+use Rattle.model.specs.Syntax.{VAR, CHAN, SEQ, PAR, IF, WHILE, ALT, Stmts, noStmt, stmt, Pairs, noPair, pair, Program}
 use Rattle.model.specs.Reader.{Scope, names, withVariables}
 use Rattle.model.specs.Counts.{registers, need, mostNeed, pairNeed, firstDeep, firstDeepAll, firstDeepPairs}
 use Rattle.model.specs.Accept.{limit, memoryWords}
@@ -28,7 +30,8 @@ use Rattle.model.specs.declared.Setup.{Setup}
 use Rattle.model.specs.declared.StartAnswer.{StartAnswer}
 use Rattle.model.specs.declared.StartAnswer.the-variants.{Started}
 use Rattle.model.proofs.Cases.{never, by-bool}
-use Rattle.model.proofs.Well.{Well, WellAll, WellPairs, WellExpr, WellWhole, WellProgram, outermost, Placed, Laid, LaidAll, LaidPairs}
+use Rattle.model.proofs.Well.{Well, WellAll, WellPairs, WellExpr, WellWhole, WellProgram, outermost, Placed, Laid, LaidAll}
+use Rattle.model.proofs.Well.{LaidPairs}
 use Rattle.model.proofs.Readers.{read-well}
 use Rattle.model.proofs.Accepts.{accept-reads, accept-passed, compile-accepts, deep-assign, deep-while, deep-stmt, deep-pair}
 use Rattle.model.proofs.Lays.{program-laid}
@@ -111,7 +114,8 @@ module _ (p : Program) where
       omega (arith, need-two s),
       (λ j b. ap (λ v. v + j) (l .0)),
       fine s (withVariables r k sc) (names r k ++ live) (w - k)
-          (λ x m. ⊎-elim (λ a. Memᴰ·append-right (names r k) (sub x a)) (λ a. Memᴰ·append-left live a) (List·Memᴰ·append-cases (sc .variables) m))
+          (λ x m. ⊎-elim (λ a. Memᴰ·append-right (names r k) (sub x a)) (λ a. Memᴰ·append-left live a)
+          (List·Memᴰ·append-cases (sc .variables) m))
           q (h .2) (l .1) d (omega arith),
     )
     fine (CHAN r k s) sc live w sub q h l d n = absurd q
@@ -123,12 +127,16 @@ module _ (p : Program) where
         (omega arith, (fine-expr sc live sub (e .expr) (h .0), e-s .0), fine s sc live w sub q (h .1) l (e-s .1) (omega arith))
     fine (ALT gs) sc live w sub q h l d n = absurd q
 
-    fine-all : (ss : Stmts) (sc : Scope) (live : List Site) (w : ℕ) → Among (sc .variables) live → SequentialAll ss → WellAll sc ss → LaidAll placed w ss
+    fine-all : (ss : Stmts) (sc : Scope) (live : List Site) (w : ℕ) → Among (sc .variables) live → SequentialAll ss → WellAll sc ss
+        → LaidAll placed w ss
         → firstDeepAll ss ≡ none → mostNeed ss ≤ w → FineAll (wordOf p) live w ss
     fine-all noStmt sc live w sub q h l d n = tt
     fine-all (stmt s ss) sc live w sub q h l d n =
-        let s-ss = deep-stmt s ss d in
-        (fine s sc live w sub (q .0) (h .0) (l .0) (s-ss .0) (omega arith), fine-all ss sc live w sub (q .1) (h .1) (l .1) (s-ss .1) (omega arith))
+        let s-ss = deep-stmt s ss d in (
+          fine s sc live w sub (q .0) (h .0) (l .0) (s-ss .0) (omega arith),
+          fine-all ss sc live w sub (q .1) (h .1) (l .1) (s-ss .1)
+              (omega arith),
+        )
 
     fine-pairs : (ps : Pairs) (sc : Scope) (live : List Site) (w : ℕ) → Among (sc .variables) live → SequentialPairs ps → WellPairs sc ps
         → LaidPairs placed w ps → firstDeepPairs ps ≡ none → pairNeed ps ≤ w → FinePairs (wordOf p) live w ps
@@ -221,8 +229,11 @@ module _ (p : Program) (q : ℕ) (memory : List ℕ) (well : WellProgram p) (sma
       let near : whole-code ≤ whole-code + placeOf (scheme p) 0 = omega arith in
       let near-end : whole-code ≤ whole-code + whole-code = omega arith in
       let values : (x : Site) → List·Memᴰ x [] → σ x < 2 ^ 32 = λ x m. absurd (List·Memᴰ·not-nil m) in
-      settle L (worldOf (fresh u) (cleared u memory)) (record { setup-kept = refl; no-fault = refl; room = cleared-long u memory room }) refl refl refl (sym (L .realises .begins)) refl (omega arith)
-      (enters (setting p base-small) σ (p .body) (seg-whole (scheme p)) fine-body c-end near values (arrives (setting p base-small) σ c-end near-end values))
+      settle L (worldOf (fresh u) (cleared u memory))
+      (record { setup-kept = refl; no-fault = refl; room = cleared-long u memory room }) refl refl refl (sym (L .realises .begins)) refl
+      (omega arith)
+      (enters (setting p base-small) σ (p .body) (seg-whole (scheme p)) fine-body c-end near values
+      (arrives (setting p base-small) σ c-end near-end values))
       (record { same = λ x m. absurd (List·Memᴰ·not-nil m); words = values; inside = λ x m. absurd (List·Memᴰ·not-nil m) })
       (sole-enter (p .body) [] (resume []) (sole-resume [])) near
 
@@ -231,11 +242,13 @@ module _ (p : Program) (q : ℕ) (memory : List ℕ) (well : WellProgram p) (sma
   unfolding initial
   faithful room = by (starts room)
     where
-      by : Settled L (worldOf (fresh u) (cleared u memory)) (begin (p .body) []) (λ x. 0) nobody → Faithful p (codeOf p) (fresh u) (cleared u memory)
+      by : Settled L (worldOf (fresh u) (cleared u memory)) (begin (p .body) []) (λ x. 0) nobody
+          → Faithful p (codeOf p) (fresh u) (cleared u memory)
       by (settled {q = r} {m = n} g moves inv) =
           let named : (x : Site) → wordOf p x ≡ wordOf p x = λ x. refl in
           let s : Sim L p named nobody alone (fresh u) (cleared u memory) = sim r (λ x. 0) n inv in
-          let first = follows L p named nobody {talk = []} [] (quietly (fresh u) (cleared u memory)) refl (sym (append-nil (cleared u memory))) refl refl moves inv in
+          let first = follows L p named nobody {talk = []} [] (quietly (fresh u) (cleared u memory)) refl
+          (sym (append-nil (cleared u memory))) refl refl moves inv in
           record {
             run = λ cs. g ∷ run-from L p named nobody alone cs (fresh u) (cleared u memory) s;
             grows = λ cs c.
@@ -258,7 +271,8 @@ pub record OneProcess (p : Program) : Type 0 where
   pub no-outputs : p .outputs ≡ 0
   pub sequential : Sequential (p .body)
 
-begun-faithful : (p : Program) (q : ℕ) (memory code : List ℕ) (s : After StartAnswer) → code ≡ codeOf p → WellProgram p → memoryWords p ≤ 4096
+begun-faithful : (p : Program) (q : ℕ) (memory code : List ℕ) (s : After StartAnswer) → code ≡ codeOf p → WellProgram p
+    → memoryWords p ≤ 4096
     → length code ≤ 16384 → Fine (wordOf p) [] (base p) (p .body) → (p .inputs ≡ 0) × (p .outputs ≡ 0)
     → Begun code memory (record { code = length code; base = base p; inputs = p .inputs; outputs = p .outputs; slice = q }) s
     → Faithful p code (s .machine) (s .memory)
@@ -266,12 +280,14 @@ begun-faithful p q memory code s same well small short body alone (begun room em
     rw (em, er, same) (faithful p q memory well small (rw same at short) body alone room)
 
 -- demand 3 for every table that is such a program
-pub one-process : (table : List ℕ) → ((room : ℕ) (p : Program) (code : List ℕ) → compile table room ≡ compiled p code → OneProcess p) → Demand3 table
+pub one-process : (table : List ℕ) → ((room : ℕ) (p : Program) (code : List ℕ) → compile table room ≡ compiled p code → OneProcess p)
+    → Demand3 table
 one-process table h room q memory p code s e b a =
     let one = h room p code e in
     let (accepted, same, small, short) = compile-accepts table room p code e in
     let (well, places) = read-well table p (accept-reads table p accepted) in
     let laid = program-laid 0 (length table) (base p) (p .body) places in
-    let body = fine p (p .body) (outermost p) [] (base p) (λ x m. m) (one .sequential) (well .2) laid (accept-passed table p accepted .1) (omega arith) in
+    let body = fine p (p .body) (outermost p) [] (base p) (λ x m. m) (one .sequential) (well .2) laid (accept-passed table p accepted .1)
+    (omega arith) in
     begun-faithful p q memory code s same well small short body (one .no-inputs, one .no-outputs)
     (start-begun code memory (base p) (p .inputs) (p .outputs) q s b a)

@@ -3,10 +3,14 @@ use Prim.Native.Nat.{ℕ, zero, suc, _+_, _-_, _*_}
 use native.Mathlib.Omega.{arith}
 use mathlib.Core.Path.{_≡_, refl}
 use lib.ListN.{length, length-append}
-use Rattle.model.specs.Syntax.{Site, Operator, PLUS, MINUS, TIMES, GT, EQ, AND, OR, XOR, Expr, constant, variable, NOT, binary, Stmt, SKIP, STOP, assign, input, output, VAR, CHAN, SEQ, PAR, IF, WHILE, ALT, Stmts, noStmt, stmt, Pairs, noPair, pair, Guards, noGuard, inputGuard, skipGuard}
+use Rattle.model.specs.Syntax.{Site, Operator, PLUS, MINUS, TIMES, GT, EQ, AND, OR, XOR, Expr, constant, variable, NOT, binary, Stmt}
+use Rattle.model.specs.Syntax.{SKIP, STOP, assign, input, output, VAR, CHAN, SEQ, PAR, IF, WHILE, ALT, Stmts, noStmt, stmt, Pairs}
+use Rattle.model.specs.Syntax.{noPair, pair, Guards, noGuard, inputGuard, skipGuard}
 use Rattle.model.specs.Counts.{need}
 use Rattle.model.specs.Instruction.{Instruction}
-use Rattle.model.specs.Scheme.{operatorCode, operatorSize, initialise, exprSize, howMany, size, sizeAll, sizePar, sizeEnds, sizePairs, sizeEnable, sizeDisable, sizeBranches, exprCode, code, codeAll, codePar, codeStarts, codeEnds, codePairs, codeEnable, codeDisable, codeBranches}
+use Rattle.model.specs.Scheme.{operatorCode, operatorSize, initialise, exprSize, howMany, size, sizeAll, sizePar, sizeEnds, sizePairs}
+use Rattle.model.specs.Scheme.{sizeEnable, sizeDisable, sizeBranches, exprCode, code, codeAll, codePar, codeStarts, codeEnds}
+use Rattle.model.specs.Scheme.{codePairs, codeEnable, codeDisable, codeBranches}
 
 pub operator-length : (op : Operator) → length (operatorCode op) ≡ operatorSize op
 unfolding operatorCode operatorSize

@@ -18,7 +18,8 @@ use Rattle.model.specs.Code.{Realises, functionIn, operandIn}
 use Rattle.model.specs.Machine.{World, done, withCpu, gathering, goto, next, memorySize}
 use Rattle.model.specs.Execute.{execute, push, pop}
 use Rattle.model.specs.Run.{byte, land, ended, waits}
-use Rattle.model.specs.Occam.{Store, value, Frame, inVar, Process, before, atStop, finished, framesOf, State, resume, begin, go, store, zeros}
+use Rattle.model.specs.Occam.{Store, value, Frame, inVar, Process, before, atStop, finished, framesOf, State, resume, begin, go}
+use Rattle.model.specs.Occam.{store, zeros}
 use Rattle.model.specs.Demand.{Segment, liveIn}
 use Rattle.model.specs.declared.Cpu.{Cpu}
 use Rattle.model.specs.declared.Setup.{Setup}
@@ -29,7 +30,8 @@ use Rattle.model.proofs.Way.{Regs, regsOf, load, Quiet, pushing, Mem, W
 use Rattle.model.proofs.Points.{Setting, whole, At, Cont, Point, Skips, Comes, comes, getElem-inside}
 use Rattle.model.proofs.Arrive.{inside, up, rises-le, live-words}
 use Rattle.model.proofs.Comes.{arrives, enters}
-use Rattle.model.proofs.Effects.{cpuOf, sizeOf, stored, again, exec-ldl, exec-stl, exec-cj-jumps, exec-cj-goes-on, exec-stopp, exec-j, exec-j-sliced}
+use Rattle.model.proofs.Effects.{cpuOf, sizeOf, stored, again, exec-ldl, exec-stl, exec-cj-jumps, exec-cj-goes-on, exec-stopp}
+use Rattle.model.proofs.Effects.{exec-j, exec-j-sliced}
 use Rattle.model.proofs.Moves.{Moves, m-none, m-step, root-step, Skipped, skipped, skip-moves, Sole, sole-skips}
 
 -- a program's code in a machine: it realises the scheme, the machine uses it whole, and the words are in the machine's memory
@@ -73,7 +75,8 @@ module _ (L : Loaded) where
         → Here i (cpuOf s .place) (cpuOf s .operand)
         → Way (S .xs) (S .off) (S .word) (S .top) (Point S p σ) (p ≡ finished) σ (liveIn (framesOf p)) hi (memOf s) i (regsOf (cpuOf s))
         → Holds s (liveIn (framesOf p)) σ → Sole p → hi ≤ n + cpuOf s .place → n ≤ whole S → Inv s p σ n
-    stopped : {k : List Frame} {σ : Store} {n : ℕ} → Sane s → cpuOf s .running ≡ false → Holds s (liveIn k) σ → n ≤ whole S → Inv s (atStop k) σ n
+    stopped : {k : List Frame} {σ : Store} {n : ℕ} → Sane s → cpuOf s .running ≡ false → Holds s (liveIn k) σ → n ≤ whole S
+        → Inv s (atStop k) σ n
 
   -- what a byte comes to: the world after it, the moves that it stands for, and fewer bytes left unless there were steps
   pub data Went (s : World) (p : Process) (σ : Store) (o : ℕ → Option ℕ) (n : ℕ) : Type 0 where
@@ -109,7 +112,8 @@ module _ (L : Loaded) where
 
   pub data Settled (t : World) (p : Process) (σ : Store) (o : ℕ → Option ℕ) : Type 0 where
     settled : {q : Process} {m : ℕ} (g : Segment)
-        → Moves (record { process = p; store = σ; offers = o }) g (record { process = q; store = σ; offers = o }) → Inv t q σ m → Settled t p σ o
+        → Moves (record { process = p; store = σ; offers = o }) g (record { process = q; store = σ; offers = o }) → Inv t q σ m
+        → Settled t p σ o
 
   -- where the code leads to a process's next significant instruction, the invariant holds again, after steps without code
   pub settle : {hi i w : ℕ} {live : List Site} {p : Process} {σ : Store} {o : ℕ → Option ℕ} (t : World) → Sane t → cpuOf t .running ≡ true
@@ -141,7 +145,8 @@ module _ (L : Loaded) where
 
   -- a path of the process p from the instruction k
   abbrev pub Leads : (p : Process) (σ : Store) (hi : ℕ) (t : World) (k : ℕ) → Type 0
-  Leads p σ hi t k = Way (S .xs) (S .off) (S .word) (S .top) (Point S p σ) (p ≡ finished) σ (liveIn (framesOf p)) hi (memOf t) k (regsOf (cpuOf t))
+  Leads p σ hi t k = Way (S .xs) (S .off) (S .word) (S .top) (Point S p σ) (p ≡ finished) σ (liveIn (framesOf p)) hi (memOf t) k
+      (regsOf (cpuOf t))
 
   -- the process that has the processor is at the last byte of the instruction i
   pub record Final (s : World) (p : Process) (σ : Store) (hi i n : ℕ) (x : Instruction) : Type 0 where
@@ -177,7 +182,8 @@ module _ (L : Loaded) where
     -- an instruction that brings no step
     pub pass : {y : Instruction} (t : World) (k hi′ : ℕ) → At S i y → execute (functionIn y) (operandIn (S .off) y) (ready s) ≡ done tt t
         → Sane t → cpuOf t .running ≡ true → cpuOf t .queued ≡ false → cpuOf t .operand ≡ 0 → cpuOf t .place ≡ S .off k → k ≤ length (S .xs)
-        → t .talk ≡ s .talk → Leads p σ hi′ t k → Holds t (liveIn (framesOf p)) σ → hi′ + S .off (suc i) ≤ hi + S .off k → S .off (suc i) ≤ hi
+        → t .talk ≡ s .talk → Leads p σ hi′ t k → Holds t (liveIn (framesOf p)) σ → hi′ + S .off (suc i) ≤ hi + S .off k
+        → S .off (suc i) ≤ hi
         → Went s p σ o n
     pass t k hi′ e ex ok r q op pl h talk way holds′ reach b =
         let less-left : hi′ ≤ n - 1 + cpuOf t .place = omega (arith, F .placed, F .left) in
@@ -199,7 +205,8 @@ module _ (L : Loaded) where
     pub in-memory : (a : ℕ) → a < S .top → a < sizeOf s
     in-memory a h = omega (arith, L .words-in, ap memorySize (F .sane .setup-kept))
 
-    pub pass-loads : {m : ℕ} (y : Site) → At S i (plain I.ldl m) → low (cpuOf s .workspace + m) ≡ S .word y → List·Memᴰ y (liveIn (framesOf p))
+    pub pass-loads : {m : ℕ} (y : Site) → At S i (plain I.ldl m) → low (cpuOf s .workspace + m) ≡ S .word y
+        → List·Memᴰ y (liveIn (framesOf p))
         → Way (S .xs) (S .off) (S .word) (S .top) (Point S p σ) (p ≡ finished) σ (liveIn (framesOf p)) hi (memOf s) (suc i) (pushing (σ y) (regsOf (cpuOf s)))
         → S .off (suc i) ≤ hi → Went s p σ o n
     unfolding functionIn operandIn
@@ -216,7 +223,8 @@ module _ (L : Loaded) where
         (reached (S .off (suc i)) (S .off t) (omega (arith, off-small (suc i) (inside S (F .at)), L .code-small))
         (omega (arith, off-small t h, L .code-small)))
 
-    pub pass-falls : {t : ℕ} → At S i (distance I.cj t i) → cpuOf s .a ≡ 0 → t ≤ length (S .xs) → S .off (suc i) ≤ S .off t → Leads p σ hi s t
+    pub pass-falls : {t : ℕ} → At S i (distance I.cj t i) → cpuOf s .a ≡ 0 → t ≤ length (S .xs) → S .off (suc i) ≤ S .off t
+        → Leads p σ hi s t
         → S .off (suc i) ≤ hi → Went s p σ o n
     unfolding functionIn operandIn
     pass-falls {t} e z h f way b =
@@ -232,10 +240,16 @@ module _ (L : Loaded) where
     pub holds-other : {live : List Site} {τ : Store} (r : Cpu) (a v : ℕ) → ((y : Site) → List·Memᴰ y live → S .word y ≢ a) → Holds s live τ
         → Holds (withCpu r (stored a v s)) live τ
     holds-other r a v other h =
-        record { same = λ y l. h .same y l ∙ sym (getD-set-other (s .memory) a (S .word y) v 0 (other y l)); words = h .words; inside = h .inside }
+        record {
+          same = λ y l. h .same y l ∙ sym
+              (getD-set-other (s .memory) a (S .word y) v 0 (other y l));
+          words = h .words;
+          inside = h .inside;
+        }
 
     pub pass-jumps : {t hi′ : ℕ} → At S i (distance I.j t i) → 2 ≤ cpuOf s .workspace → cpuOf s .workspace ≤ S .top
-        → ((y : Site) → List·Memᴰ y (liveIn (framesOf p)) → cpuOf s .workspace ≤ S .word y) → hi′ + S .off (suc i) ≤ hi + S .off t → t ≤ length (S .xs)
+        → ((y : Site) → List·Memᴰ y (liveIn (framesOf p)) → cpuOf s .workspace ≤ S .word y) → hi′ + S .off (suc i) ≤ hi + S .off t
+        → t ≤ length (S .xs)
         → ((μ : Mem) (r : Regs) → r .w ≡ cpuOf s .workspace
         → Way (S .xs) (S .off) (S .word) (S .top) (Point S p σ) (p ≡ finished) σ (liveIn (framesOf p)) hi′ μ t r)
         → S .off (suc i) ≤ hi → Went s p σ o n

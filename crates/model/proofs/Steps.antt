@@ -22,7 +22,8 @@ use Rattle.model.specs.Code.{functionIn, operandIn}
 use Rattle.model.specs.Machine.{World, done, withCpu, goto, running, next, memorySize}
 use Rattle.model.specs.Execute.{execute, pop}
 use Rattle.model.specs.Run.{byte, land}
-use Rattle.model.specs.Occam.{Store, value, isTrue, store, zeros, Frame, inVar, inWhile, Process, before, atStop, framesOf, State, resume, begin, enter, go, firstTrue}
+use Rattle.model.specs.Occam.{Store, value, isTrue, store, zeros, Frame, inVar, inWhile, Process, before, atStop, framesOf, State}
+use Rattle.model.specs.Occam.{resume, begin, enter, go, firstTrue}
 use Rattle.model.specs.Demand.{Segment, step, liveIn}
 use Rattle.model.specs.declared.Cpu.{Cpu}
 use Rattle.model.proofs.Cases.{never, by-bool}
@@ -30,11 +31,14 @@ use Rattle.model.proofs.Sites.{same-refl, same-eq, isIn-mem, mem-isIn}
 use Rattle.model.proofs.Way.{Regs, regsOf, pushing, Mem, Way, arrived, quiet, quiet-ldc}
 use Rattle.model.proofs.Expr.{Seg, seg-length}
 use Rattle.model.proofs.Points.{Setting, whole, At, Fine, Cont, c-var, Opening, Point, pt-init, Comes}
-use Rattle.model.proofs.Arrive.{inside, up, rises-le, live-words, live-distinct, cont-inside, cont-low, cont-bound, Named, named, named-in}
+use Rattle.model.proofs.Arrive.{inside, up, rises-le, live-words, live-distinct, cont-inside, cont-low, cont-bound, Named, named}
+use Rattle.model.proofs.Arrive.{named-in}
 use Rattle.model.proofs.Comes.{arrives, enters, Valued}
 use Rattle.model.proofs.Effects.{cpuOf, sizeOf, stored, exec-stl, exec-cj-jumps, exec-cj-goes-on, exec-stopp}
 use Rattle.model.proofs.Moves.{Moves, m-none, m-step, root-step, Sole, sole-resume, sole-enter}
-use Rattle.model.proofs.Slice.{Loaded, memOf, Sane, Holds, Inv, going, stopped, Went, went, Settled, settled, settle, ready, Final, sane-same, holds-same, landed, ahead, in-memory, target, sane-stored, holds-other, pass, off-small, instruction-is}
+use Rattle.model.proofs.Slice.{Loaded, memOf, Sane, Holds, Inv, going, stopped, Went, went, Settled, settled, settle, ready, Final}
+use Rattle.model.proofs.Slice.{sane-same, holds-same, landed, ahead, in-memory, target, sane-stored, holds-other, pass, off-small}
+use Rattle.model.proofs.Slice.{instruction-is}
 
 module _ (L : Loaded) where
   abbrev S : Setting
@@ -54,13 +58,15 @@ stored-value σ y v h z k = by-bool (same z y) (λ e. rw e h) (λ e. rw e k)
 module _ (L : Loaded) {s : World} {σ : Store} {hi i n : ℕ} {x : Instruction} (o : ℕ → Option ℕ) where
   -- the instruction is the step that begins the statement
   steps-to : {d : Stmt} {k : List Frame} {y : Instruction} (F : Final L s (before d k) σ hi i n x) (t : World) → At (S L) i y
-      → execute (functionIn y) (operandIn (S L .off) y) (ready L s) ≡ done tt t → cpuOf t .running ≡ true → cpuOf t .place ≤ length (L .code)
+      → execute (functionIn y) (operandIn (S L .off) y) (ready L s) ≡ done tt t → cpuOf t .running ≡ true
+      → cpuOf t .place ≤ length (L .code)
       → t .machine .setup ≡ L .setup → t .talk ≡ s .talk → Settled L t (go d k σ .process) (go d k σ .store) o → Went L s (before d k) σ o n
   steps-to {d} {k} F t e ex r h u talk (settled g m inv) =
       went t (step [] _ ∷ g) (landed L F o t e ex r h u) talk (m-step (root-step d k σ o) m) inv (inr (λ z. never (cc)))
 
   -- STL: the assignment
-  pub step-assign : {y : Site} {e : Whole} {k : List Frame} {m h : ℕ} (F : Final L s (before (assign y e) k) σ hi i n x) → At (S L) i (plain I.stl m)
+  pub step-assign : {y : Site} {e : Whole} {k : List Frame} {m h : ℕ} (F : Final L s (before (assign y e) k) σ hi i n x)
+      → At (S L) i (plain I.stl m)
       → low (cpuOf s .workspace + m) ≡ S L .word y → List·Memᴰ y (liveIn k) → cpuOf s .a ≡ value σ e → value σ e < 2 ^ 32
       → Cont (S L) h k (suc i) (cpuOf s .workspace) → h ≤ whole (S L) + S L .off i → Went L s (before (assign y e) k) σ o n
   unfolding functionIn operandIn go
@@ -75,9 +81,12 @@ module _ (L : Loaded) {s : World} {σ : Store} {hi i n : ℕ} {x : Instruction} 
       (arrives (S L) (store y (value σ e) σ) c near-on vals)
       (record { same = now-same; words = vals; inside = F .holds .inside }) (sole-resume k) near-on)
     where
-      now-same : (z : Site) → List·Memᴰ z (liveIn k) → store y (value σ e) σ z ≡ getD (set (s .memory) (S L .word y) (cpuOf s .a)) (S L .word z) 0
+      now-same : (z : Site) → List·Memᴰ z (liveIn k)
+          → store y (value σ e) σ z ≡ getD (set (s .memory) (S L .word y) (cpuOf s .a)) (S L .word z) 0
       now-same z q = by-bool (same z y)
-          (λ d. rw d (sym v ∙ sym (getD-set-same (s .memory) (S L .word y) (cpuOf s .a) 0 (omega (arith, F .holds .inside y l, L .words-in, F .sane .room)))
+          (λ d. rw d
+          (sym v ∙ sym
+          (getD-set-same (s .memory) (S L .word y) (cpuOf s .a) 0 (omega (arith, F .holds .inside y l, L .words-in, F .sane .room)))
           ∙ ap (λ u. getD (set (s .memory) (S L .word y) (cpuOf s .a)) (S L .word u) 0) (sym (same-eq z y d))))
           (λ d. rw d (F .holds .same z q ∙ sym (getD-set-other (s .memory) (S L .word y) (S L .word z) (cpuOf s .a) 0
           (λ u. never (cc (d, same-refl z, ap (same z) (live-distinct (S L) c z y q l u)))))))
@@ -87,14 +96,18 @@ module _ (L : Loaded) {s : World} {σ : Store} {hi i n : ℕ} {x : Instruction} 
     vals z q = F .holds .words z q
 
     -- CJ with a true condition: on to what stands behind it, in the same store
-    goes-on : {t h : ℕ} {live : List Site} {p : Process} → At (S L) i (distance I.cj t i) → cpuOf s .a ≢ 0 → go d k σ .process ≡ p → go d k σ .store ≡ σ
+    goes-on : {t h : ℕ} {live : List Site} {p : Process} → At (S L) i (distance I.cj t i) → cpuOf s .a ≢ 0 → go d k σ .process ≡ p
+        → go d k σ .store ≡ σ
         → Comes (S L) h live p σ (suc i) (cpuOf s .workspace) → Holds L s live σ → Sole p → h ≤ whole (S L) + S L .off (suc i)
         → Went L s (before d k) σ o n
     unfolding functionIn operandIn
     goes-on a v ep es c hold sole near =
-        steps-to F (popped L s) a (exec-cj-goes-on _ (ready L s) v) (F .run) (omega (arith, ahead L F o, off-small L (suc i) (inside (S L) a)))
+        steps-to F (popped L s) a (exec-cj-goes-on _ (ready L s) v) (F .run)
+        (omega (arith, ahead L F o, off-small L (suc i) (inside (S L) a)))
         (F .sane .setup-kept) refl
-        (rw (ep, es) (settle L (popped L s) (sane-same L _ (F .sane)) (F .run) (F .que) refl (ahead L F o) refl (inside (S L) a) c (holds-same L _ hold) sole near))
+        (rw (ep, es)
+        (settle L (popped L s) (sane-same L _ (F .sane)) (F .run) (F .que) refl (ahead L F o) refl (inside (S L) a) c
+        (holds-same L _ hold) sole near))
 
     -- CJ with a false condition: a jump, in the same store
     goes-to : {t h : ℕ} {live : List Site} {p : Process} → At (S L) i (distance I.cj t i) → t ≤ length (S L .xs) → cpuOf s .a ≡ 0
@@ -104,9 +117,12 @@ module _ (L : Loaded) {s : World} {σ : Store} {hi i n : ℕ} {x : Instruction} 
     goes-to {t} a le v ep es c hold sole near =
         steps-to F (jumped L s i t) a (exec-cj-jumps _ (ready L s) v) (F .run) (omega (arith, target L F o t le, off-small L t le))
         (F .sane .setup-kept) refl
-        (rw (ep, es) (settle L (jumped L s i t) (sane-same L _ (F .sane)) (F .run) (F .que) refl (target L F o t le) refl le c (holds-same L _ hold) sole near))
+        (rw (ep, es)
+        (settle L (jumped L s i t) (sane-same L _ (F .sane)) (F .run) (F .que) refl (target L F o t le) refl le c
+        (holds-same L _ hold) sole near))
 
-  pub step-taken : {ps : Pairs} (d : Stmt) {k : List Frame} {t m h : ℕ} (F : Final L s (before (IF ps) k) σ hi i n x) → At (S L) i (distance I.cj t i)
+  pub step-taken : {ps : Pairs} (d : Stmt) {k : List Frame} {t m h : ℕ} (F : Final L s (before (IF ps) k) σ hi i n x)
+      → At (S L) i (distance I.cj t i)
       → cpuOf s .a ≢ 0 → firstTrue σ ps k ≡ begin d k → Seg (S L .xs) (suc i) (code (S L .word) (cpuOf s .workspace) (suc i) d) m
       → Fine (S L .word) (liveIn k) (cpuOf s .workspace) d → Cont (S L) h k m (cpuOf s .workspace) → h ≤ whole (S L) + S L .off i
       → Went L s (before (IF ps) k) σ o n
@@ -137,14 +153,16 @@ module _ (L : Loaded) {s : World} {σ : Store} {hi i n : ℕ} {x : Instruction} 
       let near-end : h′ ≤ whole (S L) + S L .off m =
       omega (arith, rises-le (S L) (suc i) m (omega (arith, seg-length g)) (cont-inside (S L) c′)) in
       by-bool (eqb (value σ e) 0)
-      (λ z. goes-to F a (cont-inside (S L) c) (v ∙ eqb-true _ _ z) (rw z) refl (arrives (S L) σ c near-on (vals F)) (F .holds) (sole-resume k) near-on)
+      (λ z. goes-to F a (cont-inside (S L) c) (v ∙ eqb-true _ _ z) (rw z) refl (arrives (S L) σ c near-on (vals F)) (F .holds)
+      (sole-resume k) near-on)
       (λ z. goes-on F a (λ q. eqb-false _ _ z (sym v ∙ q)) (rw z) refl
       (enters (S L) σ d g f c′ near′ (vals F) (arrives (S L) σ c′ near-end (vals F))) (F .holds)
       (sole-enter d (inWhile e d ∷ k) (resume (inWhile e d ∷ k)) (sole-resume (inWhile e d ∷ k))) near′)
 
   -- STOPP: coming to STOP. The processor is free and nobody is queued
   pub step-stop : {k : List Frame} (F : Final L s (before STOP k) σ hi i n x) → At (S L) i (operation I.stopp) → 2 ≤ cpuOf s .workspace
-      → cpuOf s .workspace ≤ S L .top → ((y : Site) → List·Memᴰ y (liveIn k) → cpuOf s .workspace ≤ S L .word y) → Went L s (before STOP k) σ o n
+      → cpuOf s .workspace ≤ S L .top → ((y : Site) → List·Memᴰ y (liveIn k) → cpuOf s .workspace ≤ S L .word y)
+      → Went L s (before STOP k) σ o n
   unfolding functionIn operandIn go land
   step-stop {k} F a two low-w above =
       let w = cpuOf s .workspace in
@@ -208,10 +226,16 @@ module _ (L : Loaded) {s : World} {σ : Store} {hi i n : ℕ} {x : Instruction} 
         let at-load : At (S L) (suc i) (plain I.ldc 0) = rw again at (first .0) in
         let next-one : suc (suc i) ≡ suc (c + (suc j + suc j)) = omega arith in
         let here : S L .off (suc i) ≤ hi =
-        omega (arith, rises-le (S L) (suc i) (suc (suc (suc i))) (omega arith) (omega (arith, seg-length (op .body), cont-inside (S L) (op .after)))) in
-        pass L F o set-one (suc i) hi store-at executed (sane-stored L F o (pop (cpuOf (ready L s))) (w + j) (cpuOf s .a)) (F .run) (F .que) refl
+        omega (
+          arith,
+          rises-le (S L) (suc i) (suc (suc (suc i))) (omega arith)
+              (omega (arith, seg-length (op .body), cont-inside (S L) (op .after))),
+        ) in
+        pass L F o set-one (suc i) hi store-at executed (sane-stored L F o (pop (cpuOf (ready L s))) (w + j) (cpuOf s .a)) (F .run)
+        (F .que) refl
         (ahead L F o) (inside (S L) store-at) refl
-        (quiet (pushing 0) at-load (quiet-ldc 0) (arrived (pt-init op le more next-one refl zeroed-on) bound)) outer-holds (omega arith) here
+        (quiet (pushing 0) at-load (quiet-ldc 0) (arrived (pt-init op le more next-one refl zeroed-on) bound)) outer-holds
+        (omega arith) here
 
     -- the variables of this VAR stand in its words, and outer ones are no names of it
     fresh-value : (y : Site) → List·Memᴰ y (names p m) → suc j ≡ m → zeros (names p m) σ y ≡ memOf set-one (S L .word y)
@@ -253,7 +277,8 @@ module _ (L : Loaded) {s : World} {σ : Store} {hi i n : ℕ} {x : Instruction} 
         let on : Cont (S L) h (inVar (names p m) ∷ k) (op .close) w = c-var (op .closes) (op .sites) (op .after) in
         let hold = opened-holds last in
         let frames : List Frame = inVar (names p m) ∷ k in
-        steps-to F set-one store-at executed (F .run) (omega (arith, ahead L F o, off-small L (suc i) (inside (S L) store-at))) (F .sane .setup-kept) refl
+        steps-to F set-one store-at executed (F .run) (omega (arith, ahead L F o, off-small L (suc i) (inside (S L) store-at)))
+        (F .sane .setup-kept) refl
         (settle L set-one (sane-stored L F o (pop (cpuOf (ready L s))) (w + j) (cpuOf s .a)) (F .run) (F .que) refl (ahead L F o) refl
         (inside (S L) store-at)
         (enters (S L) τ d (rw body-at at (op .body)) (op .fine) on near-on (hold .words) (arrives (S L) τ on near-end (hold .words)))

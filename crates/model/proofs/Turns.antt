@@ -24,7 +24,8 @@ use Rattle.model.proofs.Points.{Setting, whole, At, Point, pt-stop, pt-
 use Rattle.model.proofs.Arrive.{inside, up, rises-le}
 use Rattle.model.proofs.Effects.{cpuOf}
 use Rattle.model.proofs.Moves.{m-none, stop-stuck, before-goes}
-use Rattle.model.proofs.Slice.{Loaded, memOf, Sane, Here, within, at-end, Holds, Inv, going, stopped, Went, went, ready, Final, sane-same, holds-same, pass-quiet, pass-loads, pass-falls, pass-jumps, off-small, code-end, S}
+use Rattle.model.proofs.Slice.{Loaded, memOf, Sane, Here, within, at-end, Holds, Inv, going, stopped, Went, went, ready, Final}
+use Rattle.model.proofs.Slice.{sane-same, holds-same, pass-quiet, pass-loads, pass-falls, pass-jumps, off-small, code-end, S}
 use Rattle.model.proofs.Steps.{step-assign, step-taken, step-none, step-while, step-stop, step-init}
 
 module _ (L : Loaded) where
@@ -99,7 +100,8 @@ module _ (L : Loaded) where
     point-step (pt-while a l v g f c near c′ near′) F = step-while L o F a l v g f c near c′ near′
 
     -- at the last byte of an instruction
-    way-step : {p : Process} → Way (S L .xs) (S L .off) (S L .word) (S L .top) (Point (S L) p σ) (p ≡ finished) σ (liveIn (framesOf p)) hi (memOf s) i (regsOf (cpuOf s))
+    way-step : {p : Process}
+        → Way (S L .xs) (S L .off) (S L .word) (S L .top) (Point (S L) p σ) (p ≡ finished) σ (liveIn (framesOf p)) hi (memOf s) i (regsOf (cpuOf s))
         → Final L s p σ hi i n x → Went L s p σ o n
     way-step (arrived pt b) F = point-step pt F
     way-step (through e b f) F = absurd (omega (arith, inside (S L) (F .at)))
@@ -113,7 +115,8 @@ module _ (L : Loaded) where
   code-is ok = ap (λ (v : Setup). v .code) (ok .setup-kept) ∙ L .code-whole
 
   -- a process that is going on takes a byte
-  pub byte-goes : {s : World} {p : Process} {σ : Store} {n : ℕ} (o : ℕ → Option ℕ) → Inv L s p σ n → ended (s .machine) ≡ false → waits (s .machine) ≡ false
+  pub byte-goes : {s : World} {p : Process} {σ : Store} {n : ℕ} (o : ℕ → Option ℕ) → Inv L s p σ n → ended (s .machine) ≡ false
+      → waits (s .machine) ≡ false
       → Went L s p σ o n
   byte-goes {s} {p} {σ} {n} o (going {hi} {i} sane run que (within {x} e st) way holds sole left few) no-end no-wait =
       let below : S L .off (suc i) ≤ length (L .code) = off-small L (suc i) (inside (S L) e) in

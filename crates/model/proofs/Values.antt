@@ -85,7 +85,8 @@ operate-word AND l r hl hr = and-lt 32 l r hl hr
 operate-word OR l r hl hr = or-lt 32 l r hl hr
 operate-word XOR l r hl hr = xor-lt 32 l r hl hr
 
-pub eval-word : {live : List Site} (σ : Store) → ((x : Site) → List·Memᴰ x live → σ x < 2 ^ 32) → (e : Expr) → FineExpr live e → eval σ e < 2 ^ 32
+pub eval-word : {live : List Site} (σ : Store) → ((x : Site) → List·Memᴰ x live → σ x < 2 ^ 32) → (e : Expr) → FineExpr live e
+    → eval σ e < 2 ^ 32
 unfolding eval deny
 eval-word σ h (constant n) f = f
 eval-word σ h (variable x) f = h x f

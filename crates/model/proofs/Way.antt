@@ -12,7 +12,8 @@ use lib.Bits.{bitAnd, bitOr, bitXor}
 use lib.Dec.{eqb}
 use Rattle.model.specs.Word.{low, less, truth}
 use Rattle.model.specs.Syntax.{Site}
-use Rattle.model.specs.Instruction.{Function, ldlp, ldc, ldl, cj, ajw, eqc, opr, Operation, functionCode, Instruction, plain, distance, operation, operationOf, operationCode, coded}
+use Rattle.model.specs.Instruction.{Function, ldlp, ldc, ldl, cj, ajw, eqc, opr, Operation, functionCode, Instruction, plain}
+use Rattle.model.specs.Instruction.{distance, operation, operationOf, operationCode, coded}
 use Rattle.model.specs.Instruction as I
 use Rattle.model.specs.Machine.{World, done, withCpu, stack, work}
 use Rattle.model.specs.Execute.{execute, operate, above}
@@ -102,16 +103,19 @@ module _ (xs : List Instruction) (off : ℕ → ℕ) (word : Site → ℕ) (top 
     through : {hi : ℕ} {μ : Mem} {i : ℕ} {r : Regs} → i ≡ length xs → off i ≤ hi → End → Way Point End σ live hi μ i r
     quiet : {hi : ℕ} {μ : Mem} {i o : ℕ} {r : Regs} {f : Function} (g : Regs → Regs) → getElem? xs i ≡ some (plain f o) → Quiet f o g
         → Way Point End σ live hi μ (suc i) (g r) → Way Point End σ live hi μ i r
-    loads : {hi : ℕ} {μ : Mem} {i o : ℕ} {r : Regs} (x : Site) → getElem? xs i ≡ some (plain ldl o) → low (r .w + o) ≡ word x → List·Memᴰ x live
+    loads : {hi : ℕ} {μ : Mem} {i o : ℕ} {r : Regs} (x : Site) → getElem? xs i ≡ some (plain ldl o) → low (r .w + o) ≡ word x
+        → List·Memᴰ x live
         → Way Point End σ live hi μ (suc i) (pushing (σ x) r) → Way Point End σ live hi μ i r
     jumps : {hi : ℕ} {μ : Mem} {i t hi′ : ℕ} {r : Regs} → getElem? xs i ≡ some (distance I.j t i) → t ≤ length xs → 2 ≤ r .w
         → r .w ≤ top → ((x : Site) → List·Memᴰ x live → r .w ≤ word x) → hi′ + off (suc i) ≤ hi + off t
         → ((μ′ : Mem) (r′ : Regs) → r′ .w ≡ r .w → Way Point End σ live hi′ μ′ t r′) → Way Point End σ live hi μ i r
-    falls : {hi : ℕ} {μ : Mem} {i t : ℕ} {r : Regs} → getElem? xs i ≡ some (distance cj t i) → t ≤ length xs → r .a ≡ 0 → off (suc i) ≤ off t
+    falls : {hi : ℕ} {μ : Mem} {i t : ℕ} {r : Regs} → getElem? xs i ≡ some (distance cj t i) → t ≤ length xs → r .a ≡ 0
+        → off (suc i) ≤ off t
         → Way Point End σ live hi μ t r → Way Point End σ live hi μ i r
 
   -- a path stays under a change of other variables and of words that its significant instruction does not look at
-  pub way-stable : {P Q : ℕ → Mem → ℕ → Regs → Type 0} {E : Type 0} {σ σ′ : Store} {live : List Site} {hi : ℕ} {μ μ′ : Mem} {i : ℕ} {r : Regs}
+  pub way-stable : {P Q : ℕ → Mem → ℕ → Regs
+      → Type 0} {E : Type 0} {σ σ′ : Store} {live : List Site} {hi : ℕ} {μ μ′ : Mem} {i : ℕ} {r : Regs}
       → ((x : Site) → List·Memᴰ x live → σ x ≡ σ′ x) → ((h : ℕ) (ν : Mem) (i : ℕ) (r : Regs) → P h ν i r → Q h ν i r)
       → ((h i : ℕ) (r : Regs) → P h μ i r → Q h μ′ i r) → Way P E σ live hi μ i r → Way Q E σ′ live hi μ′ i r
   way-stable h k l (arrived p b) = arrived (l _ _ _ p) b

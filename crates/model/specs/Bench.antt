@@ -1,4 +1,7 @@
 -- What the bench program prints for a table (01, "The bench program"), as ASCII bytes.
+use Prim.Native.Char.{code}
+use Prim.Native.String as Text
+use Prim.Native.String.{String}
 use Prim.Native.Nat.{ℕ, zero, suc, _+_, _-_, _*_, _/_, _%_, _^_}
 use mathlib.Core.Bool.{Bool, true, false, cond}
 use mathlib.Core.List.{List, [], _∷_, _++_}
@@ -20,11 +23,10 @@ use Rattle.model.specs.declared.RunAnswer.the-variants.{Ran, Short}
 use Rattle.model.specs.declared.TakeAnswer.{TakeAnswer}
 use Rattle.model.specs.declared.TakeAnswer.the-variants.{Taken, Nothing, Short as TakeShort, Fault as TakeFault, NoChannel}
 
-abbrev space : ℕ
-space = 32
-
-abbrev newline : List ℕ
-newline = 10 ∷ []
+-- a text's bytes
+unfoldable pub ascii : String → List ℕ
+ascii Text.[] = []
+ascii (Text._∷_ c s) = code c ∷ ascii s
 
 -- at most so many decimal digits of a number
 unfoldable pub digits : ℕ → ℕ → List ℕ
@@ -44,37 +46,23 @@ hexDigit n = cond (ltb n 10) (48 + n) (87 + n)
 -- each byte behind a space, as two hexadecimal digits
 unfoldable pub hex : List ℕ → List ℕ
 hex [] = []
-hex (b ∷ bytes) = space ∷ hexDigit (b / 16) ∷ hexDigit (b % 16) ∷ hex bytes
+hex (b ∷ bytes) = 32 ∷ hexDigit (b / 16) ∷ hexDigit (b % 16) ∷ hex bytes
 
--- "bytes N", "words N", "code ..", "refused N at P", "out K V"
-abbrev bytesLine : ℕ → List ℕ
-bytesLine n = 98 ∷ 121 ∷ 116 ∷ 101 ∷ 115 ∷ space ∷ decimal n ++ newline
+abbrev newline : List ℕ
+newline = 10 ∷ []
 
-abbrev wordsLine : ℕ → List ℕ
-wordsLine n = 119 ∷ 111 ∷ 114 ∷ 100 ∷ 115 ∷ space ∷ decimal n ++ newline
+-- a word and a number, on a line of its own: "bytes N", "words N", "ended N", "waiting N", "spent N", "fault N"
+abbrev line : String → ℕ → List ℕ
+line s n = ascii s ++ decimal n ++ newline
 
 abbrev codeLine : List ℕ → List ℕ
-codeLine code = 99 ∷ 111 ∷ 100 ∷ 101 ∷ hex code ++ newline
+codeLine l = ascii "code" ++ hex l ++ newline
 
 abbrev refusedLine : ℕ → ℕ → List ℕ
-refusedLine n p =
-    114 ∷ 101 ∷ 102 ∷ 117 ∷ 115 ∷ 101 ∷ 100 ∷ space ∷ decimal n ++ space ∷ 97 ∷ 116 ∷ space ∷ decimal p ++ newline
+refusedLine n p = ascii "refused " ++ decimal n ++ ascii " at " ++ decimal p ++ newline
 
 abbrev outLine : ℕ → ℕ → List ℕ
-outLine k v = 111 ∷ 117 ∷ 116 ∷ space ∷ decimal k ++ space ∷ signedDecimal (signed v) ++ newline
-
--- "ended N", "waiting N", "spent N", "fault N"
-abbrev endedLine : ℕ → List ℕ
-endedLine n = 101 ∷ 110 ∷ 100 ∷ 101 ∷ 100 ∷ space ∷ decimal n ++ newline
-
-abbrev waitingLine : ℕ → List ℕ
-waitingLine n = 119 ∷ 97 ∷ 105 ∷ 116 ∷ 105 ∷ 110 ∷ 103 ∷ space ∷ decimal n ++ newline
-
-abbrev spentLine : ℕ → List ℕ
-spentLine n = 115 ∷ 112 ∷ 101 ∷ 110 ∷ 116 ∷ space ∷ decimal n ++ newline
-
-abbrev faultLine : ℕ → List ℕ
-faultLine n = 102 ∷ 97 ∷ 117 ∷ 108 ∷ 116 ∷ space ∷ decimal n ++ newline
+outLine k v = ascii "out " ++ decimal k ++ ascii " " ++ signedDecimal (signed v) ++ newline
 
 -- what takes gave: the lines, and the machine and memory after them
 pub record Takes : Type 0 where
@@ -110,35 +98,35 @@ benchSlice = 32
 abbrev onTakes : Takes → ℕ → (Machine → List ℕ → List ℕ) → List ℕ
 onTakes t total more =
     let rest = more (t .machine) (t .memory) in
-    elim (t .lines) [ [] ↦ waitingLine total | x ∷ xs ↦ t .lines ++ rest ]
+    elim (t .lines) [ [] ↦ line "waiting " total | x ∷ xs ↦ t .lines ++ rest ]
 
 abbrev onRun : After RunAnswer → (outputs total : ℕ) → (ℕ → Machine → List ℕ → List ℕ) → List ℕ
 onRun r outs total more =
     elim (r .answer) [
       | Ran o ↦ elim o [
-        | Ended n ↦ endedLine (total + n)
+        | Ended n ↦ line "ended " (total + n)
         | Waiting n ↦ onTakes (takes outs 0 (r .machine) (r .memory)) (total + n) (more (total + n))
-        | Spent n ↦ spentLine (total + n)
-        | Fault n k ↦ faultLine (total + n)
+        | Spent n ↦ line "spent " (total + n)
+        | Fault n k ↦ line "fault " (total + n)
       ]
       | Short n ↦ []
     ]
 
 -- runs and takes, at most so many rounds of them, after `total` instructions. Each round but the last takes from a process,
 -- which then executes an instruction, so there are fewer rounds than instructions and one more
-unfoldable pub rounds : (fuel : ℕ) (code : List ℕ) (outputs total : ℕ) → Machine → List ℕ → List ℕ
-rounds zero code outs total m memory = []
-rounds (suc f) code outs total m memory =
-    onRun (run m code memory (benchBudget - total)) outs total (λ n m2 memory2. rounds f code outs n m2 memory2)
+unfoldable pub rounds : (fuel : ℕ) (program : List ℕ) (outputs total : ℕ) → Machine → List ℕ → List ℕ
+rounds zero prog outs total m memory = []
+rounds (suc f) prog outs total m memory =
+    onRun (run m prog memory (benchBudget - total)) outs total (λ n m2 memory2. rounds f prog outs n m2 memory2)
 
 abbrev ofStart : Program → List ℕ → List ℕ
-ofStart p code =
-    let s = start code (replicate (memoryWords p) 0) (base p) (p .inputs) (p .outputs) benchSlice in
-    bytesLine (length code) ++ wordsLine (memoryWords p) ++ codeLine code
-    ++ rounds (2 + benchBudget) code (p .outputs) 0 (s .machine) (s .memory)
+ofStart p bytes =
+    let s = start bytes (replicate (memoryWords p) 0) (base p) (p .inputs) (p .outputs) benchSlice in
+    line "bytes " (length bytes) ++ line "words " (memoryWords p) ++ codeLine bytes
+    ++ rounds (2 + benchBudget) bytes (p .outputs) 0 (s .machine) (s .memory)
 
 abbrev ofCompilation : Compilation → List ℕ
-ofCompilation (compiled p code) = ofStart p code
+ofCompilation (compiled p bytes) = ofStart p bytes
 ofCompilation (refused n r) = refusedLine n r
 
 -- the bench program's output for a table

@@ -51,7 +51,8 @@ pub record Realises (code : List ℕ) (xs : List Instruction) (off : ℕ → ℕ
   pub begins : off 0 ≡ 0
   pub ends : off (length xs) ≡ length code
   pub each : (i : ℕ) (x : Instruction) → getElem? xs i ≡ some x
-      → decode 0 (slice (off i) (off (suc i)) code) ≡ some (record { function = functionCode (functionIn x); operand = operandIn off x; rest = [] })
+      → decode 0 (slice (off i) (off (suc i)) code)
+      ≡ some (record { function = functionCode (functionIn x); operand = operandIn off x; rest = [] })
 
 -- what compiling a table for a code buffer of some length gives: the program and its code, or a refusal's number and what it returns
 pub data Compilation : Type 0 where

@@ -3,7 +3,9 @@ use Prim.Native.Nat.{ℕ, suc, _+_, max}
 use mathlib.Core.Bool.{Bool, true, false, cond}
 use mathlib.Core.Option.{Option, none, some}
 use lib.Dec.{leb}
-use Rattle.model.specs.Syntax.{Site, Operator, Expr, constant, variable, NOT, binary, Whole, Stmt, SKIP, STOP, assign, input, output, VAR, CHAN, SEQ, PAR, IF, WHILE, ALT, Stmts, noStmt, stmt, Pairs, noPair, pair, Guards, noGuard, inputGuard, skipGuard}
+use Rattle.model.specs.Syntax.{Site, Operator, Expr, constant, variable, NOT, binary, Whole, Stmt, SKIP, STOP, assign, input, output}
+use Rattle.model.specs.Syntax.{VAR, CHAN, SEQ, PAR, IF, WHILE, ALT, Stmts, noStmt, stmt, Pairs, noPair, pair, Guards, noGuard}
+use Rattle.model.specs.Syntax.{inputGuard, skipGuard}
 use Rattle.model.specs.Usage.{orElse}
 
 -- constant or variable 1, NOT as its operand, an operator the larger of left and 1 + right

@@ -11,7 +11,8 @@ use Rattle.model.specs.Layout.{base, wordOf}
 use Rattle.model.specs.Code.{Compilation, compiled, compile}
 use Rattle.model.specs.Machine.{Talk}
 use Rattle.model.specs.Run.{After, start, ended, waits}
-use Rattle.model.specs.Occam.{Frame, inSeq, inVar, inWhile, Process, finished, framesOf, look, State, Communication, Step, Event, Outside, initial, Stuck}
+use Rattle.model.specs.Occam.{Frame, inSeq, inVar, inWhile, Process, finished, framesOf, look, State, Communication, Step, Event}
+use Rattle.model.specs.Occam.{Outside, initial, Stuck}
 use Rattle.model.specs.History.{Call, Moment, quietly, history}
 use Rattle.model.specs.declared.Machine.{Machine}
 use Rattle.model.specs.declared.Kept.the-variants.{Nothing}

@@ -8,8 +8,11 @@ use lib.ListN.{getD, set}
 use lib.Bits.{bitAnd, bitOr, bitXor}
 use lib.Dec.{ltb, eqb}
 use Rattle.model.specs.Word.{low, less, truth, notProcess}
-use Rattle.model.specs.Instruction.{Function, j, ldlp, ldc, ldl, cj, ajw, eqc, stl, opr, Operation, rev, endp, diff, «in», prod, gt, startp, outword, stopp, ldpi, disc, diss, xor, mint, alt, altwt, altend, and, enbc, enbs, or, sum, operationOf}
-use Rattle.model.specs.Machine.{World, Act, _>>=_, _>>_, return, fault, withOffers, registers, setRegisters, setup, communicate, stack, goto, work, running, peek, poke, testPlace, resumeWord, stateWord, release, join, isHeld, done}
+use Rattle.model.specs.Instruction.{Function, j, ldlp, ldc, ldl, cj, ajw, eqc, stl, opr, Operation, rev, endp, diff, «in», prod, gt}
+use Rattle.model.specs.Instruction.{startp, outword, stopp, ldpi, disc, diss, xor, mint, alt, altwt, altend, and, enbc, enbs, or, sum}
+use Rattle.model.specs.Instruction.{operationOf}
+use Rattle.model.specs.Machine.{World, Act, _>>=_, _>>_, return, fault, withOffers, registers, setRegisters, setup, communicate}
+use Rattle.model.specs.Machine.{stack, goto, work, running, peek, poke, testPlace, resumeWord, stateWord, release, join, isHeld, done}
 use Rattle.model.specs.declared.Cpu.{Cpu}
 use Rattle.model.specs.declared.FaultKind.the-variants.{Operation as BadOperation, Count}
 
@@ -103,8 +106,8 @@ dropOffer c s =
     done (getD (s .machine .offers) k 0) (withOffers (s .machine .offers) (set (s .machine .held) k false) s)
 
 -- the sender that waits at a channel's word gives its value, and is woken
-unfoldable pub receive : (channel sender : ℕ) → Act ℕ
-receive c p = do
+unfoldable pub receive : (sender : ℕ) → Act ℕ
+receive p = do
   m ← peek (stateWord p)
   peek m
 
@@ -127,7 +130,7 @@ inputWord = do
         p ← peek (r .b)
         cond (eqb p notProcess)
             (do waitAt (r .b) (r .c); release)
-            (do v ← receive (r .b) p; poke (r .c) v; received (r .b) p v))
+            (do v ← receive p; poke (r .c) v; received (r .b) p v))
 
 unfoldable pub inputMessage : Act (Unit {0})
 inputMessage = do

@@ -14,9 +14,11 @@ use Rattle.model.specs.declared.Machine.{Machine}
 use Rattle.model.specs.declared.Kept.{Kept}
 use Rattle.model.specs.declared.Kept.the-variants.{Nothing as NoFault, Fault as KeptFault}
 use Rattle.model.specs.declared.OfferAnswer.{OfferAnswer}
-use Rattle.model.specs.declared.OfferAnswer.the-variants.{Offered, Short as OfferShort, Fault as OfferFault, NoChannel as OfferNoChannel, Held}
+use Rattle.model.specs.declared.OfferAnswer.the-variants.{Offered, Short as OfferShort, Fault as OfferFault}
+use Rattle.model.specs.declared.OfferAnswer.the-variants.{NoChannel as OfferNoChannel, Held}
 use Rattle.model.specs.declared.TakeAnswer.{TakeAnswer}
-use Rattle.model.specs.declared.TakeAnswer.the-variants.{Taken, Nothing, Short as TakeShort, Fault as TakeFault, NoChannel as TakeNoChannel}
+use Rattle.model.specs.declared.TakeAnswer.the-variants.{Taken, Nothing, Short as TakeShort, Fault as TakeFault}
+use Rattle.model.specs.declared.TakeAnswer.the-variants.{NoChannel as TakeNoChannel}
 
 -- a call, with how many bytes of the code and words of the memory it lends
 pub data Call : Type 0 where
@@ -84,7 +86,8 @@ pub record Called : Type 0 where
 abbrev answered : {Answer : Type 0} → After Answer → (rest : List ℕ) → (Answer → List Event) → Called
 answered r rest said =
     record {
-      moments = record { instruction = false; machine = r .machine; memory = r .memory ++ rest; talk = r .talk; events = said (r .answer) } ∷ [];
+      moments = record { instruction = false; machine = r .machine; memory = r .memory ++ rest; talk = r .talk; events = said (r .answer) }
+          ∷ [];
       machine = r .machine;
       memory = r .memory ++ rest;
     }
@@ -94,7 +97,8 @@ call code (callRun codeLent lent budget) m memory =
     let r = run m (L.take codeLent code) (L.take lent memory) budget in
     let left = r .memory ++ drop lent memory in
     record {
-      moments = quietly m memory ∷ during m (L.take codeLent code) (L.take lent memory) (drop lent memory) budget ++ quietly (r .machine) left ∷ [];
+      moments = quietly m memory ∷ during m (L.take codeLent code) (L.take lent memory) (drop lent memory) budget ++ quietly
+          (r .machine) left ∷ [];
       machine = r .machine;
       memory = left;
     }

@@ -61,7 +61,8 @@ functions = j ∷ ldlp ∷ ldc ∷ ldl ∷ cj ∷ ajw ∷ eqc ∷ stl ∷ opr �
 
 abbrev pub operations : List Operation
 operations =
-    rev ∷ endp ∷ diff ∷ «in» ∷ prod ∷ gt ∷ startp ∷ outword ∷ stopp ∷ ldpi ∷ disc ∷ diss ∷ xor ∷ mint ∷ alt ∷ altwt ∷ altend ∷ and ∷ enbc ∷ enbs ∷ or ∷ sum ∷ []
+    rev ∷ endp ∷ diff ∷ «in» ∷ prod ∷ gt ∷ startp ∷ outword ∷ stopp ∷ ldpi ∷ disc ∷ diss ∷ xor ∷ mint ∷ alt ∷ altwt ∷ altend ∷ and ∷ enbc
+    ∷ enbs ∷ or ∷ sum ∷ []
 
 -- the first of a list that has a code
 unfoldable pub coded : {A : Type 0} → (A → ℕ) → ℕ → List A → Option A

@@ -11,6 +11,7 @@ pub mod Layout
 pub mod Scheme
 pub mod Code
 pub mod Machine
+pub mod Answers
 pub mod Execute
 pub mod Run
 pub mod Outside
@@ -18,3 +19,4 @@ pub mod Bench
 pub mod Occam
 pub mod History
 pub mod Demand
+pub mod Examples

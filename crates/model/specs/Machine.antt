@@ -47,25 +47,23 @@ return a s = done a s
 abbrev pub fault : {A : Type 0} → FaultKind → Act A
 fault k s = faults k
 
+-- a machine with the parts that calls change replaced
+abbrev pub machineWith : Cpu → List ℕ → List Bool → Kept → Machine → Machine
+machineWith r offers held fault m = record { cpu = r; setup = m .setup; offers = offers; held = held; fault = fault }
+
 -- the parts of the state, and new ones in their place
 abbrev pub withCpu : Cpu → World → World
 withCpu r s =
-    record {
-      machine = record { cpu = r; setup = s .machine .setup; offers = s .machine .offers; held = s .machine .held; fault = s .machine .fault };
-      memory = s .memory;
-      talk = s .talk;
-    }
+    let m = s .machine in
+    record { machine = machineWith r (m .offers) (m .held) (m .fault) m; memory = s .memory; talk = s .talk }
 
 abbrev pub withMemory : List ℕ → World → World
 withMemory l s = record { machine = s .machine; memory = l; talk = s .talk }
 
 abbrev pub withOffers : List ℕ → List Bool → World → World
 withOffers o h s =
-    record {
-      machine = record { cpu = s .machine .cpu; setup = s .machine .setup; offers = o; held = h; fault = s .machine .fault };
-      memory = s .memory;
-      talk = s .talk;
-    }
+    let m = s .machine in
+    record { machine = machineWith (m .cpu) o h (m .fault) m; memory = s .memory; talk = s .talk }
 
 abbrev pub registers : Act Cpu
 registers s = done (s .machine .cpu) s

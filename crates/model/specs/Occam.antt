@@ -8,7 +8,9 @@ use lib.Bits.{bitAnd, bitOr, bitXor}
 use lib.Dec.{eqb}
 use lib.Signed.{ltZ}
 use Rattle.model.specs.Word.{low, less, signed, truth}
-use Rattle.model.specs.Syntax.{Site, inputOf, outputOf, Operator, PLUS, MINUS, TIMES, GT, EQ, AND, OR, XOR, Expr, constant, variable, NOT, binary, Whole, Stmt, SKIP, STOP, assign, input, output, VAR, CHAN, SEQ, PAR, IF, WHILE, ALT, Stmts, noStmt, stmt, Pairs, noPair, pair, Guards, noGuard, inputGuard, skipGuard, Program}
+use Rattle.model.specs.Syntax.{Site, inputOf, outputOf, Operator, PLUS, MINUS, TIMES, GT, EQ, AND, OR, XOR, Expr, constant, variable}
+use Rattle.model.specs.Syntax.{NOT, binary, Whole, Stmt, SKIP, STOP, assign, input, output, VAR, CHAN, SEQ, PAR, IF, WHILE, ALT}
+use Rattle.model.specs.Syntax.{Stmts, noStmt, stmt, Pairs, noPair, pair, Guards, noGuard, inputGuard, skipGuard, Program}
 use Rattle.model.specs.Reader.{names}
 use Rattle.model.specs.Usage.{same, isIn}
 use Rattle.model.specs.declared.OfferAnswer.{OfferAnswer}
@@ -247,7 +249,12 @@ module _ (st : State) where
     communicates : (sender receiver : List ℕ) {c x : Site} {v : ℕ} {k l : List Frame} → look sender (st .process) ≡ some (atOutput c v k)
         → look receiver (st .process) ≡ some (atInput c x l)
         → Step (over-channel c v)
-        (record { process = put sender (resume k) (put receiver (resume l) (st .process)); store = store x v (st .store); offers = st .offers })
+        (record {
+          process = put sender (resume k) (put receiver (resume l) (st .process));
+          store = store x v
+              (st .store);
+          offers = st .offers;
+        })
     receives : (path : List ℕ) {n v : ℕ} {x : Site} {k : List Frame} → look path (st .process) ≡ some (atInput (inputOf n) x k)
         → st .offers n ≡ some v
         → Step (over-channel (inputOf n) v)

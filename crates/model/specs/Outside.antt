@@ -13,9 +13,11 @@ use Rattle.model.specs.declared.Machine.{Machine}
 use Rattle.model.specs.declared.Kept.{Kept}
 use Rattle.model.specs.declared.Kept.the-variants.{Nothing as NoFault, Fault as KeptFault}
 use Rattle.model.specs.declared.OfferAnswer.{OfferAnswer}
-use Rattle.model.specs.declared.OfferAnswer.the-variants.{Offered, Short as OfferShort, Fault as OfferFault, NoChannel as OfferNoChannel, Held}
+use Rattle.model.specs.declared.OfferAnswer.the-variants.{Offered, Short as OfferShort, Fault as OfferFault}
+use Rattle.model.specs.declared.OfferAnswer.the-variants.{NoChannel as OfferNoChannel, Held}
 use Rattle.model.specs.declared.TakeAnswer.{TakeAnswer}
-use Rattle.model.specs.declared.TakeAnswer.the-variants.{Taken, Nothing, Short as TakeShort, Fault as TakeFault, NoChannel as TakeNoChannel}
+use Rattle.model.specs.declared.TakeAnswer.the-variants.{Taken, Nothing, Short as TakeShort, Fault as TakeFault}
+use Rattle.model.specs.declared.TakeAnswer.the-variants.{NoChannel as TakeNoChannel}
 
 -- an offer is held for the outside input k
 abbrev pub hold : (k value : ℕ) → Act (Unit {0})
@@ -44,7 +46,7 @@ unfoldable pub looking : (k : ℕ) → Act (Option ℕ)
 looking k = do
   c ← outputWordOf k
   p ← peek c
-  cond (eqb p notProcess) (return none) (do v ← receive c p; return (some v))
+  cond (eqb p notProcess) (return none) (do v ← receive p; return (some v))
 
 abbrev taken : (k : ℕ) → Option ℕ → Act (Option ℕ)
 taken k none = return none

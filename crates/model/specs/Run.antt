@@ -8,7 +8,8 @@ use lib.Dec.{ltb, leb, eqb}
 use Rattle.model.specs.Word.{low, notProcess}
 use Rattle.model.specs.Instruction.{Function, pfixCode, nfixCode, functionOf}
 use Rattle.model.specs.Prefix.{gathered, pfixed, nfixed}
-use Rattle.model.specs.Machine.{Talk, World, Result, done, faults, Act, _>>=_, _>>_, return, fault, registers, setRegisters, setup, goto, gathering, counting, testPlace, memorySize}
+use Rattle.model.specs.Machine.{machineWith, Talk, World, Result, done, faults, Act, _>>=_, _>>_, return, fault, registers, setRegisters, setup}
+use Rattle.model.specs.Machine.{goto, gathering, counting, testPlace, memorySize}
 use Rattle.model.specs.Execute.{execute}
 use Rattle.model.specs.declared.Cpu.{Cpu}
 use Rattle.model.specs.declared.Setup.{Setup}
@@ -77,11 +78,8 @@ pub record Finish : Type 0 where
 -- a fault is kept; state and memory stay as they were before the byte
 abbrev pub keep : FaultKind → World → World
 keep k s =
-    record {
-      machine = record { cpu = s .machine .cpu; setup = s .machine .setup; offers = s .machine .offers; held = s .machine .held; fault = KeptFault k };
-      memory = s .memory;
-      talk = s .talk;
-    }
+    let m = s .machine in
+    record { machine = machineWith (m .cpu) (m .offers) (m .held) (KeptFault k) m; memory = s .memory; talk = s .talk }
 
 abbrev onward : Result (Unit {0}) → World → ℕ → (World → Finish) → Finish
 onward (done u t) s n more = more t
@@ -135,29 +133,33 @@ noOffers = replicate 8 0
 abbrev pub noneHeld : List Bool
 noneHeld = replicate 8 false
 
--- the machine with nothing in it, which a refused start gives back
-unfoldable pub blank : Machine
-blank =
+-- registers start as 0
+abbrev pub registersAt : (w : ℕ) (runs : Bool) → Cpu
+registersAt w runs =
     record {
-      cpu =
-          record { a = 0; b = 0; c = 0; operand = 0; place = 0; workspace = 0; count = 0; front = 0; back = 0; running = false; queued = false };
-      setup = record { code = 0; base = 0; inputs = 0; outputs = 0; slice = 0 };
-      offers = noOffers;
-      held = noneHeld;
-      fault = Nothing;
+      a = 0;
+      b = 0;
+      c = 0;
+      operand = 0;
+      place = 0;
+      workspace = w;
+      count = 0;
+      front = 0;
+      back = 0;
+      running = runs;
+      queued = false;
     }
 
--- registers start as 0; the process at W has the processor
+-- a machine that was started: the process at W has the processor
 unfoldable pub fresh : Setup → Machine
-fresh u =
-    record {
-      cpu =
-          record { a = 0; b = 0; c = 0; operand = 0; place = 0; workspace = u .base; count = 0; front = 0; back = 0; running = true; queued = false };
-      setup = u;
-      offers = noOffers;
-      held = noneHeld;
-      fault = Nothing;
-    }
+fresh u = record { cpu = registersAt (u .base) true; setup = u; offers = noOffers; held = noneHeld; fault = Nothing }
+
+abbrev pub noSetup : Setup
+noSetup = record { code = 0; base = 0; inputs = 0; outputs = 0; slice = 0 }
+
+-- the machine with nothing in it, which a refused start gives back
+unfoldable pub blank : Machine
+blank = record { cpu = registersAt 0 false; setup = noSetup; offers = noOffers; held = noneHeld; fault = Nothing }
 
 -- every needed word starts as 0, channels as NotProcess; later words stay
 unfoldable pub cleared : Setup → List ℕ → List ℕ

@@ -2,11 +2,14 @@
 use Prim.Native.Nat.{ℕ, zero, suc, _+_, _-_, _*_}
 use mathlib.Core.List.{List, [], _∷_, _++_}
 use Rattle.model.specs.Word.{less, minus}
-use Rattle.model.specs.Syntax.{Site, Operator, PLUS, MINUS, TIMES, GT, EQ, AND, OR, XOR, Expr, constant, variable, NOT, binary, Whole, Stmt, SKIP, STOP, assign, input, output, VAR, CHAN, SEQ, PAR, IF, WHILE, ALT, Stmts, noStmt, stmt, Pairs, noPair, pair, Guards, noGuard, inputGuard, skipGuard, Program}
+use Rattle.model.specs.Syntax.{Site, Operator, PLUS, MINUS, TIMES, GT, EQ, AND, OR, XOR, Expr, constant, variable, NOT, binary, Whole}
+use Rattle.model.specs.Syntax.{Stmt, SKIP, STOP, assign, input, output, VAR, CHAN, SEQ, PAR, IF, WHILE, ALT, Stmts, noStmt, stmt}
+use Rattle.model.specs.Syntax.{Pairs, noPair, pair, Guards, noGuard, inputGuard, skipGuard, Program}
 use Rattle.model.specs.Counts.{need}
 use Rattle.model.specs.Layout.{base, wordOf}
 use Rattle.model.specs.Instruction as I
-use Rattle.model.specs.Instruction.{Instruction, plain, distance, operation, ldlp, ldc, ldl, cj, ajw, eqc, stl, rev, endp, diff, «in», prod, startp, outword, stopp, ldpi, disc, diss, mint, altwt, altend, enbc, enbs}
+use Rattle.model.specs.Instruction.{Instruction, plain, distance, operation, ldlp, ldc, ldl, cj, ajw, eqc, stl, rev, endp, diff, «in»}
+use Rattle.model.specs.Instruction.{prod, startp, outword, stopp, ldpi, disc, diss, mint, altwt, altend, enbc, enbs}
 
 -- the operation of an operator; EQ is DIFF, EQC 0
 unfoldable pub operatorCode : Operator → List Instruction

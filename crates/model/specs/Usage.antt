@@ -5,7 +5,9 @@ use mathlib.Core.Bool.{Bool, true, false, cond, _&&_, _||_}
 use mathlib.Core.List.{List, [], _∷_, _++_}
 use mathlib.Core.Option.{Option, none, some}
 use lib.Dec.{eqb}
-use Rattle.model.specs.Syntax.{Site, inputOf, outputOf, declared, Operator, Expr, constant, variable, NOT, binary, Whole, Stmt, SKIP, STOP, assign, input, output, VAR, CHAN, SEQ, PAR, IF, WHILE, ALT, Stmts, noStmt, stmt, Pairs, noPair, pair, Guards, noGuard, inputGuard, skipGuard}
+use Rattle.model.specs.Syntax.{Site, inputOf, outputOf, declared, Operator, Expr, constant, variable, NOT, binary, Whole, Stmt, SKIP}
+use Rattle.model.specs.Syntax.{STOP, assign, input, output, VAR, CHAN, SEQ, PAR, IF, WHILE, ALT, Stmts, noStmt, stmt, Pairs, noPair}
+use Rattle.model.specs.Syntax.{pair, Guards, noGuard, inputGuard, skipGuard}
 
 -- what a part of the program does to names. Names that it declares itself are among them, and in no other part
 pub record Usage : Type 0 where

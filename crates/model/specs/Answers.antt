@@ -1,0 +1,93 @@
+-- 01's number and values for each case of the answers ("When a call is turned down"). The promises use these.
+use Prim.Native.Nat.{ℕ}
+use mathlib.Core.List.{List, [], _∷_}
+use mathlib.Core.Option.{Option, none, some}
+use Rattle.model.specs.declared.FaultKind.{FaultKind}
+use Rattle.model.specs.declared.FaultKind.the-variants.{Function, Operation, Count, Word, Place}
+use Rattle.model.specs.declared.Outcome.{Outcome}
+use Rattle.model.specs.declared.Outcome.the-variants.{Ended, Waiting, Spent, Fault as RunFault}
+use Rattle.model.specs.declared.RunAnswer.{RunAnswer}
+use Rattle.model.specs.declared.RunAnswer.the-variants.{Ran, Short as RunShort}
+use Rattle.model.specs.declared.StartAnswer.{StartAnswer}
+use Rattle.model.specs.declared.StartAnswer.the-variants.{Started, BadSlice, BadCount, TooLarge, Short as StartShort}
+use Rattle.model.specs.declared.OfferAnswer.{OfferAnswer}
+use Rattle.model.specs.declared.OfferAnswer.the-variants.{Offered, Short as OfferShort, Fault as OfferFault, NoChannel as OfferNoChannel, Held}
+use Rattle.model.specs.declared.TakeAnswer.{TakeAnswer}
+use Rattle.model.specs.declared.TakeAnswer.the-variants.{Taken, Nothing, Short as TakeShort, Fault as TakeFault, NoChannel as TakeNoChannel}
+use Rattle.model.specs.declared.Reading.{Reading}
+use Rattle.model.specs.declared.Reading.the-variants.{Accepted, Refused as Unread}
+use Rattle.model.specs.declared.Compiled.{Compiled}
+use Rattle.model.specs.declared.Compiled.the-variants.{Code, Refused as Uncompiled}
+
+-- a row of the table: the refusal's number and what is returned with it
+pub record Refusal : Type 0 where
+  pub number : ℕ
+  pub returned : List ℕ
+
+abbrev pub refusal : ℕ → List ℕ → Option Refusal
+refusal n l = some (record { number = n; returned = l })
+
+-- the number that goes with a fault's kind: the direct function, the operand of OPR, the count of IN, the word's address, the code place
+abbrev pub faultNumber : FaultKind → ℕ
+faultNumber (Function n) = n
+faultNumber (Operation n) = n
+faultNumber (Count n) = n
+faultNumber (Word n) = n
+faultNumber (Place n) = n
+
+-- the kinds in the order in which they are tested (01, "The machine"): function, operation, count, word, code place
+abbrev pub faultKind : FaultKind → ℕ
+faultKind (Function n) = 0
+faultKind (Operation n) = 1
+faultKind (Count n) = 2
+faultKind (Word n) = 3
+faultKind (Place n) = 4
+
+abbrev pub refusedFault : FaultKind → Option Refusal
+refusedFault k = refusal 12 (faultKind k ∷ faultNumber k ∷ [])
+
+-- the instructions executed
+abbrev pub instructionsOf : Outcome → ℕ
+instructionsOf (Ended n) = n
+instructionsOf (Waiting n) = n
+instructionsOf (Spent n) = n
+instructionsOf (RunFault n k) = n
+
+abbrev refusedOutcome : Outcome → Option Refusal
+refusedOutcome (Ended n) = none
+refusedOutcome (Waiting n) = none
+refusedOutcome (Spent n) = none
+refusedOutcome (RunFault n k) = refusedFault k
+
+abbrev pub refusedRun : RunAnswer → Option Refusal
+refusedRun (Ran o) = refusedOutcome o
+refusedRun (RunShort n) = refusal 11 (n ∷ [])
+
+abbrev pub refusedStart : StartAnswer → Option Refusal
+refusedStart Started = none
+refusedStart BadSlice = refusal 15 []
+refusedStart BadCount = refusal 3 (0 ∷ [])
+refusedStart TooLarge = refusal 10 (0 ∷ [])
+refusedStart (StartShort n) = refusal 11 (n ∷ [])
+
+abbrev pub refusedOffer : OfferAnswer → Option Refusal
+refusedOffer Offered = none
+refusedOffer (OfferShort n) = refusal 11 (n ∷ [])
+refusedOffer (OfferFault k) = refusedFault k
+refusedOffer OfferNoChannel = refusal 13 []
+refusedOffer Held = refusal 14 []
+
+abbrev pub refusedTake : TakeAnswer → Option Refusal
+refusedTake (Taken v) = none
+refusedTake Nothing = none
+refusedTake (TakeShort n) = refusal 11 (n ∷ [])
+refusedTake (TakeFault k) = refusedFault k
+refusedTake TakeNoChannel = refusal 13 []
+
+abbrev pub refusedReading : Reading → Option Refusal
+refusedReading (Accepted f) = none
+refusedReading (Unread n p) = refusal n (p ∷ [])
+
+abbrev pub refusedCompiling : Compiled → Option Refusal
+refusedCompiling (Code n) = none
+refusedCompiling (Uncompiled n r) = refusal n (r ∷ [])

@@ -1,0 +1,143 @@
+-- The proved examples of 01 as one statement about the definitions. proofs/Examples.antt proves each part by computation.
+-- Bytes are hexadecimal, the rest decimal. From GT on they are no longer 01's list: operators by Occam's rules and, as a program
+-- that outputs what they give, in the machine; and names of two scopes.
+use Prim.Native.Nat.{ℕ, zero, suc}
+use Prim.Native.String.{String, _++_}
+use mathlib.Core.Path.{_≡_}
+use mathlib.Core.List.{List, [], _∷_}
+use mathlib.Core.Option.{Option, none, some}
+use lib.IntN.{pos, negℤ}
+use Rattle.model.specs.Word.{minus, signed}
+use Rattle.model.specs.Syntax.{Site, PLUS, TIMES, GT, AND, XOR, NOT, constant, Whole, input, output, PAR, noStmt, stmt}
+use Rattle.model.specs.Reader.{refused}
+use Rattle.model.specs.Counts.{need}
+use Rattle.model.specs.Accept.{accept}
+use Rattle.model.specs.Instruction.{Function, j, ldc, ajw, functionCode}
+use Rattle.model.specs.Prefix.{withPrefixes, fewest, distancePrefixes, decode}
+use Rattle.model.specs.Code.{Compilation, compiled, refused as uncompiled, compile}
+use Rattle.model.specs.Occam.{operate, Store, eval}
+use Rattle.model.specs.Bench.{bench, ascii}
+
+-- an instruction with so many prefixes is these bytes, and they decode to it again
+abbrev Coded : (prefixes : ℕ) → Function → (operand : ℕ) → (bytes : List ℕ) → Type 0
+Coded k f n bytes =
+    (withPrefixes k f n ≡ bytes) × (decode 0 bytes ≡ some (record { function = functionCode f; operand = n; rest = [] }))
+
+-- the same with the shortest prefixes
+abbrev Shortest : Function → (operand : ℕ) → (bytes : List ℕ) → Type 0
+Shortest f n bytes = Coded (fewest n) f n bytes
+
+-- what the bench program prints for a table, in full
+abbrev Prints : (table : List ℕ) → String → Type 0
+Prints table s = bench table ≡ ascii s
+
+-- the code that a table compiles to, if it is not refused
+abbrev codeIn : Compilation → Option (List ℕ)
+codeIn (compiled p bytes) = some bytes
+codeIn (uncompiled n r) = none
+
+abbrev Compiles : (table bytes : List ℕ) → Type 0
+Compiles table bytes = codeIn (compile table 16384) ≡ some bytes
+
+-- a table is refused with a number, at a place
+abbrev Refused : (table : List ℕ) → (number place : ℕ) → Type 0
+Refused table n p = accept table ≡ refused n p
+
+-- so many SEQ of one part around the rest of a table, and so many NOT
+unfoldable pub inSeqs : ℕ → List ℕ → List ℕ
+inSeqs zero rest = rest
+inSeqs (suc n) rest = 0x07 ∷ 0x01 ∷ inSeqs n rest
+
+unfoldable pub inNots : ℕ → List ℕ → List ℕ
+inNots zero rest = rest
+inNots (suc n) rest = 0x02 ∷ inNots n rest
+
+-- a program that outputs an expression
+abbrev outputting : (expression : List ℕ) → List ℕ
+outputting e = 0x00 ∷ 0x01 ∷ 0x04 ∷ 0x00 ∷ e
+
+-- a program with four variables a, b, c, d that assigns an expression to a
+abbrev assigning : (expression : List ℕ) → List ℕ
+assigning e = 0x00 ∷ 0x00 ∷ 0x05 ∷ 0x04 ∷ 0x02 ∷ 0x00 ∷ e
+
+pub record Examples : Type 0 where
+  -- LDC 1876 is 27 25 44. LDC -31 is 61 41
+  pub ldc-1876 : Shortest ldc 1876 (0x27 ∷ 0x25 ∷ 0x44 ∷ [])
+  pub ldc-31-below : Shortest ldc (minus 31) (0x61 ∷ 0x41 ∷ [])
+  -- AJW -256 is 6F B0; AJW -257 is 61 2F BF
+  pub ajw-256-below : Shortest ajw (minus 256) (0x6f ∷ 0xb0 ∷ [])
+  pub ajw-257-below : Shortest ajw (minus 257) (0x61 ∷ 0x2f ∷ 0xbf ∷ [])
+  -- J -5 in four bytes is 60 2F 2F 0B
+  pub j-5-below : Coded distancePrefixes j (minus 5) (0x60 ∷ 0x2f ∷ 0x2f ∷ 0x0b ∷ [])
+  -- 2147483647 PLUS 1 is -2147483648. 1 AND 2 is 0
+  pub plus : signed (operate PLUS 2147483647 1) ≡ negℤ (pos 2147483648)
+  pub bits : operate AND 1 2 ≡ 0
+  -- PAR of an output and an input needs 9 words
+  pub words : (p : ℕ) (c d x : Site) (e : Whole) → need (PAR p (stmt (output c e) (stmt (input d x) noStmt))) ≡ 9
+  -- 00 00 07 00 has no code and ends after 0
+  pub no-code : Prints (0x00 ∷ 0x00 ∷ 0x07 ∷ 0x00 ∷ []) "bytes 0\nwords 2\ncode\nended 0\n"
+  -- 00 00 01 is 21 F5 and waits
+  pub stop : Prints (0x00 ∷ 0x00 ∷ 0x01 ∷ []) "bytes 2\nwords 2\ncode 21 f5\nwaiting 2\n"
+  -- 00 00 0A 00 01 00 is 41 20 20 20 A4 60 2F 2F 07
+  pub loop : Compiles (0x00 ∷ 0x00 ∷ 0x0a ∷ 0x00 ∷ 0x01 ∷ 0x00 ∷ [])
+      (0x41 ∷ 0x20 ∷ 0x20 ∷ 0x20 ∷ 0xa4 ∷ 0x60 ∷ 0x2f ∷ 0x2f ∷ 0x07 ∷ [])
+  -- the bench case
+  pub bench-case : Prints (0x00 ∷ 0x01 ∷ 0x04 ∷ 0x00 ∷ 0x00 ∷ 0x05 ∷ [])
+      "bytes 7\nwords 5\ncode 45 10 f0 60 bf ff b1\nout 0 5\nended 7\n"
+  -- 80 00 gets 2
+  pub long-number : Refused (0x80 ∷ 0x00 ∷ []) 2 0
+  -- depth 32 passes; depth 33 gets 4 at the inner part's first byte. Statements, then expressions
+  pub depth-32 : Compiles (0x00 ∷ 0x00 ∷ inSeqs 31 (0x00 ∷ [])) []
+  pub depth-33 : Refused (0x00 ∷ 0x00 ∷ inSeqs 32 (0x00 ∷ [])) 4 66
+  pub depth-32-of-nots : Prints (outputting (inNots 30 (0x00 ∷ 0x05 ∷ [])))
+      ("bytes 37\nwords 5\n"
+      ++ "code 45 c0 c0 c0 c0 c0 c0 c0 c0 c0 c0 c0 c0 c0 c0 c0 c0 c0 c0 c0 c0 c0 c0 c0 c0 c0 c0 c0 c0 c0 c0 10 f0 60 bf ff b1\n"
+      ++ "out 0 1\nended 37\n")
+  pub depth-33-of-nots : Refused (outputting (inNots 31 (0x00 ∷ 0x05 ∷ []))) 4 35
+  -- 00 00 00 00 gets 6 at 3
+  pub bytes-after : Refused (0x00 ∷ 0x00 ∷ 0x00 ∷ 0x00 ∷ []) 6 3
+  -- 00 00 05 01 08 02 02 00 00 01 02 00 00 02 gets 7 at 4
+  pub clash : Prints
+      (0x00 ∷ 0x00 ∷ 0x05 ∷ 0x01 ∷ 0x08 ∷ 0x02 ∷ 0x02 ∷ 0x00 ∷ 0x00 ∷ 0x01 ∷ 0x02 ∷ 0x00 ∷ 0x00 ∷ 0x02 ∷ [])
+      "refused 7 at 4\n"
+  -- a + (b + (c + d)) gets 8, ((a + b) + c) + d passes
+  pub right-sum : Refused
+      (assigning (0x03 ∷ 0x00 ∷ 0x01 ∷ 0x00 ∷ 0x03 ∷ 0x00 ∷ 0x01 ∷ 0x01 ∷ 0x03 ∷ 0x00 ∷ 0x01 ∷ 0x02 ∷ 0x01 ∷ 0x03 ∷ [])) 8 6
+  pub left-sum : Prints
+      (assigning (0x03 ∷ 0x00 ∷ 0x03 ∷ 0x00 ∷ 0x03 ∷ 0x00 ∷ 0x01 ∷ 0x00 ∷ 0x01 ∷ 0x01 ∷ 0x01 ∷ 0x02 ∷ 0x01 ∷ 0x03 ∷ []))
+      "bytes 22\nwords 6\ncode 60 bc 40 d0 40 d1 40 d2 40 d3 70 71 25 f2 72 25 f2 73 25 f2 d0 b4\nended 22\n"
+  -- GT compares signed words: -1 GT -2 is 1, -2 GT 1 is 0
+  pub gt-below : operate GT (minus 1) (minus 2) ≡ 1
+  pub gt-below-run : Prints
+      (outputting (0x03 ∷ 0x03 ∷ 0x00 ∷ 0xff ∷ 0xff ∷ 0xff ∷ 0xff ∷ 0x0f ∷ 0x00 ∷ 0xfe ∷ 0xff ∷ 0xff ∷ 0xff ∷ 0x0f ∷ []))
+      "bytes 11\nwords 5\ncode 60 4f 60 4e f9 10 f0 60 bf ff b1\nout 0 1\nended 11\n"
+  pub gt-across : operate GT (minus 2) 1 ≡ 0
+  pub gt-across-run : Prints (outputting (0x03 ∷ 0x03 ∷ 0x00 ∷ 0xfe ∷ 0xff ∷ 0xff ∷ 0xff ∷ 0x0f ∷ 0x00 ∷ 0x01 ∷ []))
+      "bytes 10\nwords 5\ncode 60 4e 41 f9 10 f0 60 bf ff b1\nout 0 0\nended 10\n"
+  -- PLUS and TIMES keep the low 32 bits: 2147483647 PLUS 1 in the machine, 65537 TIMES 65537 is 131073
+  pub plus-run : Prints (outputting (0x03 ∷ 0x00 ∷ 0x00 ∷ 0xff ∷ 0xff ∷ 0xff ∷ 0xff ∷ 0x07 ∷ 0x00 ∷ 0x01 ∷ []))
+      "bytes 17\nwords 5\ncode 27 2f 2f 2f 2f 2f 2f 4f 41 25 f2 10 f0 60 bf ff b1\nout 0 -2147483648\nended 17\n"
+  pub times : operate TIMES 65537 65537 ≡ 131073
+  pub times-run : Prints (outputting (0x03 ∷ 0x02 ∷ 0x00 ∷ 0x81 ∷ 0x80 ∷ 0x04 ∷ 0x00 ∷ 0x81 ∷ 0x80 ∷ 0x04 ∷ []))
+      "bytes 17\nwords 5\ncode 21 20 20 20 41 21 20 20 20 41 f8 10 f0 60 bf ff b1\nout 0 131073\nended 17\n"
+  -- AND and XOR work bit by bit: 1 AND 2 in the machine, 12 XOR 10 is 6
+  pub bits-run : Prints (outputting (0x03 ∷ 0x05 ∷ 0x00 ∷ 0x01 ∷ 0x00 ∷ 0x02 ∷ []))
+      "bytes 10\nwords 5\ncode 41 42 24 f6 10 f0 60 bf ff b1\nout 0 0\nended 10\n"
+  pub differing : operate XOR 12 10 ≡ 6
+  pub differing-run : Prints (outputting (0x03 ∷ 0x07 ∷ 0x00 ∷ 0x0c ∷ 0x00 ∷ 0x0a ∷ []))
+      "bytes 10\nwords 5\ncode 4c 4a 23 f3 10 f0 60 bf ff b1\nout 0 6\nended 10\n"
+  -- NOT gives 1 for 0, else 0: NOT 2 is 0, NOT 0 is 1
+  pub not-2 : (σ : Store) → eval σ (NOT (constant 2)) ≡ 0
+  pub not-2-run : Prints (outputting (0x02 ∷ 0x00 ∷ 0x02 ∷ []))
+      "bytes 8\nwords 5\ncode 42 c0 10 f0 60 bf ff b1\nout 0 0\nended 8\n"
+  pub not-0 : (σ : Store) → eval σ (NOT (constant 0)) ≡ 1
+  pub not-0-run : Prints (outputting (0x02 ∷ 0x00 ∷ 0x00 ∷ []))
+      "bytes 8\nwords 5\ncode 40 c0 10 f0 60 bf ff b1\nout 0 1\nended 8\n"
+  -- a VAR in a VAR: a := 7, then inside b := 9 and the outputs of a and of b, then after the inner VAR the output of a
+  pub scopes : Prints
+      (0x00 ∷ 0x01 ∷ 0x05 ∷ 0x01 ∷ 0x07 ∷ 0x03 ∷ 0x02 ∷ 0x00 ∷ 0x00 ∷ 0x07
+      ∷ 0x05 ∷ 0x01 ∷ 0x07 ∷ 0x03 ∷ 0x02 ∷ 0x01 ∷ 0x00 ∷ 0x09 ∷ 0x04 ∷ 0x00 ∷ 0x01 ∷ 0x00 ∷ 0x04 ∷ 0x00 ∷ 0x01 ∷ 0x01
+      ∷ 0x04 ∷ 0x00 ∷ 0x01 ∷ 0x00 ∷ [])
+      ("bytes 35\nwords 7\n"
+      ++ "code 60 bf 40 d0 47 d0 60 bf 40 d0 49 d0 71 12 f0 60 bf ff b1 70 12 f0 60 bf ff b1 b1 70 11 f0 60 bf ff b1 b1\n"
+      ++ "out 0 7\nout 0 9\nout 0 7\nended 35\n")
