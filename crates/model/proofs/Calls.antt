@@ -133,7 +133,8 @@ module _ (L : Loaded) (prog : Program) (named : (x : Site) → S L .word x ≡ w
         → Chain prog (whole (S L)) (quietly m memory ∷ dur ++ quietly m′ (part ++ rest) ∷ []) st gs (stateOf s) n (leftOf s)
         → RunEnd m memory rest st n dur m′ part
 
-  run-ends : {m : Machine} {memory : List ℕ} {p q : Process} {σ τ : Store} {n k : ℕ} {dur : List Moment} {gs : List Segment} (rest : List ℕ) (t : World)
+  run-ends : {m : Machine} {memory : List ℕ} {p q : Process} {σ τ : Store} {n k : ℕ} {dur : List Moment} {gs : List Segment}
+      (rest : List ℕ) (t : World)
       → Inv L (worldOf m memory) p σ n → Chain prog (whole (S L)) dur (state L prog named o p σ) gs (state L prog named o q τ) n k
       → Inv L t q τ k
       → RunEnd m memory rest (state L prog named o p σ) n dur (t .machine) (t .memory)
@@ -169,7 +170,8 @@ module _ (L : Loaded) (prog : Program) (named : (x : Site) → S L .word x ≡ w
     -- a run that is lent too little
     run-refused : (code part rest : List ℕ) (budget : ℕ) → part ++ rest ≡ memory
         → (ltb (length code) (m .setup .code) || shortMemory m part) ≡ true
-        → RunEnd m memory rest (state L prog named o p σ) n (during m code part rest budget) (run m code part budget .machine) (run m code part budget .memory)
+        → RunEnd m memory rest (state L prog named o p σ) n (during m code part rest budget)
+        (run m code part budget .machine) (run m code part budget .memory)
     run-refused code part rest budget e z =
         let (a, b) = run-short m code part budget z in
         let kept : Inv L (worldOf m (part ++ rest)) p σ n = subst (λ z. Inv L (worldOf m z) p σ n) (sym e) inv in
@@ -251,7 +253,8 @@ module _ (L : Loaded) (prog : Program) (named : (x : Site) → S L .word x ≡ w
   pub data Linked (ms : List Moment) (st : State) (gs : List Segment) (n : ℕ) : Type 0 where
     linked : {st′ : State} {k : ℕ} → Chain prog (whole (S L)) ms st gs st′ n k → Linked ms st gs n
 
-  link : {c : Call} {m : Machine} {memory : List ℕ} {st : State} {n : ℕ} {ms : List Moment} {gs : List Segment} (r : Simulated c m memory st n)
+  link : {c : Call} {m : Machine} {memory : List ℕ} {st : State} {n : ℕ} {ms : List Moment} {gs : List Segment}
+      (r : Simulated c m memory st n)
       → Linked ms (stateOf (nextOf r)) gs (leftOf (nextOf r)) → Linked (call (L .code) c m memory .moments ++ ms) st (segmentsOf r ++ gs) n
   link (simulated gs s c) (linked d) = linked (chain-append c d)
 

@@ -30,7 +30,8 @@ unfolding Word.signed Number.groups Number.number Reader.readNumber Reader.oneOf
     Code.prefixesOf Code.bytesIn Code.placeOf Code.functionIn Code.operandIn Code.encode Code.codeOf Code.fitting Code.compile
     Machine.peek Machine.poke Machine.testPlace Machine.resume Machine.release Machine.join Execute.loadLocal Execute.storeLocal
     Execute.stopProcess Execute.waitAt Execute.receive Execute.received Execute.outputWord Execute.operate Execute.execute Run.fetch
-    Run.act Run.land Run.byte Run.runFrom Run.run Run.fresh Run.cleared Run.start Outside.looking Outside.taking Outside.take Bench.digits
+    Run.act Run.land Run.byte Run.runFrom Run.run Run.fresh Run.cleared Run.start Outside.looking Outside.waking Outside.taking Outside.take
+    Bench.digits
     Bench.hex Bench.takes Bench.rounds Bench.bench Occam.operate Occam.deny Occam.eval Bench.ascii Examples.inSeqs Examples.inNots
 examples =
     record {

@@ -94,7 +94,8 @@ module _ (L : Loaded) (prog : Program) (named : (x : Site) → S L .word x ≡ w
   state p σ = record { process = p; store = σ; offers = o }
 
   -- moves without communications are a segment for a moment without any
-  pub follows : {m : Machine} {memory : List ℕ} {talk : List Talk} {p q : Process} {σ τ : Store} {n : ℕ} {g : Segment} (rest : List ℕ) (now : Moment)
+  pub follows : {m : Machine} {memory : List ℕ} {talk : List Talk} {p q : Process} {σ τ : Store} {n : ℕ} {g : Segment}
+      (rest : List ℕ) (now : Moment)
       → now .machine ≡ m → now .memory ≡ memory ++ rest → now .talk ≡ [] → now .events ≡ [] → Moves (state p σ) g (state q τ)
       → Inv L (world L m memory talk) q τ n → Follows prog now (state p σ) g
   follows rest now em er et ee moves inv =
@@ -159,7 +160,8 @@ module _ (L : Loaded) (prog : Program) (named : (x : Site) → S L .word x ≡ w
       let less′ : (m < n) ⊎ (0 < steps g) = ⊎-elim (λ a. inl a) (λ a. inr (moved-steps moves a)) less in
       elim (rec t q τ m quietly inv) [
         | ran {gs} {q = q′} {τ = τ′} {k} u c eq inv′ ↦
-            let on : Chain prog (whole (S L)) (bytes b (L .code) rest (worldOf (t .machine) (t .memory))) (state q τ) gs (state q′ τ′) m k = rw same c in
+            let on : Chain prog (whole (S L)) (bytes b (L .code) rest (worldOf (t .machine) (t .memory)))
+            (state q τ) gs (state q′ τ′) m k = rw same c in
             let all : Chain prog (whole (S L)) (bytes (suc b) (L .code) rest s) (state p σ) (g ∷ gs) (state q′ τ′) n k =
             rw (bytes-go b rest s t e w d) (chain-byte f (moves-reach moves) refl (inv-few L inv) less′ on) in
             ran u all (ap (λ r. r .world) (run-goes b n₀ s t e w d) ∙ eq) inv′

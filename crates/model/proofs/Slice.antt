@@ -193,7 +193,8 @@ module _ (L : Loaded) where
         (inl (omega (arith, F .placed, F .left)))
 
     pub pass-quiet : {h : Function} {m : ℕ} (g : Regs → Regs) → At S i (plain h m) → Quiet h m g
-        → Way (S .xs) (S .off) (S .word) (S .top) (Point S p σ) (p ≡ finished) σ (liveIn (framesOf p)) hi (memOf s) (suc i) (g (regsOf (cpuOf s)))
+        → Way (S .xs) (S .off) (S .word) (S .top) (Point S p σ) (p ≡ finished) σ (liveIn (framesOf p)) hi (memOf s) (suc i)
+        (g (regsOf (cpuOf s)))
         → S .off (suc i) ≤ hi → Went s p σ o n
     unfolding functionIn operandIn
     pass-quiet g e q way b =
@@ -207,7 +208,8 @@ module _ (L : Loaded) where
 
     pub pass-loads : {m : ℕ} (y : Site) → At S i (plain I.ldl m) → low (cpuOf s .workspace + m) ≡ S .word y
         → List·Memᴰ y (liveIn (framesOf p))
-        → Way (S .xs) (S .off) (S .word) (S .top) (Point S p σ) (p ≡ finished) σ (liveIn (framesOf p)) hi (memOf s) (suc i) (pushing (σ y) (regsOf (cpuOf s)))
+        → Way (S .xs) (S .off) (S .word) (S .top) (Point S p σ) (p ≡ finished) σ (liveIn (framesOf p)) hi (memOf s) (suc i)
+        (pushing (σ y) (regsOf (cpuOf s)))
         → S .off (suc i) ≤ hi → Went s p σ o n
     unfolding functionIn operandIn
     pass-loads {m} y e a l way b =

@@ -101,7 +101,8 @@ module _ (L : Loaded) where
 
     -- at the last byte of an instruction
     way-step : {p : Process}
-        → Way (S L .xs) (S L .off) (S L .word) (S L .top) (Point (S L) p σ) (p ≡ finished) σ (liveIn (framesOf p)) hi (memOf s) i (regsOf (cpuOf s))
+        → Way (S L .xs) (S L .off) (S L .word) (S L .top) (Point (S L) p σ) (p ≡ finished) σ (liveIn (framesOf p)) hi (memOf s) i
+        (regsOf (cpuOf s))
         → Final L s p σ hi i n x → Went L s p σ o n
     way-step (arrived pt b) F = point-step pt F
     way-step (through e b f) F = absurd (omega (arith, inside (S L) (F .at)))

@@ -15,24 +15,27 @@ use Rattle.model.specs.declared.Reading.the-variants.{Accepted, Refused}
 abbrev pub limit : ℕ
 limit = 64
 
+-- a refusal at the place found, if one was; else what is tested next
 abbrev refusedAt : ℕ → Option ℕ → Read → Read
 refusedAt n none r = r
 refusedAt n (some p) r = refused n p
 
--- 7 at the first PAR with a clash, 8 at the first expression too deep, 9 at place 0
+-- 7 at the first PAR with a clash, 8 at the first expression of over 3 registers, 9 at place 0; lowest first, whatever the places
 unfoldable pub checks : Program → Read
 checks p =
     let body = p .body in
     refusedAt 7 (firstClash body) (refusedAt 8 (firstDeep body) (cond (leb (processes body) limit) (program p) (refused 9 0)))
 
+-- 7 to 9 are tested after the whole table was read
 abbrev onRead : Read → Read
 onRead (program p) = checks p
 onRead (refused n p) = refused n p
 
+-- a table that passes refusals 1 to 9. 10 and 11 need the code: Code.antt has them
 unfoldable pub accept : List ℕ → Read
 accept table = onRead (readTable table)
 
--- memory words with outside channels
+-- memory words with outside channels, as refusal 10 and the bench program count them
 abbrev pub memoryWords : Program → ℕ
 memoryWords p = need (p .body) + p .inputs + p .outputs
 

@@ -33,13 +33,16 @@ unfoldable pub digits : ℕ → ℕ → List ℕ
 digits zero n = []
 digits (suc k) n = let more = digits k (n / 10) in cond (ltb n 10) [] more ++ (48 + n % 10) ∷ []
 
+-- a number in decimal
 abbrev pub decimal : ℕ → List ℕ
 decimal n = digits 20 n
 
+-- a signed value in decimal
 abbrev pub signedDecimal : ℤ → List ℕ
 signedDecimal (pos n) = decimal n
 signedDecimal (negsuc n) = 45 ∷ decimal (suc n)
 
+-- a hexadecimal digit, in small letters
 abbrev pub hexDigit : ℕ → ℕ
 hexDigit n = cond (ltb n 10) (48 + n) (87 + n)
 
@@ -48,6 +51,7 @@ unfoldable pub hex : List ℕ → List ℕ
 hex [] = []
 hex (b ∷ bytes) = 32 ∷ hexDigit (b / 16) ∷ hexDigit (b % 16) ∷ hex bytes
 
+-- the end of a line
 abbrev newline : List ℕ
 newline = 10 ∷ []
 
@@ -55,12 +59,15 @@ newline = 10 ∷ []
 abbrev line : String → ℕ → List ℕ
 line s n = ascii s ++ decimal n ++ newline
 
+-- "code" and the bytes; no code prints "code" alone
 abbrev codeLine : List ℕ → List ℕ
 codeLine l = ascii "code" ++ hex l ++ newline
 
+-- a refused table prints one line, as "refused 7 at 4"
 abbrev refusedLine : ℕ → ℕ → List ℕ
 refusedLine n p = ascii "refused " ++ decimal n ++ ascii " at " ++ decimal p ++ newline
 
+-- "out", the output's number and the signed value
 abbrev outLine : ℕ → ℕ → List ℕ
 outLine k v = ascii "out " ++ decimal k ++ ascii " " ++ signedDecimal (signed v) ++ newline
 
@@ -70,6 +77,7 @@ pub record Takes : Type 0 where
   pub machine : Machine
   pub memory : List ℕ
 
+-- the line of a take, if it had a sender
 abbrev tookOne : ℕ → TakeAnswer → List ℕ
 tookOne k (Taken v) = outLine k v
 tookOne k Nothing = []
@@ -77,6 +85,7 @@ tookOne k (TakeShort n) = []
 tookOne k (TakeFault f) = []
 tookOne k NoChannel = []
 
+-- one take, and the ones after it
 abbrev andTakes : ℕ → After TakeAnswer → (Machine → List ℕ → Takes) → Takes
 andTakes k t more =
     let rest = more (t .machine) (t .memory) in
@@ -87,10 +96,11 @@ unfoldable pub takes : (left k : ℕ) → Machine → List ℕ → Takes
 takes zero k m memory = record { lines = []; machine = m; memory = memory }
 takes (suc n) k m memory = andTakes k (take m memory k) (λ m2 memory2. takes n (suc k) m2 memory2)
 
--- the most instructions that the bench program runs, and its slice
+-- 01: it stops after 65,536 instructions
 abbrev pub benchBudget : ℕ
 benchBudget = 65536
 
+-- 01: starts it with q = 32
 abbrev pub benchSlice : ℕ
 benchSlice = 32
 
@@ -100,6 +110,7 @@ onTakes t total more =
     let rest = more (t .machine) (t .memory) in
     elim (t .lines) [ [] ↦ line "waiting " total | x ∷ xs ↦ t .lines ++ rest ]
 
+-- how a run stood, with all instructions so far; where the machine waits, the takes come first
 abbrev onRun : After RunAnswer → (outputs total : ℕ) → (ℕ → Machine → List ℕ → List ℕ) → List ℕ
 onRun r outs total more =
     elim (r .answer) [
@@ -112,19 +123,21 @@ onRun r outs total more =
       | Short n ↦ []
     ]
 
--- runs and takes, at most so many rounds of them, after `total` instructions. Each round but the last takes from a process,
--- which then executes an instruction, so there are fewer rounds than instructions and one more
+-- runs and takes, at most so many rounds of them, after `total` instructions. A round with takes wakes a process, so the next round
+-- executes an instruction or is the last: there is at most one round more than there are instructions
 unfoldable pub rounds : (fuel : ℕ) (program : List ℕ) (outputs total : ℕ) → Machine → List ℕ → List ℕ
 rounds zero prog outs total m memory = []
 rounds (suc f) prog outs total m memory =
     onRun (run m prog memory (benchBudget - total)) outs total (λ n m2 memory2. rounds f prog outs n m2 memory2)
 
+-- code length, memory words with channels, the code, then the outputs and how it stood
 abbrev ofStart : Program → List ℕ → List ℕ
 ofStart p bytes =
     let s = start bytes (replicate (memoryWords p) 0) (base p) (p .inputs) (p .outputs) benchSlice in
     line "bytes " (length bytes) ++ line "words " (memoryWords p) ++ codeLine bytes
     ++ rounds (2 + benchBudget) bytes (p .outputs) 0 (s .machine) (s .memory)
 
+-- an accepted table is started, a refused one prints its refusal
 abbrev ofCompilation : Compilation → List ℕ
 ofCompilation (compiled p bytes) = ofStart p bytes
 ofCompilation (refused n r) = refusedLine n r

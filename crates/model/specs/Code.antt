@@ -4,7 +4,7 @@ use mathlib.Core.Path.{_≡_}
 use mathlib.Core.Bool.{Bool, true, false, cond, _&&_}
 use mathlib.Core.List.{List, [], _∷_, _++_}
 use mathlib.Core.Option.{Option, none, some}
-use lib.ListN.{length, take, getElem?}
+use lib.ListN.{length, take, drop, getElem?}
 use lib.Seq.{slice}
 use lib.Dec.{leb}
 use Rattle.model.specs.Word.{less}
@@ -14,6 +14,8 @@ use Rattle.model.specs.Accept.{accept, memoryWords}
 use Rattle.model.specs.Instruction.{Function, functionCode, Instruction, plain, distance}
 use Rattle.model.specs.Prefix.{withPrefixes, fewest, distancePrefixes, Decoded, decode}
 use Rattle.model.specs.Scheme.{scheme}
+use Rattle.model.specs.declared.Compiled.{Compiled}
+use Rattle.model.specs.declared.Compiled.the-variants.{Code, Refused}
 
 -- code distances take exactly four bytes, other operands the shortest prefixes
 unfoldable pub prefixesOf : Instruction → ℕ
@@ -29,24 +31,27 @@ bytesIn (x ∷ xs) = suc (prefixesOf x) + bytesIn xs
 unfoldable pub placeOf : List Instruction → ℕ → ℕ
 placeOf xs i = bytesIn (take i xs)
 
+-- an instruction's direct function
 unfoldable pub functionIn : Instruction → Function
 functionIn (plain f n) = f
 functionIn (distance f r u) = f
 
--- an instruction's operand, where `off` gives each instruction its first byte: a distance counts from the byte after its user
+-- an instruction's operand, where `off` gives each instruction its first byte. 01: distances count from the byte after their user
 unfoldable pub operandIn : (ℕ → ℕ) → Instruction → ℕ
 operandIn off (plain f n) = n
 operandIn off (distance f reached user) = less (off reached) (off (suc user))
 
+-- the bytes of instructions
 unfoldable pub encode : (ℕ → ℕ) → List Instruction → List ℕ
 encode off [] = []
 encode off (x ∷ xs) = withPrefixes (prefixesOf x) (functionIn x) (operandIn off x) ++ encode off xs
 
--- the code of a program
+-- the code of a program: the scheme's bytes (demand 2)
 unfoldable pub codeOf : Program → List ℕ
 codeOf p = encode (placeOf (scheme p)) (scheme p)
 
--- code realises a list of instructions if `off` gives each its first byte and the bytes from there to the next one's decode to it
+-- demand 2: "decoded, it is the scheme's instruction list again". Code realises a list of instructions if `off` gives each its first byte
+-- and the bytes from there to the next one's decode to it
 pub record Realises (code : List ℕ) (xs : List Instruction) (off : ℕ → ℕ) : Type 0 where
   pub begins : off 0 ≡ 0
   pub ends : off (length xs) ≡ length code
@@ -59,16 +64,28 @@ pub data Compilation : Type 0 where
   compiled : Program → (code : List ℕ) → Compilation
   refused : (number returned : ℕ) → Compilation
 
--- over 4,096 words with outside channels, or over 16,384 code bytes: 10 at place 0; the buffer too short: 11 with the size needed
+-- over 4,096 words with outside channels, or over 16,384 code bytes: 10 at place 0; then the buffer too short: 11 with the size needed
 unfoldable pub fitting : (room : ℕ) → Program → List ℕ → Compilation
 fitting room p code =
     cond (leb (memoryWords p) 4096 && leb (length code) 16384)
     (cond (leb (length code) room) (compiled p code) (refused 11 (length code)))
     (refused 10 0)
 
+-- 10 and 11 are tested only where 1 to 9 pass
 abbrev ofRead : (room : ℕ) → Read → Compilation
 ofRead room (program p) = fitting room p (codeOf p)
 ofRead room (unread n at) = refused n at
 
+-- compiling a table into a lent code buffer with room for so many bytes: refusals 1 to 11, lowest first after reading
 unfoldable pub compile : (table : List ℕ) (room : ℕ) → Compilation
 compile table room = ofRead room (accept table)
+
+-- the entry's answer: the code's length, or 01's number and what it returns
+abbrev pub compiledAnswer : Compilation → Compiled
+compiledAnswer (compiled p code) = Code (length code)
+compiledAnswer (refused n r) = Refused n r
+
+-- the lent code buffer afterwards: the code in front and the rest as it was; on any refusal all of it as it was
+abbrev pub bufferAfter : Compilation → (buffer : List ℕ) → List ℕ
+bufferAfter (compiled p code) buffer = code ++ drop (length code) buffer
+bufferAfter (refused n r) buffer = buffer

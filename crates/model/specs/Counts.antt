@@ -8,17 +8,18 @@ use Rattle.model.specs.Syntax.{VAR, CHAN, SEQ, PAR, IF, WHILE, ALT, Stmt
 use Rattle.model.specs.Syntax.{inputGuard, skipGuard}
 use Rattle.model.specs.Usage.{orElse}
 
--- constant or variable 1, NOT as its operand, an operator the larger of left and 1 + right
+-- 01, registers: constant or variable 1, NOT as its operand, an operator the larger of left and 1 + right
 unfoldable pub registers : Expr → ℕ
 registers (constant n) = 1
 registers (variable x) = 1
 registers (NOT e) = registers e
 registers (binary op l r) = max (registers l) (1 + registers r)
 
+-- refusal 8: an expression needing over 3 registers, by its place
 abbrev over3 : Whole → Option ℕ
 over3 e = cond (leb (registers (e .expr)) 3) none (some (e .place))
 
--- the place of the first outermost expression that needs over 3 registers
+-- refusal 8: the place of the first outermost expression that needs over 3 registers
 unfoldable mutual
   pub firstDeep : Stmt → Option ℕ
   firstDeep SKIP = none
@@ -47,7 +48,7 @@ unfoldable mutual
   firstDeepGuards (inputGuard e c x s gs) = orElse (over3 e) (orElse (firstDeep s) (firstDeepGuards gs))
   firstDeepGuards (skipGuard e s gs) = orElse (over3 e) (orElse (firstDeep s) (firstDeepGuards gs))
 
--- live processes: PAR the sum, others the largest part, each at least 1
+-- 01, live processes: PAR the sum, others the largest part, each at least 1 (refusal 9)
 unfoldable mutual
   pub processes : Stmt → ℕ
   processes SKIP = 1
@@ -63,24 +64,29 @@ unfoldable mutual
   processes (WHILE e s) = processes s
   processes (ALT gs) = max 1 (guardProcesses gs)
 
+  -- SEQ: the largest part
   pub mostProcesses : Stmts → ℕ
   mostProcesses noStmt = 0
   mostProcesses (stmt s ss) = max (processes s) (mostProcesses ss)
 
+  -- PAR: the sum
   pub sumProcesses : Stmts → ℕ
   sumProcesses noStmt = 0
   sumProcesses (stmt s ss) = processes s + sumProcesses ss
 
+  -- IF: the largest part
   pub pairProcesses : Pairs → ℕ
   pairProcesses noPair = 0
   pairProcesses (pair e s ps) = max (processes s) (pairProcesses ps)
 
+  -- ALT: the largest part
   pub guardProcesses : Guards → ℕ
   guardProcesses noGuard = 0
   guardProcesses (inputGuard e c x s gs) = max (processes s) (guardProcesses gs)
   guardProcesses (skipGuard e s gs) = max (processes s) (guardProcesses gs)
 
--- words that a statement needs below its workspace pointer
+-- words that a statement needs below its workspace pointer. 01: SKIP, STOP, assignment 2; input 3; output 4; VAR or CHAN count + body;
+-- SEQ, IF, WHILE the most of the parts, at least 2; ALT likewise, at least 4; PAR 2 + the sum of branches
 unfoldable mutual
   pub need : Stmt → ℕ
   need SKIP = 2
@@ -96,18 +102,22 @@ unfoldable mutual
   need (WHILE e s) = max 2 (need s)
   need (ALT gs) = max 4 (guardNeed gs)
 
+  -- SEQ: the most of the parts
   pub mostNeed : Stmts → ℕ
   mostNeed noStmt = 0
   mostNeed (stmt s ss) = max (need s) (mostNeed ss)
 
+  -- PAR: the sum of branches
   pub sumNeed : Stmts → ℕ
   sumNeed noStmt = 0
   sumNeed (stmt s ss) = need s + sumNeed ss
 
+  -- IF: the most of the parts
   pub pairNeed : Pairs → ℕ
   pairNeed noPair = 0
   pairNeed (pair e s ps) = max (need s) (pairNeed ps)
 
+  -- ALT: the most of the parts
   pub guardNeed : Guards → ℕ
   guardNeed noGuard = 0
   guardNeed (inputGuard e c x s gs) = max (need s) (guardNeed gs)

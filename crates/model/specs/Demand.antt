@@ -24,10 +24,12 @@ pub data Move : Type 0 where
   step : List Communication → State → Move
   outside : Event → List Communication → State → Move
 
+-- a move follows Occam's rules
 abbrev pub Legal : State → Move → Type 0
 Legal st (step cs st′) = Step st cs st′
 Legal st (outside e cs st′) = Outside st e cs st′
 
+-- the state that a move leaves
 abbrev pub left : Move → State
 left (step cs st) = st
 left (outside e cs st) = st
@@ -36,24 +38,29 @@ left (outside e cs st) = st
 abbrev pub Segment : Type 0
 Segment = List Move
 
+-- all moves follow the rules, each from the state that the one before left
 abbrev pub Valid : State → Segment → Type 0
 Valid st [] = Unit {0}
 Valid st (m ∷ ms) = Legal st m × Valid (left m) ms
 
+-- the state after all moves
 abbrev pub reaches : State → Segment → State
 reaches st [] = st
 reaches st (m ∷ ms) = reaches (left m) ms
 
+-- how many moves are steps; offers and takes are none
 abbrev pub steps : Segment → ℕ
 steps [] = 0
 steps (step cs st ∷ ms) = suc (steps ms)
 steps (outside e cs st ∷ ms) = steps ms
 
+-- the offers and takes, with their answers
 abbrev pub eventsOf : Segment → List Event
 eventsOf [] = []
 eventsOf (step cs st ∷ ms) = eventsOf ms
 eventsOf (outside e cs st ∷ ms) = e ∷ eventsOf ms
 
+-- the communications in order
 abbrev pub communications : Segment → List Communication
 communications [] = []
 communications (step cs st ∷ ms) = cs ++ communications ms
@@ -66,6 +73,7 @@ liveIn (inSeq ss ∷ k) = liveIn k
 liveIn (inVar xs ∷ k) = xs ++ liveIn k
 liveIn (inWhile e s ∷ k) = liveIn k
 
+-- 01: a live variable, its VAR entered and not over
 abbrev pub Live : Process → Site → Type 0
 Live p x = (path : List ℕ) × (q : Process) × (look path p ≡ some q) × List·Memᴰ x (liveIn (framesOf q))
 
@@ -74,7 +82,8 @@ module _ (p : Program) where
   abbrev pub talkOf : Communication → Talk
   talkOf c = record { channel = wordOf p (c .channel); value = c .value }
 
-  -- what is found in the machine is what the run leaves by then
+  -- what is found in the machine is no fault but what the run leaves by then: the same live variables, ended if the machine ended,
+  -- unable to go on though not ended exactly if the machine waits
   pub record Agrees (m : Moment) (st : State) : Type 0 where
     pub variables : (x : Site) → Live (st .process) x → st .store x ≡ getD (m .memory) (wordOf p x) 0
     pub no-fault : m .machine .fault ≡ Nothing
@@ -82,7 +91,8 @@ module _ (p : Program) where
     pub waits-stuck : waits (m .machine) ≡ true → Stuck st
     pub stuck-waits : Stuck st → waits (m .machine) ≡ true
 
-  -- a segment for a moment, from the state that the run had before
+  -- a segment for a moment, from the state that the run had before: the same communications in the same order, the same offers and takes
+  -- at the same places, with the same answers
   pub record Follows (m : Moment) (st : State) (moves : Segment) : Type 0 where
     pub valid : Valid st moves
     pub same-talk : map talkOf (communications moves) ≡ m .talk
@@ -101,20 +111,23 @@ abbrev pub counted : Bool → ℕ → List ℕ → List ℕ
 counted true n l = n ∷ l
 counted false n l = l
 
+-- the steps of the moments that are after a byte
 abbrev pub perInstruction : List Moment → List Segment → List ℕ
 perInstruction [] gs = []
 perInstruction (m ∷ ms) [] = []
 perInstruction (m ∷ ms) (g ∷ gs) = counted (m .instruction) (steps g) (perInstruction ms gs)
 
+-- all of them together
 abbrev pub total : List ℕ → ℕ
 total [] = 0
 total (n ∷ l) = n + total l
 
--- any so many in a row hold at least one step
+-- any so many instructions in a row, across calls too, hold at least one step
 abbrev pub Progress : ℕ → List ℕ → Type 0
 Progress n l = (before window after : List ℕ) → l ≡ before ++ window ++ after → length window ≡ n → 0 < total window
 
--- a program that was started afresh: for every list of calls, one run by Occam's own rules that grows with the list
+-- a program that was started afresh: for every list of calls, one run by Occam's own rules that grows with the list. Any 64 times the
+-- code's bytes, plus one, of instructions hold a step of it
 pub record Faithful (p : Program) (code : List ℕ) (m : Machine) (memory : List ℕ) : Type 0 where
   pub run : List Call → List Segment
   pub grows : (cs : List Call) (c : Call) → (more : List Segment) × (run (cs ++ c ∷ []) ≡ run cs ++ more)

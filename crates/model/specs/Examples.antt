@@ -1,6 +1,6 @@
 -- The proved examples of 01 as one statement about the definitions. proofs/Examples.antt proves each part by computation.
--- Bytes are hexadecimal, the rest decimal. From GT on they are no longer 01's list: operators by Occam's rules and, as a program
--- that outputs what they give, in the machine; and names of two scopes.
+-- Bytes are hexadecimal, the rest decimal. Beside 01's list stand depth 33 and the depths of NOTs and, from GT on, operators by Occam's
+-- rules and, as a program that outputs what they give, in the machine; and names of two scopes.
 use Prim.Native.Nat.{ℕ, zero, suc}
 use Prim.Native.String.{String, _++_}
 use mathlib.Core.Path.{_≡_}
@@ -36,6 +36,7 @@ abbrev codeIn : Compilation → Option (List ℕ)
 codeIn (compiled p bytes) = some bytes
 codeIn (uncompiled n r) = none
 
+-- the code of a table
 abbrev Compiles : (table bytes : List ℕ) → Type 0
 Compiles table bytes = codeIn (compile table 16384) ≡ some bytes
 
@@ -43,11 +44,12 @@ Compiles table bytes = codeIn (compile table 16384) ≡ some bytes
 abbrev Refused : (table : List ℕ) → (number place : ℕ) → Type 0
 Refused table n p = accept table ≡ refused n p
 
--- so many SEQ of one part around the rest of a table, and so many NOT
+-- so many SEQ of one part around the rest of a table
 unfoldable pub inSeqs : ℕ → List ℕ → List ℕ
 inSeqs zero rest = rest
 inSeqs (suc n) rest = 0x07 ∷ 0x01 ∷ inSeqs n rest
 
+-- so many NOT around the rest of an expression
 unfoldable pub inNots : ℕ → List ℕ → List ℕ
 inNots zero rest = rest
 inNots (suc n) rest = 0x02 ∷ inNots n rest
@@ -60,6 +62,7 @@ outputting e = 0x00 ∷ 0x01 ∷ 0x04 ∷ 0x00 ∷ e
 abbrev assigning : (expression : List ℕ) → List ℕ
 assigning e = 0x00 ∷ 0x00 ∷ 0x05 ∷ 0x04 ∷ 0x02 ∷ 0x00 ∷ e
 
+-- 01, "Proved examples", as one statement
 pub record Examples : Type 0 where
   -- LDC 1876 is 27 25 44. LDC -31 is 61 41
   pub ldc-1876 : Shortest ldc 1876 (0x27 ∷ 0x25 ∷ 0x44 ∷ [])

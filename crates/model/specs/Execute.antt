@@ -16,21 +16,24 @@ use Rattle.model.specs.Machine.{stack, goto, work, running, peek, poke, 
 use Rattle.model.specs.declared.Cpu.{Cpu}
 use Rattle.model.specs.declared.FaultKind.the-variants.{Operation as BadOperation, Count}
 
--- a value comes onto the stack, or its top goes
+-- a value comes onto the stack: LDLP, LDC, LDL, MINT
 abbrev pub push : ℕ → Cpu → Cpu
 push v r = stack v (r .a) (r .b) r
 
+-- the top of the stack goes, C keeps: STL, CJ
 abbrev pub pop : Cpu → Cpu
 pop r = stack (r .b) (r .c) (r .c) r
 
--- a result in place of the two topmost values
+-- a result in place of the two topmost values: B' = C, C keeps
 abbrev pub reduce : ℕ → Cpu → Cpu
 reduce v r = stack v (r .c) (r .c) r
 
+-- word operands count from W as adjusted at that place
 abbrev local : Cpu → ℕ → ℕ
 local r n = low (r .workspace + n)
 
--- J: the only place where the slice can end. The process then goes to the back of the queue; where it will go on is tested
+-- J: the only place where the slice can end, when its process has executed at least q instructions, the bytes of this J counted.
+-- The process then goes to the back of the queue; where it will go on is tested
 -- after all words and before the place of the process that is taken
 unfoldable pub jump : ℕ → Act (Unit {0})
 jump n = do
@@ -44,18 +47,21 @@ jump n = do
         release
         testPlace (low (r .place + n)))
 
+-- LDL: push mem[W + n]
 unfoldable pub loadLocal : ℕ → Act (Unit {0})
 loadLocal n = do
   r ← registers
   v ← peek (local r n)
   setRegisters (push v r)
 
+-- STL: mem[W + n] = A
 unfoldable pub storeLocal : ℕ → Act (Unit {0})
 storeLocal n = do
   r ← registers
   poke (local r n) (r .a)
   setRegisters (pop r)
 
+-- CJ: with A = 0 it jumps and the registers keep; else A goes
 unfoldable pub conditionalJump : ℕ → Act (Unit {0})
 conditionalJump n = do
   r ← registers
@@ -71,12 +77,14 @@ changing f = do
 abbrev pub above : ℕ → ℕ → Bool
 above b a = ltb (low (a + 2 ^ 31)) (low (b + 2 ^ 31))
 
+-- STARTP: A is the workspace of the new process, B the distance of its code. It joins the back; registers keep
 unfoldable pub startProcess : Act (Unit {0})
 startProcess = do
   r ← registers
   poke (resumeWord (r .a)) (low (r .place + r .b))
   join (r .a)
 
+-- ENDP: A is the workspace of the PAR. The last branch goes on as the PAR, with its count towards the slice; another frees the processor
 unfoldable pub endProcess : Act (Unit {0})
 endProcess = do
   r ← registers
@@ -85,13 +93,14 @@ endProcess = do
       (do p ← peek (r .a); setRegisters (goto p (work (r .a) r)))
       (do poke (low (r .a + 1)) (less n 1); release)
 
+-- STOPP: the process is not queued again
 unfoldable pub stopProcess : Act (Unit {0})
 stopProcess = do
   r ← registers
   poke (resumeWord (r .workspace)) (r .place)
   release
 
--- a process waits at a channel's word, with its resume place and a message place
+-- IN and OUTWORD: a process waits at a channel's word, with its resume place and a message place
 unfoldable pub waitAt : (channel message : ℕ) → Act (Unit {0})
 waitAt c m = do
   r ← registers
@@ -99,27 +108,30 @@ waitAt c m = do
   poke (resumeWord (r .workspace)) (r .place)
   poke (stateWord (r .workspace)) m
 
--- an offer that was held is taken from its channel
+-- a held offer is received: it is held no more, and the channel word stays as it is
 abbrev pub dropOffer : (channel : ℕ) → Act ℕ
 dropOffer c s =
     let k = c - s .machine .setup .base in
     done (getD (s .machine .offers) k 0) (withOffers (s .machine .offers) (set (s .machine .held) k false) s)
 
--- the sender that waits at a channel's word gives its value, and is woken
+-- the value of the sender that waits at a channel's word
 unfoldable pub receive : (sender : ℕ) → Act ℕ
 receive p = do
   m ← peek (stateWord p)
   peek m
 
+-- the channel is empty again, the process that waited there is woken, and the communication is made
 unfoldable pub received : (channel sender value : ℕ) → Act (Unit {0})
 received c p v = do
   poke c notProcess
   join p
   communicate c v
 
+-- whether an offer is held on a channel
 abbrev pub heldAt : ℕ → Act Bool
 heldAt c s = done (isHeld c (s .machine)) s
 
+-- IN of one word: B is the channel, C the message place. It takes a held offer, else the value of a sender, else the process waits
 unfoldable pub inputWord : Act (Unit {0})
 inputWord = do
   r ← registers
@@ -132,39 +144,45 @@ inputWord = do
             (do waitAt (r .b) (r .c); release)
             (do v ← receive p; poke (r .c) v; received (r .b) p v))
 
+-- IN: A is the count; IN moves exactly 4 bytes, another count is a fault
 unfoldable pub inputMessage : Act (Unit {0})
 inputMessage = do
   r ← registers
   cond (eqb (r .a) 4) inputWord (fault (Count (r .a)))
 
--- ALT states
+-- ALT states in W - 3: Enabling
 abbrev pub enabling : ℕ
 enabling = 2 ^ 31 + 1
 
+-- Waiting
 abbrev pub waiting : ℕ
 waiting = 2 ^ 31 + 2
 
+-- Ready
 abbrev pub ready : ℕ
 ready = 2 ^ 31 + 3
 
+-- W - 3 holds an ALT state and not a message place
 abbrev pub isAltState : ℕ → Bool
 isAltState s = eqb s enabling || eqb s waiting || eqb s ready
 
--- the chosen branch's word while none is chosen
+-- NoneSelected, in W + 0 while no branch is chosen
 abbrev pub noneSelected : ℕ
 noneSelected = 2 ^ 32 - 1
 
--- an ALT process, by its state, learns that a channel is ready
+-- a sender or an offer acts on an ALT's state: it becomes Ready, and a process that is Waiting is woken
 unfoldable pub notify : (process state : ℕ) → Act (Unit {0})
 notify p s = do
   poke (stateWord p) ready
   cond (eqb s waiting) (join p) (return tt)
 
+-- a process that waits in IN gets the value at its message place
 unfoldable pub deliver : (channel process place value : ℕ) → Act (Unit {0})
 deliver c p m v = do
   poke m v
   received c p v
 
+-- OUTWORD: A is the value, which goes to W + 0, B the channel. A process in IN gets it; else the sender waits, and tells an ALT
 unfoldable pub outputWord : Act (Unit {0})
 outputWord = do
   r ← registers
@@ -178,16 +196,19 @@ outputWord = do
             (do waitAt (r .b) (r .workspace); notify p s; release)
             (deliver (r .b) p s (r .a)))
 
+-- ALT: the state is Enabling
 unfoldable pub beginAlt : Act (Unit {0})
 beginAlt = do
   r ← registers
   poke (stateWord (r .workspace)) enabling
 
+-- ENBC and ENBS: the state becomes Ready
 unfoldable pub setReady : Act (Unit {0})
 setReady = do
   r ← registers
   poke (stateWord (r .workspace)) ready
 
+-- ENBC with a true condition: an empty channel gets the mark W; a held offer or a sender makes the ALT ready
 unfoldable pub enableReady : (channel : ℕ) → Act (Unit {0})
 enableReady c = do
   r ← registers
@@ -197,17 +218,20 @@ enableReady c = do
         p ← peek c
         cond (eqb p notProcess) (poke c (r .workspace)) (cond (eqb p (r .workspace)) (return tt) setReady))
 
+-- ENBC: A is the condition, true when not 0, B the channel. B' = C; A and C keep
 unfoldable pub enableChannel : Act (Unit {0})
 enableChannel = do
   r ← registers
   cond (eqb (r .a) 0) (return tt) (enableReady (r .b))
   changing (λ q. stack (q .a) (q .c) (q .c) q)
 
+-- ENBS: A is the condition, true when not 0. Registers keep
 unfoldable pub enableSkip : Act (Unit {0})
 enableSkip = do
   r ← registers
   cond (eqb (r .a) 0) (return tt) setReady
 
+-- ALTWT: no branch is chosen yet; the process waits unless it is Ready
 unfoldable pub waitAlt : Act (Unit {0})
 waitAlt = do
   r ← registers
@@ -219,14 +243,14 @@ waitAlt = do
         poke (resumeWord (r .workspace)) (r .place)
         release)
 
--- a ready guard: its branch is selected if none is yet. Gives whether it was
+-- DISC and DISS of a ready guard: its branch is chosen if none is yet. Gives 1 if it was, else 0
 unfoldable pub select : (branch : ℕ) → Act ℕ
 select b = do
   r ← registers
   t ← peek (r .workspace)
   cond (eqb t noneSelected) (do poke (r .workspace) b; return 1) (return 0)
 
--- a true guard's channel: a held offer or a sender is ready; the ALT's own mark goes
+-- DISC with a true condition: a held offer or a sender is ready; the ALT's own mark goes, and with a held offer the word is NotProcess
 unfoldable pub disableReady : (channel branch : ℕ) → Act ℕ
 disableReady c b = do
   r ← registers
@@ -236,24 +260,28 @@ disableReady c b = do
       (do t ← select b; poke c notProcess; return t)
       (cond (eqb p notProcess) (return 0) (cond (eqb p (r .workspace)) (do poke c notProcess; return 0) (select b)))
 
+-- DISC: A is the branch's distance, B the condition, C the channel. A' says whether it was chosen; B and C keep
 unfoldable pub disableChannel : Act (Unit {0})
 disableChannel = do
   r ← registers
   t ← cond (eqb (r .b) 0) (return 0) (disableReady (r .c) (r .a))
   changing (λ q. stack t (q .b) (q .c) q)
 
+-- DISS: A is the branch's distance, B the condition. A' says whether it was chosen; B' = C, C keeps
 unfoldable pub disableSkip : Act (Unit {0})
 disableSkip = do
   r ← registers
   t ← cond (eqb (r .b) 0) (return 0) (select (r .a))
   changing (λ q. stack t (q .c) (q .c) q)
 
+-- ALTEND: to the chosen branch, at the distance in W + 0
 unfoldable pub endAlt : Act (Unit {0})
 endAlt = do
   r ← registers
   d ← peek (r .workspace)
   setRegisters (goto (low (r .place + d)) r)
 
+-- the operations. SUM, DIFF and PROD keep the low 32 bits; REV swaps A and B; MINT pushes NotProcess; LDPI makes a distance a place
 unfoldable pub operate : Operation → Act (Unit {0})
 operate rev = changing (λ r. stack (r .b) (r .a) (r .c) r)
 operate sum = changing (λ r. reduce (low (r .b + r .a)) r)
@@ -278,11 +306,12 @@ operate disc = disableChannel
 operate diss = disableSkip
 operate altend = endAlt
 
+-- refusal 12: an operation that is not used is a fault with the operand as its number
 abbrev operateOr12 : Option Operation → ℕ → Act (Unit {0})
 operateOr12 none n = fault (BadOperation n)
 operateOr12 (some o) n = operate o
 
--- a direct function with its operand. `place` is that of the next byte
+-- a direct function with its operand: J, LDLP, LDC, LDL, CJ, AJW, EQC, STL, OPR. `place` is that of the next byte
 unfoldable pub execute : Function → ℕ → Act (Unit {0})
 execute j n = jump n
 execute ldlp n = changing (λ r. push (local r n) r)

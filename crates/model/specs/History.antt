@@ -35,12 +35,15 @@ pub record Moment : Type 0 where
   pub talk : List Talk
   pub events : List Event
 
+-- a moment without communication, offer or take
 abbrev pub quietly : Machine → List ℕ → Moment
 quietly m memory = record { instruction = false; machine = m; memory = memory; talk = []; events = [] }
 
+-- the moment after a byte
 abbrev pub executed : World → (rest : List ℕ) → Moment
 executed t rest = record { instruction = true; machine = t .machine; memory = t .memory ++ rest; talk = t .talk; events = [] }
 
+-- a byte that would fault is not begun: no moment comes after it
 abbrev onward : Result (Unit {0}) → (World → List Moment) → List Moment
 onward (done u t) more = more t
 onward (faults k) more = []
@@ -52,11 +55,12 @@ bytes (suc n) code rest s =
     let more = onward (byte code s) (λ t. executed t rest ∷ bytes n code rest (worldOf (t .machine) (t .memory))) in
     cond (ended (s .machine) || waits (s .machine)) [] more
 
+-- a run of a machine that keeps a fault executes nothing
 abbrev unlessKept : Kept → List Moment → List Moment
 unlessKept NoFault l = l
 unlessKept (KeptFault k) l = []
 
--- what a take or an offer said to the other side, if anything: 01, "What 11 or 13 refuses stays out"
+-- an offer as the Occam run has it, with its answer. 01: what 11 or 13 refuses stays out; so does 12, which demand 3 rules out
 abbrev pub offerEvent : (k value : ℕ) → OfferAnswer → List Event
 offerEvent k v Offered = offers k v Offered ∷ []
 offerEvent k v Held = offers k v Held ∷ []
@@ -64,6 +68,7 @@ offerEvent k v (OfferShort n) = []
 offerEvent k v (OfferFault f) = []
 offerEvent k v OfferNoChannel = []
 
+-- a take, likewise
 abbrev pub takeEvent : (k : ℕ) → TakeAnswer → List Event
 takeEvent k (Taken v) = takes k (Taken v) ∷ []
 takeEvent k Nothing = takes k Nothing ∷ []
@@ -83,6 +88,7 @@ pub record Called : Type 0 where
   pub machine : Machine
   pub memory : List ℕ
 
+-- the moment after an offer or a take
 abbrev answered : {Answer : Type 0} → After Answer → (rest : List ℕ) → (Answer → List Event) → Called
 answered r rest said =
     record {
@@ -92,6 +98,7 @@ answered r rest said =
       memory = r .memory ++ rest;
     }
 
+-- a call over the code and memory that it is lent. A run's communications are found at its bytes' moments
 unfoldable pub call : (code : List ℕ) → Call → Machine → (memory : List ℕ) → Called
 call code (callRun codeLent lent budget) m memory =
     let r = run m (L.take codeLent code) (L.take lent memory) budget in

@@ -5,7 +5,7 @@ use mathlib.Core.List.{List, [], _∷_}
 use mathlib.Core.Option.{Option, none, some}
 use lib.Dec.{eqb}
 
--- direct functions other than the prefixes
+-- the direct functions that 01 uses, other than the prefixes
 pub data Function : Type 0 where
   j ldlp ldc ldl cj ajw eqc stl opr : Function
 
@@ -21,17 +21,19 @@ functionCode eqc = 0xc
 functionCode stl = 0xd
 functionCode opr = 0xf
 
--- the prefixes' high four bits
+-- PFIX's high four bits
 abbrev pub pfixCode : ℕ
 pfixCode = 0x2
 
+-- NFIX's high four bits
 abbrev pub nfixCode : ℕ
 nfixCode = 0x6
 
+-- the operations that 01 uses
 pub data Operation : Type 0 where
   rev endp diff «in» prod gt startp outword stopp ldpi disc diss xor mint alt altwt altend and enbc enbs or sum : Operation
 
--- the operand of OPR
+-- the operand of OPR, as the guide codes the operation
 unfoldable pub operationCode : Operation → ℕ
 operationCode rev = 0x00
 operationCode endp = 0x03
@@ -56,9 +58,11 @@ operationCode enbs = 0x49
 operationCode or = 0x4b
 operationCode sum = 0x52
 
+-- all direct functions other than the prefixes
 abbrev pub functions : List Function
 functions = j ∷ ldlp ∷ ldc ∷ ldl ∷ cj ∷ ajw ∷ eqc ∷ stl ∷ opr ∷ []
 
+-- all operations
 abbrev pub operations : List Operation
 operations =
     rev ∷ endp ∷ diff ∷ «in» ∷ prod ∷ gt ∷ startp ∷ outword ∷ stopp ∷ ldpi ∷ disc ∷ diss ∷ xor ∷ mint ∷ alt ∷ altwt ∷ altend ∷ and ∷ enbc
@@ -69,10 +73,11 @@ unfoldable pub coded : {A : Type 0} → (A → ℕ) → ℕ → List A → Optio
 coded code n [] = none
 coded code n (a ∷ l) = let rest = coded code n l in elim (eqb (code a) n) [ true ↦ some a | false ↦ rest ]
 
--- what four high bits, and an operand of OPR, stand for; none is a fault (01, refusal 12)
+-- what four high bits stand for; none is a fault (01, refusal 12: function not used)
 unfoldable pub functionOf : ℕ → Option Function
 functionOf n = coded functionCode n functions
 
+-- what an operand of OPR stands for; none is a fault (01, refusal 12: operation not used)
 unfoldable pub operationOf : ℕ → Option Operation
 operationOf n = coded operationCode n operations
 
@@ -82,5 +87,6 @@ pub data Instruction : Type 0 where
   plain : Function → (operand : ℕ) → Instruction
   distance : Function → (reached user : ℕ) → Instruction
 
+-- OPR with the code of an operation
 abbrev pub operation : Operation → Instruction
 operation o = plain opr (operationCode o)

@@ -33,7 +33,7 @@ unfoldable mutual
   layoutAll w noStmt = []
   layoutAll w (stmt s ss) = layout w s ++ layoutAll w ss
 
-  -- the first branch runs at w, the next below the need of those before it
+  -- 01: branch i of a PAR runs at distance d below, the sum of the needs of earlier branches
   pub layoutBranches : (w : ℕ) → Stmts → List Laid
   layoutBranches w noStmt = []
   layoutBranches w (stmt s ss) = layout w s ++ layoutBranches (w - need s) ss
@@ -52,7 +52,7 @@ unfoldable pub workspaceOf : ℕ → List Laid → ℕ
 workspaceOf p [] = 0
 workspaceOf p (l ∷ ls) = let rest = workspaceOf p ls in elim (eqb (l .place) p) [ true ↦ l .workspace | false ↦ rest ]
 
--- the W at which a program starts
+-- 01: the program starts at W = its need
 abbrev pub base : Program → ℕ
 base p = need (p .body)
 

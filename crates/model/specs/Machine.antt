@@ -28,22 +28,28 @@ pub data Result (A : Type 0) : Type 0 where
   done : A → World → Result A
   faults : FaultKind → Result A
 
+-- an action on the machine and the lent memory
 abbrev pub Act : Type 0 → Type 0
 Act A = World → Result A
 
+-- a fault ends the byte, offer or take, and nothing of it stands
 abbrev pub next : {A B : Type 0} → Result A → (A → Act B) → Result B
 next (done a s) f = f a s
 next (faults k) f = faults k
 
+-- one action, then another that uses what it gave
 abbrev pub _>>=_ : {A B : Type 0} → Act A → (A → Act B) → Act B
 _>>=_ act f s = next (act s) f
 
+-- one action, then another
 abbrev pub _>>_ : {A B : Type 0} → Act A → Act B → Act B
 _>>_ act f s = next (act s) (λ a. f)
 
+-- no action, with a result
 abbrev pub return : {A : Type 0} → A → Act A
 return a s = done a s
 
+-- a fault (refusal 12)
 abbrev pub fault : {A : Type 0} → FaultKind → Act A
 fault k s = faults k
 
@@ -51,167 +57,108 @@ fault k s = faults k
 abbrev pub machineWith : Cpu → List ℕ → List Bool → Kept → Machine → Machine
 machineWith r offers held fault m = record { cpu = r; setup = m .setup; offers = offers; held = held; fault = fault }
 
--- the parts of the state, and new ones in their place
+-- with other registers
 abbrev pub withCpu : Cpu → World → World
 withCpu r s =
     let m = s .machine in
     record { machine = machineWith r (m .offers) (m .held) (m .fault) m; memory = s .memory; talk = s .talk }
 
+-- with another memory
 abbrev pub withMemory : List ℕ → World → World
 withMemory l s = record { machine = s .machine; memory = l; talk = s .talk }
 
+-- with other held offers
 abbrev pub withOffers : List ℕ → List Bool → World → World
 withOffers o h s =
     let m = s .machine in
     record { machine = machineWith (m .cpu) o h (m .fault) m; memory = s .memory; talk = s .talk }
 
+-- the registers as they are
 abbrev pub registers : Act Cpu
 registers s = done (s .machine .cpu) s
 
+-- new registers
 abbrev pub setRegisters : Cpu → Act (Unit {0})
 setRegisters r s = done tt (withCpu r s)
 
+-- what the start fixed
 abbrev pub setup : Act Setup
 setup s = done (s .machine .setup) s
 
+-- 01, "Agreement": a communication comes where IN, OUTWORD, offer or take finds the other side
 abbrev pub communicate : ℕ → ℕ → Act (Unit {0})
 communicate c v s = done tt (record { machine = s .machine; memory = s .memory; talk = s .talk ++ record { channel = c; value = v } ∷ [] })
 
 -- registers with some of them changed
-abbrev pub stack : (a b c : ℕ) → Cpu → Cpu
-stack a b c r =
+abbrev cpu : (a b c operand place workspace count front back : ℕ) (running queued : Bool) → Cpu
+cpu a b c o p w n f k r q =
     record {
       a = a;
       b = b;
       c = c;
-      operand = r .operand;
-      place = r .place;
-      workspace = r .workspace;
-      count = r .count;
-      front = r .front;
-      back = r .back;
-      running = r .running;
-      queued = r .queued;
-    }
-
-abbrev pub goto : ℕ → Cpu → Cpu
-goto p r =
-    record {
-      a = r .a;
-      b = r .b;
-      c = r .c;
-      operand = r .operand;
-      place = p;
-      workspace = r .workspace;
-      count = r .count;
-      front = r .front;
-      back = r .back;
-      running = r .running;
-      queued = r .queued;
-    }
-
-abbrev pub work : ℕ → Cpu → Cpu
-work w r =
-    record {
-      a = r .a;
-      b = r .b;
-      c = r .c;
-      operand = r .operand;
-      place = r .place;
-      workspace = w;
-      count = r .count;
-      front = r .front;
-      back = r .back;
-      running = r .running;
-      queued = r .queued;
-    }
-
-abbrev pub gathering : ℕ → Cpu → Cpu
-gathering o r =
-    record {
-      a = r .a;
-      b = r .b;
-      c = r .c;
       operand = o;
-      place = r .place;
-      workspace = r .workspace;
-      count = r .count;
-      front = r .front;
-      back = r .back;
-      running = r .running;
-      queued = r .queued;
-    }
-
-abbrev pub counting : ℕ → Cpu → Cpu
-counting n r =
-    record {
-      a = r .a;
-      b = r .b;
-      c = r .c;
-      operand = r .operand;
-      place = r .place;
-      workspace = r .workspace;
+      place = p;
+      workspace = w;
       count = n;
-      front = r .front;
-      back = r .back;
-      running = r .running;
-      queued = r .queued;
-    }
-
-abbrev pub queueing : (front back : ℕ) (queued : Bool) → Cpu → Cpu
-queueing f b q r =
-    record {
-      a = r .a;
-      b = r .b;
-      c = r .c;
-      operand = r .operand;
-      place = r .place;
-      workspace = r .workspace;
-      count = r .count;
       front = f;
-      back = b;
-      running = r .running;
+      back = k;
+      running = r;
       queued = q;
     }
 
+-- the stack A, B, C
+abbrev pub stack : (a b c : ℕ) → Cpu → Cpu
+stack a b c r = cpu a b c (r .operand) (r .place) (r .workspace) (r .count) (r .front) (r .back) (r .running) (r .queued)
+
+-- the gathered operand
+abbrev pub gathering : (operand : ℕ) → Cpu → Cpu
+gathering o r = cpu (r .a) (r .b) (r .c) o (r .place) (r .workspace) (r .count) (r .front) (r .back) (r .running) (r .queued)
+
+-- the place of the next byte
+abbrev pub goto : (place : ℕ) → Cpu → Cpu
+goto p r = cpu (r .a) (r .b) (r .c) (r .operand) p (r .workspace) (r .count) (r .front) (r .back) (r .running) (r .queued)
+
+-- the workspace pointer W
+abbrev pub work : (workspace : ℕ) → Cpu → Cpu
+work w r = cpu (r .a) (r .b) (r .c) (r .operand) (r .place) w (r .count) (r .front) (r .back) (r .running) (r .queued)
+
+-- the count towards the slice
+abbrev pub counting : (count : ℕ) → Cpu → Cpu
+counting n r = cpu (r .a) (r .b) (r .c) (r .operand) (r .place) (r .workspace) n (r .front) (r .back) (r .running) (r .queued)
+
+-- the queue's front and back, and whether it is not empty
+abbrev pub queueing : (front back : ℕ) (queued : Bool) → Cpu → Cpu
+queueing f k q r = cpu (r .a) (r .b) (r .c) (r .operand) (r .place) (r .workspace) (r .count) f k (r .running) q
+
+-- whether a process has the processor
 abbrev pub running : Bool → Cpu → Cpu
-running t r =
-    record {
-      a = r .a;
-      b = r .b;
-      c = r .c;
-      operand = r .operand;
-      place = r .place;
-      workspace = r .workspace;
-      count = r .count;
-      front = r .front;
-      back = r .back;
-      running = t;
-      queued = r .queued;
-    }
+running t r = cpu (r .a) (r .b) (r .c) (r .operand) (r .place) (r .workspace) (r .count) (r .front) (r .back) t (r .queued)
 
 -- the machine's memory is the first W + channels words; later words are never touched
 abbrev pub memorySize : Setup → ℕ
 memorySize u = u .base + u .inputs + u .outputs
 
--- a word is touched only inside the machine's memory; else the fault names its address
+-- reading a word: only inside the machine's memory; else the fault names its address (refusal 12: address outside memory)
 unfoldable pub peek : ℕ → Act ℕ
 peek a s = cond (ltb a (memorySize (s .machine .setup))) (done (getD (s .memory) a 0) s) (faults (Word a))
 
+-- writing a word, likewise
 unfoldable pub poke : ℕ → ℕ → Act (Unit {0})
 poke a v s = cond (ltb a (memorySize (s .machine .setup))) (done tt (withMemory (set (s .memory) a v) s)) (faults (Word a))
 
--- a code place is from 0 to the code's length
+-- a code place is from 0 to the code's length; else the fault names the place (refusal 12)
 unfoldable pub testPlace : ℕ → Act (Unit {0})
 testPlace p s = cond (leb p (s .machine .setup .code)) (done tt s) (faults (Place p))
 
--- the words below a process's workspace: W - 1 resume place, W - 2 queue link, W - 3 message place or ALT state
+-- 01, words below the workspace pointer W: W - 1 resume place
 abbrev pub resumeWord : ℕ → ℕ
 resumeWord w = less w 1
 
+-- W - 2 queue link
 abbrev pub linkWord : ℕ → ℕ
 linkWord w = less w 2
 
+-- W - 3 message place or ALT state
 abbrev pub stateWord : ℕ → ℕ
 stateWord w = less w 3
 
@@ -222,7 +169,7 @@ resume w = do
   r ← registers
   setRegisters (running true (counting 0 (goto p (work w r))))
 
--- the front of the queue gets the processor
+-- the front of the queue gets the processor: its link is read first, then its resume place
 unfoldable pub takeFront : Act (Unit {0})
 takeFront = do
   r ← registers
@@ -231,7 +178,7 @@ takeFront = do
       (do f ← peek (linkWord (r .front)); setRegisters (queueing f (r .back) true r))
   resume (r .front)
 
--- the processor is free: it takes the front of the queue
+-- the processor is free: it takes the front of the queue, which counts no instruction; where none is queued no process runs
 unfoldable pub release : Act (Unit {0})
 release = do
   r ← registers
@@ -247,6 +194,6 @@ join w = do
       (setRegisters (queueing w w true r)))
       (do setRegisters (queueing w w false r); resume w)
 
--- the outside input that a channel word is, and whether an offer is held there: by address, the start's W + k
+-- whether an offer is held on a channel word: by address, the start's W + k
 abbrev pub isHeld : ℕ → Machine → Bool
 isHeld a m = leb (m .setup .base) a && ltb (a - m .setup .base) (m .setup .inputs) && getD (m .held) (a - m .setup .base) false

@@ -20,6 +20,7 @@ unfoldable pub groups : List ℕ → Option Number
 groups [] = none
 groups (b ∷ bytes) = let rest = groups bytes in cond (ltb b 128) (some (record { value = b; size = 1 })) (grouped b rest)
 
+-- values below 2 ^ 32
 abbrev small : Option Number → Option Number
 small none = none
 small (some n) = cond (ltb (n .value) (2 ^ 32)) (some n) none

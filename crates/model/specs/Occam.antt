@@ -37,12 +37,14 @@ deny v = truth (eqb v 0)
 abbrev pub Store : Type 0
 Store = Site → ℕ
 
+-- an expression's value
 unfoldable pub eval : Store → Expr → ℕ
 eval σ (constant n) = n
 eval σ (variable x) = σ x
 eval σ (NOT e) = deny (eval σ e)
 eval σ (binary op l r) = operate op (eval σ l) (eval σ r)
 
+-- the same for an expression that stands in no other
 abbrev pub value : Store → Whole → ℕ
 value σ e = eval σ (e .expr)
 
@@ -50,6 +52,7 @@ value σ e = eval σ (e .expr)
 abbrev pub isTrue : Store → Whole → Bool
 isTrue σ e = not (eqb (value σ e) 0)
 
+-- a variable gets a value: assignment and input
 abbrev pub store : Site → ℕ → Store → Store
 store x v σ = λ y. cond (same y x) v (σ y)
 
@@ -108,9 +111,11 @@ resume (inSeq ss ∷ k) = enterAll ss k (resume k)
 resume (inVar xs ∷ k) = resume k
 resume (inWhile e s ∷ k) = before (WHILE e s) k
 
+-- a process that begins a statement, in the middle of what is around it
 abbrev pub begin : Stmt → List Frame → Process
 begin s k = enter s k (resume k)
 
+-- a PAR that was started: each branch begins
 unfoldable pub branches : Stmts → Branches
 branches noStmt = noBranch
 branches (stmt s ss) = branch (begin s []) (branches ss)
@@ -125,10 +130,11 @@ pub record Moved : Type 0 where
   pub process : Process
   pub store : Store
 
+-- what a step makes
 abbrev pub moved : Process → Store → Moved
 moved p σ = record { process = p; store = σ }
 
--- the step that begins a statement. A PAR of none is over with its start
+-- the step that begins a statement. A PAR of none is over with its start. SEQ has no step of its own: `enter` goes into it
 unfoldable pub go : Stmt → List Frame → Store → Moved
 go SKIP k σ = moved (resume k) σ
 go STOP k σ = moved (atStop k) σ
@@ -144,7 +150,7 @@ go (IF ps) k σ = moved (firstTrue σ ps k) σ
 go (WHILE e s) k σ = moved (cond (isTrue σ e) (begin s (inWhile e s ∷ k)) (resume k)) σ
 go (ALT gs) k σ = moved (atAlt gs k) σ
 
--- the process of a branch that is not over, and another in its place
+-- the process of a branch that is not over
 unfoldable pub branchAt : ℕ → Branches → Option Process
 branchAt i noBranch = none
 branchAt zero (branch p bs) = some p
@@ -152,6 +158,7 @@ branchAt (suc i) (branch p bs) = branchAt i bs
 branchAt zero (over bs) = none
 branchAt (suc i) (over bs) = branchAt i bs
 
+-- another process in a branch
 unfoldable pub setBranch : ℕ → Process → Branches → Branches
 setBranch i q noBranch = noBranch
 setBranch zero q (branch p bs) = branch q bs
@@ -159,6 +166,7 @@ setBranch (suc i) q (branch p bs) = branch p (setBranch i q bs)
 setBranch zero q (over bs) = over bs
 setBranch (suc i) q (over bs) = over (setBranch i q bs)
 
+-- a branch's end
 unfoldable pub endBranch : ℕ → Branches → Branches
 endBranch i noBranch = noBranch
 endBranch zero (branch p bs) = over bs
@@ -166,6 +174,7 @@ endBranch (suc i) (branch p bs) = branch p (endBranch i bs)
 endBranch zero (over bs) = over bs
 endBranch (suc i) (over bs) = over (endBranch i bs)
 
+-- no branch is left
 unfoldable pub allOver : Branches → Bool
 allOver noBranch = true
 allOver (branch p bs) = false
@@ -185,6 +194,7 @@ branchesOf (atAlt gs k) = noBranch
 branchesOf (inPar bs k) = bs
 branchesOf finished = noBranch
 
+-- what a process is in the middle of
 abbrev pub framesOf : Process → List Frame
 framesOf (before s k) = k
 framesOf (atInput c x k) = k
@@ -194,11 +204,12 @@ framesOf (atAlt gs k) = k
 framesOf (inPar bs k) = k
 framesOf finished = []
 
--- the process that branches lead to, outermost first, and another in its place
+-- the process that branches lead to, outermost first
 unfoldable pub look : List ℕ → Process → Option Process
 look [] p = some p
 look (i ∷ path) p = elim (branchAt i (branchesOf p)) [ none ↦ none | some q ↦ look path q ]
 
+-- another process in its place
 unfoldable pub put : List ℕ → Process → Process → Process
 put [] q p = q
 put (i ∷ path) q p = elim (branchAt i (branchesOf p)) [ none ↦ p | some b ↦ inPar (setBranch i (put path q b) (branchesOf p)) (framesOf p) ]
@@ -209,18 +220,22 @@ pub record State : Type 0 where
   pub store : Store
   pub offers : ℕ → Option ℕ
 
--- a communication
+-- a communication: its channel and its value
 pub record Communication : Type 0 where
   pub channel : Site
   pub value : ℕ
 
+-- the one communication of a step
 abbrev pub over-channel : Site → ℕ → List Communication
 over-channel c v = record { channel = c; value = v } ∷ []
 
+-- the steps of a state
 module _ (st : State) where
+  -- another process and store, the offers as they are
   abbrev replaced : List ℕ → Process → Store → State
   replaced path p σ = record { process = put path p (st .process); store = σ; offers = st .offers }
 
+  -- another offer, or none, on one outside input
   abbrev withOffer : ℕ → Option ℕ → ℕ → Option ℕ
   withOffer k o = λ j. cond (eqb j k) o (st .offers j)
 
@@ -239,10 +254,13 @@ module _ (st : State) where
 
   -- any live process that can go may take the next step
   pub data Step : List Communication → State → Type 0 where
+    -- a process goes: SKIP, an assignment, entering VAR or CHAN, an IF, a WHILE test, starting a PAR, coming to where it waits
     begins : (path : List ℕ) {s : Stmt} {k : List Frame} → look path (st .process) ≡ some (before s k)
         → Step [] (replaced path (go s k (st .store) .process) (go s k (st .store) .store))
+    -- a branch's end
     ends : (path : List ℕ) (i : ℕ) {bs : Branches} {k : List Frame} → look path (st .process) ≡ some (inPar bs k)
         → branchAt i bs ≡ some finished → Step [] (replaced path (closed (endBranch i bs) k) (st .store))
+    -- an ALT takes a guard
     chooses : (path : List ℕ) {gs : Guards} {k : List Frame} {p : Process} → look path (st .process) ≡ some (atAlt gs k) → Choice k gs p
         → Step [] (replaced path p (st .store))
     -- a communication, when sender and receiver are both there, as one step of both
@@ -255,6 +273,7 @@ module _ (st : State) where
               (st .store);
           offers = st .offers;
         })
+    -- the same with an offer from outside as the sender
     receives : (path : List ℕ) {n v : ℕ} {x : Site} {k : List Frame} → look path (st .process) ≡ some (atInput (inputOf n) x k)
         → st .offers n ≡ some v
         → Step (over-channel (inputOf n) v)
@@ -280,7 +299,7 @@ module _ (st : State) where
 unfoldable pub initial : Program → State
 initial p = record { process = begin (p .body) []; store = λ x. 0; offers = λ k. none }
 
--- Occam cannot go on and has not ended
+-- demand 3: Occam cannot go on though not ended
 pub record Stuck (st : State) : Type 0 where
   pub still : (cs : List Communication) (st′ : State) → Step st cs st′ → ⊥
   pub unfinished : st .process ≡ finished → ⊥

@@ -6,7 +6,8 @@ use mathlib.Core.Option.{Option, none, some}
 use lib.ListN.{getD, set}
 use lib.Dec.{ltb, leb, eqb}
 use Rattle.model.specs.Word.{notProcess}
-use Rattle.model.specs.Machine.{World, Result, done, faults, Act, _>>=_, _>>_, return, withOffers, setup, peek, stateWord, memorySize}
+use Rattle.model.specs.Machine.{registers, World, Result, done, faults, Act, _>>=_, _>>_, return, withOffers, setup, peek, stateWord}
+use Rattle.model.specs.Machine.{memorySize}
 use Rattle.model.specs.Execute.{isAltState, notify, deliver, receive, received}
 use Rattle.model.specs.Run.{land, keep, shortMemory, After, unchanged, worldOf}
 use Rattle.model.specs.declared.Machine.{Machine}
@@ -23,9 +24,16 @@ use Rattle.model.specs.declared.TakeAnswer.the-variants.{NoChannel as Ta
 abbrev pub hold : (k value : ℕ) → Act (Unit {0})
 hold k v s = done tt (withOffers (set (s .machine .offers) k v) (set (s .machine .held) k true) s)
 
+-- where a free processor has taken a process, the code place that it went to is tested, after all words
+unfoldable pub waking : Act (Unit {0}) → Act (Unit {0})
+waking act = do
+  r ← registers
+  act
+  cond (r .running) (return tt) land
+
 -- a process waiting in IN gets an offer directly; else it is held, and acts on an ALT's state as a sender's would
 unfoldable pub offering : (k value : ℕ) → Act (Unit {0})
-offering k v = do
+offering k v = waking (do
   u ← setup
   p ← peek (u .base + k)
   cond (eqb p notProcess)
@@ -34,10 +42,9 @@ offering k v = do
         s ← peek (stateWord p)
         cond (isAltState s)
             (do hold k v; notify p s)
-            (deliver (u .base + k) p s v))
-  land
+            (deliver (u .base + k) p s v)))
 
--- the word of the outside output k, and the process that waits there
+-- the word of the outside output k: outputs come after the inputs
 abbrev pub outputWordOf : ℕ → Act ℕ
 outputWordOf k s = done (s .machine .setup .base + s .machine .setup .inputs + k) s
 
@@ -48,13 +55,13 @@ looking k = do
   p ← peek c
   cond (eqb p notProcess) (return none) (do v ← receive p; return (some v))
 
+-- the sender that a take found is woken, and its channel is empty again
 abbrev taken : (k : ℕ) → Option ℕ → Act (Option ℕ)
 taken k none = return none
 taken k (some v) = do
   c ← outputWordOf k
   p ← peek c
-  received c p v
-  land
+  waking (received c p v)
   return (some v)
 
 -- a take: its test, and then the sender is woken
@@ -63,11 +70,12 @@ taking k = do
   v ← looking k
   taken k v
 
--- a call that would fault keeps the fault; state and memory stay
+-- an offer that would fault keeps the fault; state and memory stay
 abbrev offered : Result (Unit {0}) → Machine → List ℕ → After OfferAnswer
 offered (done a t) m memory = record { answer = Offered; machine = t .machine; memory = t .memory; talk = t .talk }
 offered (faults k) m memory = record { answer = OfferFault k; machine = keep k (worldOf m memory) .machine; memory = memory; talk = [] }
 
+-- a kept fault is answered again; then 13, 14 and, last, 12. Offers number the inputs from 0
 abbrev offerUnless : Kept → Machine → List ℕ → (k value : ℕ) → After OfferAnswer
 offerUnless (KeptFault f) m memory k v = unchanged (OfferFault f) m memory
 offerUnless NoFault m memory k v =
@@ -82,14 +90,17 @@ offer m memory k v =
     let go = offerUnless (m .fault) m memory k v in
     cond (shortMemory m memory) (unchanged (OfferShort (memorySize (m .setup))) m memory) go
 
+-- a take with no sender answers none
 abbrev valueOrNone : Option ℕ → TakeAnswer
 valueOrNone none = Nothing
 valueOrNone (some v) = Taken v
 
+-- a take that would fault keeps the fault; state and memory stay
 abbrev took : Result (Option ℕ) → Machine → List ℕ → After TakeAnswer
 took (done v t) m memory = record { answer = valueOrNone v; machine = t .machine; memory = t .memory; talk = t .talk }
 took (faults k) m memory = record { answer = TakeFault k; machine = keep k (worldOf m memory) .machine; memory = memory; talk = [] }
 
+-- a kept fault is answered again; then 13 and, last, 12. Takes number the outputs from 0
 abbrev takeUnless : Kept → Machine → List ℕ → (k : ℕ) → After TakeAnswer
 takeUnless (KeptFault f) m memory k = unchanged (TakeFault f) m memory
 takeUnless NoFault m memory k =

@@ -29,6 +29,7 @@ withPrefixes k f n = prefixes k (shifted n) ++ (functionCode f * 16 + n % 16) �
 unfoldable pub enough : ℕ → ℕ → Bool
 enough k n = cond (ltb n (2 ^ 31)) (ltb n (16 ^ suc k)) (leb 1 k && ltb (2 ^ 32 - 1 - n) (16 ^ suc k))
 
+-- the first number of prefixes from k on that is enough
 unfoldable pub fewestFrom : (fuel k : ℕ) → ℕ → ℕ
 fewestFrom zero k n = k
 fewestFrom (suc f) k n = let more = fewestFrom f (suc k) n in cond (enough k n) k more
@@ -41,13 +42,15 @@ fewest n = fewestFrom 7 0 n
 abbrev pub distancePrefixes : ℕ
 distancePrefixes = 3
 
--- the gathered operand with its low four bits set to a byte's; what PFIX and NFIX then make of it
+-- every byte: the gathered operand with its low four bits set to the byte's
 abbrev pub gathered : (operand byte : ℕ) → ℕ
 gathered o b = o / 16 * 16 + b % 16
 
+-- PFIX then moves it up by four bits
 abbrev pub pfixed : ℕ → ℕ
 pfixed o = low (o * 16)
 
+-- NFIX turns every bit over and moves it up by four bits
 abbrev pub nfixed : ℕ → ℕ
 nfixed o = low ((2 ^ 32 - 1 - o) * 16)
 

@@ -20,16 +20,20 @@ pub data Parsed (A : Type 0) : Type 0 where
 abbrev pub Reader : Type 0 → Type 0
 Reader A = ℕ → List ℕ → Parsed A
 
+-- what is read after a part; a refusal ends the reading
 abbrev pub onward : {A B : Type 0} → Parsed A → (A → Reader B) → Parsed B
 onward (parsed a at bytes) f = f a at bytes
 onward (fails n p) f = fails n p
 
+-- one part, then another from the byte after it: reading goes left to right
 abbrev pub _>>=_ : {A B : Type 0} → Reader A → (A → Reader B) → Reader B
 _>>=_ r f at bytes = onward (r at bytes) f
 
+-- a result, with nothing more read
 abbrev pub pure : {A : Type 0} → A → Reader A
 pure a at bytes = parsed a at bytes
 
+-- a refusal with its number and the place that it returns
 abbrev pub refuse : {A : Type 0} → (number place : ℕ) → Reader A
 refuse n p at bytes = fails n p
 
@@ -37,6 +41,7 @@ refuse n p at bytes = fails n p
 abbrev pub here : Reader ℕ
 here at bytes = parsed at at bytes
 
+-- refusal 2: a number cut short, too long or too large
 abbrev numberOr2 : Option Number → Reader ℕ
 numberOr2 none at bytes = fails 2 at
 numberOr2 (some n) at bytes = parsed (n .value) (at + n .size) (drop (n .size) bytes)
@@ -50,13 +55,14 @@ abbrev oneOf3 : {A : Type 0} → Option A → ℕ → Reader A
 oneOf3 none at = refuse 3 at
 oneOf3 (some a) at = pure a
 
+-- refusal 3: an unknown kind or operator
 unfoldable pub oneOf : {A : Type 0} → List A → Reader A
 oneOf things = do
   at ← here
   n ← readNumber
   oneOf3 (getElem? things n) at
 
--- a count from lo to hi; else 3 at its byte
+-- a count from lo to hi; else refusal 3 at its byte
 unfoldable pub readCount : (lo hi : ℕ) → Reader ℕ
 readCount lo hi = do
   at ← here
@@ -73,32 +79,38 @@ abbrev nameOr5 : (Site → Bool) → Option Site → ℕ → Reader Site
 nameOr5 fits none at = refuse 5 at
 nameOr5 fits (some s) at = cond (fits s) (pure s) (refuse 5 at)
 
+-- a variable's or channel's number; refusal 5: a name not in scope, or an outside channel used the wrong way
 unfoldable pub readName : (Site → Bool) → List Site → Reader Site
 readName fits names = do
   at ← here
   n ← readNumber
   nameOr5 fits (getElem? names n) at
 
+-- a variable may be used in any way
 abbrev pub anySite : Site → Bool
 anySite s = true
 
--- an outside output is no channel to input from, and an outside input none to output to
+-- an outside output is no channel to input from
 abbrev pub canInput : Site → Bool
 canInput (inputOf k) = true
 canInput (outputOf k) = false
 canInput (declared p j) = true
 
+-- an outside input is no channel to output to
 abbrev pub canOutput : Site → Bool
 canOutput (inputOf k) = false
 canOutput (outputOf k) = true
 canOutput (declared p j) = true
 
+-- the number of a variable
 abbrev pub readVariable : Scope → Reader Site
 readVariable names = readName anySite (names .variables)
 
+-- the number of a channel to input from
 abbrev pub readInput : Scope → Reader Site
 readInput names = readName canInput (names .channels)
 
+-- the number of a channel to output to
 abbrev pub readOutput : Scope → Reader Site
 readOutput names = readName canOutput (names .channels)
 
@@ -107,22 +119,27 @@ unfoldable pub names : (place count : ℕ) → List Site
 names p zero = []
 names p (suc n) = names p n ++ declared p n ∷ []
 
+-- the names inside a VAR: its own come after those in scope, so the outermost is 0
 abbrev pub withVariables : ℕ → ℕ → Scope → Scope
 withVariables p n s = record { variables = s .variables ++ names p n; channels = s .channels }
 
+-- the same inside a CHAN: variables and channels are numbered apart
 abbrev pub withChannels : ℕ → ℕ → Scope → Scope
 withChannels p n s = record { variables = s .variables; channels = s .channels ++ names p n }
 
+-- 01: an expression is 0 and a constant word; 1 and a variable; 2 (NOT) and an expression; or 3, operator, left, right
 pub data ExprKind : Type 0 where
   isConstant isVariable isNot isBinary : ExprKind
 
+-- the kinds of expressions in the order of their numbers, from 0
 abbrev pub exprKinds : List ExprKind
 exprKinds = isConstant ∷ isVariable ∷ isNot ∷ isBinary ∷ []
 
+-- the operators in the order of their numbers, from 0
 abbrev pub operators : List Operator
 operators = PLUS ∷ MINUS ∷ TIMES ∷ GT ∷ EQ ∷ AND ∷ OR ∷ XOR ∷ []
 
--- depth 33: its first number may be bad, else 4 at its first byte
+-- refusal 4, depth 33: its first number may be bad (2), else 4 at its first byte
 unfoldable pub tooDeep : {A : Type 0} → Reader A
 tooDeep = do
   at ← here
@@ -140,13 +157,14 @@ exprOf names inner isBinary = do
   right ← inner
   pure (binary op left right)
 
--- an expression, with the depths left from it on
+-- an expression, with the depths left from it on: the number falls by 1 for each expression inside
 unfoldable pub readExpr : ℕ → Scope → Reader Expr
 readExpr zero names = tooDeep
 readExpr (suc d) names = do
   k ← oneOf exprKinds
   exprOf names (readExpr d names) k
 
+-- an expression that stands in no other, with the place that refusal 8 returns
 unfoldable pub readWhole : ℕ → Scope → Reader Whole
 readWhole d names = do
   at ← here
@@ -161,15 +179,19 @@ readMany empty more part (suc n) = do
   rest ← readMany empty more part n
   pure (more a rest)
 
+-- the kinds of 01's table
 pub data StmtKind : Type 0 where
   isSkip isStop isAssign isInput isOutput isVar isChan isSeq isPar isIf isWhile isAlt : StmtKind
 
+-- 0 SKIP, 1 STOP, 2 assign, 3 input, 4 output, 5 VAR, 6 CHAN, 7 SEQ, 8 PAR, 9 IF, 10 WHILE, 11 ALT
 abbrev pub stmtKinds : List StmtKind
 stmtKinds = isSkip ∷ isStop ∷ isAssign ∷ isInput ∷ isOutput ∷ isVar ∷ isChan ∷ isSeq ∷ isPar ∷ isIf ∷ isWhile ∷ isAlt ∷ []
 
+-- 01: a guard is 0 (waits for input) or 1 (SKIP guard)
 pub data GuardKind : Type 0 where
   isInputGuard isSkipGuard : GuardKind
 
+-- the kinds of guards in the order of their numbers
 abbrev pub guardKinds : List GuardKind
 guardKinds = isInputGuard ∷ isSkipGuard ∷ []
 
@@ -178,12 +200,14 @@ pub record Inner : Type 0 where
   pub expr : Reader Whole
   pub stmt : Scope → Reader Stmt
 
+-- a pair of an IF: expression, statement
 unfoldable pub readPair : Scope → Inner → Reader (Pairs → Pairs)
 readPair names inner = do
   e ← inner .expr
   s ← inner .stmt names
   pure (pair e s)
 
+-- 01: condition, channel, variable, statement (waits for input), or condition, statement (SKIP guard)
 unfoldable pub guardOf : Scope → Inner → GuardKind → Reader (Guards → Guards)
 guardOf names inner isInputGuard = do
   e ← inner .expr
@@ -196,15 +220,17 @@ guardOf names inner isSkipGuard = do
   s ← inner .stmt names
   pure (skipGuard e s)
 
+-- a guard is no level of depth: its number is read at the ALT's level
 unfoldable pub readGuard : Scope → Inner → Reader (Guards → Guards)
 readGuard names inner = do
   k ← oneOf guardKinds
   guardOf names inner k
 
+-- a pair or guard in front of the ones after it
 abbrev pub applied : {L : Type 0} → (L → L) → L → L
 applied f l = f l
 
--- what follows a statement's kind, for a statement at a place
+-- what follows a statement's kind, for a statement at a place: the column "then" of 01's table
 unfoldable pub stmtOf : (place : ℕ) → Scope → Inner → StmtKind → Reader Stmt
 stmtOf p names inner isSkip = pure SKIP
 stmtOf p names inner isStop = pure STOP
@@ -219,7 +245,7 @@ stmtOf p names inner isIf = do n ← readCount 0 32; ps ← readMany noPair appl
 stmtOf p names inner isWhile = do e ← inner .expr; s ← inner .stmt names; pure (WHILE e s)
 stmtOf p names inner isAlt = do n ← readCount 0 32; gs ← readMany noGuard applied (readGuard names inner) n; pure (ALT gs)
 
--- a statement, with the depths left from it on
+-- a statement, with the depths left from it on; each statement or expression inside it is one deeper
 unfoldable pub readStmt : ℕ → Scope → Reader Stmt
 readStmt zero names = tooDeep
 readStmt (suc d) names = do
@@ -232,6 +258,7 @@ unfoldable pub outside : (ℕ → Site) → ℕ → List Site
 outside of zero = []
 outside of (suc n) = outside of n ++ of n ∷ []
 
+-- 01: first two numbers, 0 to 8 each: outside inputs, then outside outputs. Then one statement, at depth 1; 32 is the deepest
 unfoldable pub readProgram : Reader Program
 readProgram = do
   ins ← readCount 0 8
@@ -244,12 +271,12 @@ pub data Read : Type 0 where
   program : Program → Read
   refused : (number place : ℕ) → Read
 
--- 6 at the first byte after the program
+-- refusal 6 at the first byte after the program
 abbrev whole : Parsed Program → Read
 whole (parsed p at []) = program p
 whole (parsed p at (b ∷ bytes)) = refused 6 at
 whole (fails n at) = refused n at
 
--- a table of 0 or over 16,384 bytes is refused first
+-- reading a table. Refusal 1 comes first: a table of 0 or over 16,384 bytes, at place 0
 unfoldable pub readTable : List ℕ → Read
 readTable table = let r = whole (readProgram 0 table) in cond (leb 1 (length table) && leb (length table) 16384) r (refused 1 0)

@@ -8,7 +8,8 @@ use lib.Dec.{ltb, leb, eqb}
 use Rattle.model.specs.Word.{low, notProcess}
 use Rattle.model.specs.Instruction.{Function, pfixCode, nfixCode, functionOf}
 use Rattle.model.specs.Prefix.{gathered, pfixed, nfixed}
-use Rattle.model.specs.Machine.{machineWith, Talk, World, Result, done, faults, Act, _>>=_, _>>_, return, fault, registers, setRegisters, setup}
+use Rattle.model.specs.Machine.{machineWith, Talk, World, Result, done, faults, Act, _>>=_, _>>_, return, fault, registers}
+use Rattle.model.specs.Machine.{setRegisters, setup}
 use Rattle.model.specs.Machine.{goto, gathering, counting, testPlace, memorySize}
 use Rattle.model.specs.Execute.{execute}
 use Rattle.model.specs.declared.Cpu.{Cpu}
@@ -32,6 +33,7 @@ fetch code = do
   u ← setup
   cond (ltb (r .place) (u .code)) (return (getD code (r .place) 0)) (fault (Place (r .place)))
 
+-- refusal 12: a direct function that is not used is a fault with the function as its number
 abbrev functionOr12 : Option Function → (code operand : ℕ) → Act (Unit {0})
 functionOr12 none n o = fault (BadFunction n)
 functionOr12 (some f) n o = do
@@ -55,18 +57,18 @@ land = do
   r ← registers
   cond (r .running) (testPlace (r .place)) (return tt)
 
--- one byte: one instruction of the count
+-- one byte, which counts one instruction
 unfoldable pub byte : List ℕ → Act (Unit {0})
 byte code = do
   b ← fetch code
   act b
   land
 
--- the process that has the processor stands at the code's end
+-- 01, ended: the process that has the processor stands at the code's end
 abbrev pub ended : Machine → Bool
 ended m = m .cpu .running && eqb (m .cpu .place) (m .setup .code)
 
--- no process has the processor, and none is queued
+-- 01, waiting: no process has the processor and none is queued (`queued` counts only while `running`)
 abbrev pub waits : Machine → Bool
 waits m = not (m .cpu .running)
 
@@ -75,12 +77,13 @@ pub record Finish : Type 0 where
   pub outcome : Outcome
   pub world : World
 
--- a fault is kept; state and memory stay as they were before the byte
+-- refusal 12: the fault is kept; state and memory stay as they were before the byte, offer or take
 abbrev pub keep : FaultKind → World → World
 keep k s =
     let m = s .machine in
     record { machine = machineWith (m .cpu) (m .offers) (m .held) (KeptFault k) m; memory = s .memory; talk = s .talk }
 
+-- a byte that would fault is not begun and not counted; those before it stand
 abbrev onward : Result (Unit {0}) → World → ℕ → (World → Finish) → Finish
 onward (done u t) s n more = more t
 onward (faults k) s n more = record { outcome = RunFault n k; world = keep k s }
@@ -95,7 +98,7 @@ runFrom (suc k) code n s =
     cond (ended (s .machine)) (record { outcome = Ended n; world = s })
     (cond (waits (s .machine)) (record { outcome = Waiting n; world = s }) more)
 
--- memory too short: the size needed
+-- refusal 11: lent memory too short
 abbrev pub shortMemory : Machine → List ℕ → Bool
 shortMemory m memory = ltb (length memory) (memorySize (m .setup))
 
@@ -106,12 +109,15 @@ pub record After (Answer : Type 0) : Type 0 where
   pub memory : List ℕ
   pub talk : List Talk
 
+-- a refusal changes no state and no lent memory
 abbrev pub unchanged : {Answer : Type 0} → Answer → Machine → List ℕ → After Answer
 unchanged a m memory = record { answer = a; machine = m; memory = memory; talk = [] }
 
+-- a machine with its lent memory, before any communication of the call
 abbrev pub worldOf : Machine → List ℕ → World
 worldOf m memory = record { machine = m; memory = memory; talk = [] }
 
+-- a run's answer and what it left
 abbrev finished : Finish → After RunAnswer
 finished f = record { answer = Ran (f .outcome); machine = f .world .machine; memory = f .world .memory; talk = f .world .talk }
 
@@ -127,9 +133,11 @@ run m code memory budget =
     cond (ltb (length code) (m .setup .code)) (unchanged (RunShort (m .setup .code)) m memory)
     (cond (shortMemory m memory) (unchanged (RunShort (memorySize (m .setup))) m memory) ran)
 
+-- eight offer values, none of them held
 abbrev pub noOffers : List ℕ
 noOffers = replicate 8 0
 
+-- no offer is held
 abbrev pub noneHeld : List Bool
 noneHeld = replicate 8 false
 
@@ -154,6 +162,7 @@ registersAt w runs =
 unfoldable pub fresh : Setup → Machine
 fresh u = record { cpu = registersAt (u .base) true; setup = u; offers = noOffers; held = noneHeld; fault = Nothing }
 
+-- no code, no memory, no channels
 abbrev pub noSetup : Setup
 noSetup = record { code = 0; base = 0; inputs = 0; outputs = 0; slice = 0 }
 
@@ -161,11 +170,11 @@ noSetup = record { code = 0; base = 0; inputs = 0; outputs = 0; slice = 0 }
 unfoldable pub blank : Machine
 blank = record { cpu = registersAt 0 false; setup = noSetup; offers = noOffers; held = noneHeld; fault = Nothing }
 
--- every needed word starts as 0, channels as NotProcess; later words stay
+-- 01: outside channels start as NotProcess, every other needed word as 0; later words stay
 unfoldable pub cleared : Setup → List ℕ → List ℕ
 cleared u memory = replicate (u .base) 0 ++ replicate (u .inputs + u .outputs) notProcess ++ drop (memorySize u) memory
 
--- a start: 15 first, then 3 for a channel count over 8 and 10, then 11
+-- a start: 15 first, then 3 for a channel count over 8 and 10, then 11, which tests memory only
 unfoldable pub start : (code memory : List ℕ) → (w inputs outputs slice : ℕ) → After StartAnswer
 start code memory w i o q =
     let u : Setup = record { code = length code; base = w; inputs = i; outputs = o; slice = q } in

@@ -11,7 +11,7 @@ use Rattle.model.specs.Instruction as I
 use Rattle.model.specs.Instruction.{Instruction, plain, distance, operation, ldlp, ldc, ldl, cj, ajw, eqc, stl, rev, endp, diff, «in»}
 use Rattle.model.specs.Instruction.{prod, startp, outword, stopp, ldpi, disc, diss, mint, altwt, altend, enbc, enbs}
 
--- the operation of an operator; EQ is DIFF, EQC 0
+-- 01: SUM, DIFF, PROD, GT, AND, OR, XOR; EQ is DIFF, EQC 0
 unfoldable pub operatorCode : Operator → List Instruction
 operatorCode PLUS = operation I.sum ∷ []
 operatorCode MINUS = operation diff ∷ []
@@ -22,12 +22,12 @@ operatorCode AND = operation I.and ∷ []
 operatorCode OR = operation I.or ∷ []
 operatorCode XOR = operation I.xor ∷ []
 
--- so many declared words set by an instruction that brings in their first value
+-- VAR and CHAN: LDC 0 or MINT, then STL j, for j = 0 to n - 1
 unfoldable pub initialise : Instruction → ℕ → List Instruction
 initialise first zero = []
 initialise first (suc n) = initialise first n ++ first ∷ plain stl n ∷ []
 
--- how many instructions an expression has
+-- how many instructions an operator has
 unfoldable pub operatorSize : Operator → ℕ
 operatorSize PLUS = 1
 operatorSize MINUS = 1
@@ -38,12 +38,14 @@ operatorSize AND = 1
 operatorSize OR = 1
 operatorSize XOR = 1
 
+-- how many instructions an expression has
 unfoldable pub exprSize : Expr → ℕ
 exprSize (constant n) = 1
 exprSize (variable x) = 1
 exprSize (NOT e) = exprSize e + 1
 exprSize (binary op l r) = exprSize l + exprSize r + operatorSize op
 
+-- the same for an expression that stands in no other
 abbrev pub wholeSize : Whole → ℕ
 wholeSize e = exprSize (e .expr)
 
@@ -52,7 +54,7 @@ unfoldable pub howMany : Stmts → ℕ
 howMany noStmt = 0
 howMany (stmt s ss) = suc (howMany ss)
 
--- the instructions of a guard's enabling, disabling and branch, and of a statement
+-- how many instructions a statement has, and the parts of SEQ, PAR and IF, and an ALT's enabling, disabling and branches
 unfoldable mutual
   pub size : Stmt → ℕ
   size SKIP = 0
@@ -106,19 +108,24 @@ module _ (word : Site → ℕ) where
   abbrev pub local : (w : ℕ) → Site → ℕ
   local w x = less (word x) w
 
-  -- left, right, then the operation; NOT is EQC 0
+  -- 01, expression: LDC a constant, LDL a variable; left, right, then the operation; NOT is EQC 0
   unfoldable pub exprCode : (w : ℕ) → Expr → List Instruction
   exprCode w (constant n) = plain ldc n ∷ []
   exprCode w (variable x) = plain ldl (local w x) ∷ []
   exprCode w (NOT e) = exprCode w e ++ plain eqc 0 ∷ []
   exprCode w (binary op l r) = exprCode w l ++ exprCode w r ++ operatorCode op
 
+  -- the code of an expression that stands in no other
   abbrev pub wholeCode : (w : ℕ) → Whole → List Instruction
   wholeCode w e = exprCode w (e .expr)
 
+  -- 01, input: LDLP variable, LDLP channel, LDC 4, IN
   abbrev pub inputCode : (w : ℕ) → (channel variable : Site) → List Instruction
   inputCode w c x = plain ldlp (local w x) ∷ plain ldlp (local w c) ∷ plain ldc 4 ∷ operation «in» ∷ []
 
+  -- 01's listings. STOP: STOPP. Assign: value, STL. Output: value, LDLP channel, REV, AJW -1, OUTWORD, AJW 1.
+  -- VAR n: AJW -n, then LDC 0, STL j for each j, body, AJW n. CHAN: the same with MINT. WHILE: condition, CJ end, body, J start.
+  -- ALT: AJW -1, ALT, the enabling, ALTWT, the disabling, ALTEND, the branches
   unfoldable mutual
     pub code : (w i : ℕ) → Stmt → List Instruction
     code w i SKIP = []
@@ -148,11 +155,13 @@ module _ (word : Site → ℕ) where
         ++ operation altend
         ∷ codeBranches w (choice + 1) (choice + 1 + sizeBranches gs) gs
 
+    -- SEQ: the parts, one after the other
     pub codeAll : (w i : ℕ) → Stmts → List Instruction
     codeAll w i noStmt = []
     codeAll w i (stmt s ss) = code w i s ++ codeAll w (i + size s) ss
 
-    -- the words 0 and 1 of a PAR hold where it goes on and how many branches are not over
+    -- PAR with branches: AJW -2; LDC end, LDPI, STL 0; LDC count, STL 1; the starts; the branches; AJW 2. PAR of none: no code.
+    -- Word 0 holds where the PAR goes on, word 1 how many branches are not over
     pub codePar : (w i : ℕ) → Stmts → List Instruction
     codePar w i noStmt = []
     codePar w i (stmt s ss) =
@@ -172,18 +181,19 @@ module _ (word : Site → ℕ) where
         ++ plain ajw 2
         ∷ []
 
-    -- starting branches: the first of them runs at d below, its code is at index b
+    -- for each branch from the second LDC start, LDLP -d, STARTP. The first of these runs at d below, its code is at index b
     pub codeStarts : (d i b : ℕ) → Stmts → List Instruction
     codeStarts d i b noStmt = []
     codeStarts d i b (stmt s ss) =
         distance ldc b (i + 2) ∷ plain ldlp (minus d) ∷ operation startp ∷ codeStarts (d + need s) (i + 3) (b + size s + 2) ss
 
-    -- the branches themselves, each with its end
+    -- per branch its code, LDLP d, ENDP
     pub codeEnds : (w d i : ℕ) → Stmts → List Instruction
     codeEnds w d i noStmt = []
     codeEnds w d i (stmt s ss) =
         code (w - d) i s ++ plain ldlp d ∷ operation endp ∷ codeEnds w (d + need s) (i + size s + 2) ss
 
+    -- IF, per pair: condition, CJ next, statement, J end; the last pair too
     pub codePairs : (w i over : ℕ) → Pairs → List Instruction
     codePairs w i over noPair = []
     codePairs w i over (pair e s ps) =
@@ -195,12 +205,14 @@ module _ (word : Site → ℕ) where
         ++ distance I.j over leave
         ∷ codePairs w (leave + 1) over ps
 
+    -- per guard condition, LDLP channel, REV, ENBC, or condition, ENBS
     pub codeEnable : (w : ℕ) → Guards → List Instruction
     codeEnable w noGuard = []
     codeEnable w (inputGuard e c x s gs) =
         wholeCode w e ++ plain ldlp (local w c) ∷ operation rev ∷ operation enbc ∷ codeEnable w gs
     codeEnable w (skipGuard e s gs) = wholeCode w e ++ operation enbs ∷ codeEnable w gs
 
+    -- per guard condition, LDLP channel, REV, LDC branch, DISC, or condition, LDC branch, DISS.
     -- `choice` is the index of ALTEND, b that of the first branch
     pub codeDisable : (w choice b : ℕ) → Guards → List Instruction
     codeDisable w choice b noGuard = []
@@ -214,6 +226,7 @@ module _ (word : Site → ℕ) where
     codeDisable w choice b (skipGuard e s gs) =
         wholeCode w e ++ distance ldc b choice ∷ operation diss ∷ codeDisable w choice (b + 1 + size s + 1) gs
 
+    -- per branch AJW 1, the input if any, statement, J end; the last branch too
     pub codeBranches : (w i over : ℕ) → Guards → List Instruction
     codeBranches w i over noGuard = []
     codeBranches w i over (inputGuard e c x s gs) =

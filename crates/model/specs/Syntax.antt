@@ -10,9 +10,11 @@ pub data Site : Type 0 where
   outputOf : ℕ → Site
   declared : (place j : ℕ) → Site
 
+-- 01: operators 0 PLUS, 1 MINUS, 2 TIMES, 3 GT, 4 EQ, 5 AND, 6 OR, 7 XOR
 pub data Operator : Type 0 where
   PLUS MINUS TIMES GT EQ AND OR XOR : Operator
 
+-- 01: a constant word, a variable, NOT of an expression, or an operator with left and right
 pub data Expr : Type 0 where
   constant : ℕ → Expr
   variable : Site → Expr
@@ -26,6 +28,7 @@ pub record Whole : Type 0 where
 
 -- VAR, CHAN and PAR have the place of their first byte: it tells declarations apart, and refusal 7 returns it
 mutual
+  -- a statement: 01's kinds 0 SKIP to 11 ALT
   pub data Stmt : Type 0 where
     SKIP STOP : Stmt
     assign : Site → Whole → Stmt
@@ -38,10 +41,12 @@ mutual
     WHILE : Whole → Stmt → Stmt
     ALT : Guards → Stmt
 
+  -- the statements of a SEQ or PAR
   pub data Stmts : Type 0 where
     noStmt : Stmts
     stmt : Stmt → Stmts → Stmts
 
+  -- the pairs of an IF: expression, statement
   pub data Pairs : Type 0 where
     noPair : Pairs
     pair : Whole → Stmt → Pairs → Pairs

@@ -16,9 +16,11 @@ pub record Usage : Type 0 where
   pub inputs : List Site  -- channels input from
   pub outputs : List Site  -- channels output to
 
+-- a part that uses no name
 abbrev pub nothing : Usage
 nothing = record { changes = []; uses = []; inputs = []; outputs = [] }
 
+-- what two parts do together
 infixr 60 _⊕_
 abbrev pub _⊕_ : Usage → Usage → Usage
 _⊕_ u v =
@@ -29,24 +31,30 @@ _⊕_ u v =
       outputs = u .outputs ++ v .outputs;
     }
 
+-- the variables that an expression reads
 unfoldable pub reads : Expr → List Site
 reads (constant n) = []
 reads (variable x) = x ∷ []
 reads (NOT e) = reads e
 reads (binary op l r) = reads l ++ reads r
 
+-- an expression uses its variables, a condition too
 abbrev pub reading : Whole → Usage
 reading e = record { changes = []; uses = reads (e .expr); inputs = []; outputs = [] }
 
+-- assigning or inputting a variable, which also uses it
 abbrev pub changing : Site → Usage
 changing x = record { changes = x ∷ []; uses = x ∷ []; inputs = []; outputs = [] }
 
+-- inputting from a channel
 abbrev pub inputting : Site → Usage
 inputting c = record { changes = []; uses = []; inputs = c ∷ []; outputs = [] }
 
+-- outputting to a channel
 abbrev pub outputting : Site → Usage
 outputting c = record { changes = []; uses = []; inputs = []; outputs = c ∷ [] }
 
+-- what a statement does to names, and the parts of a SEQ or PAR, an IF and an ALT. A guard inputs from its channel into its variable
 unfoldable mutual
   pub usage : Stmt → Usage
   usage SKIP = nothing
@@ -75,6 +83,7 @@ unfoldable mutual
   usageGuards (inputGuard e c x s gs) = reading e ⊕ inputting c ⊕ changing x ⊕ usage s ⊕ usageGuards gs
   usageGuards (skipGuard e s gs) = reading e ⊕ usage s ⊕ usageGuards gs
 
+-- two names are one: the same declaration and number, or the same outside channel
 unfoldable pub same : Site → Site → Bool
 same (inputOf j) (inputOf k) = eqb j k
 same (inputOf j) (outputOf k) = false
@@ -86,33 +95,37 @@ same (declared p j) (inputOf k) = false
 same (declared p j) (outputOf k) = false
 same (declared p j) (declared q k) = eqb p q && eqb j k
 
+-- a name is in a list
 unfoldable pub isIn : Site → List Site → Bool
 isIn x [] = false
 isIn x (y ∷ ys) = same x y || isIn x ys
 
+-- two lists have a name in common
 unfoldable pub share : List Site → List Site → Bool
 share [] ys = false
 share (x ∷ xs) ys = isIn x ys || share xs ys
 
--- two branches that may not stand in one PAR
+-- two branches that may not stand in one PAR: one changes a variable that the other uses, or both input from, or output to, one channel
 unfoldable pub clash : Usage → Usage → Bool
 clash u v =
     share (u .changes) (v .uses) || share (v .changes) (u .uses) || share (u .inputs) (v .inputs) || share (u .outputs) (v .outputs)
 
--- some two of the branches clash: one with a later one
+-- a branch clashes with a later one
 unfoldable pub clashesLater : Usage → Stmts → Bool
 clashesLater u noStmt = false
 clashesLater u (stmt s ss) = clash u (usage s) || clashesLater u ss
 
+-- some two branches of a PAR clash
 unfoldable pub anyClash : Stmts → Bool
 anyClash noStmt = false
 anyClash (stmt s ss) = clashesLater (usage s) ss || anyClash ss
 
+-- the first place of two, where there is one
 abbrev pub orElse : Option ℕ → Option ℕ → Option ℕ
 orElse none o = o
 orElse (some p) o = some p
 
--- the place of the first PAR with a clash: an outer one before the ones inside it
+-- refusal 7: the place of the first PAR with a clash, an outer one before the ones inside it
 unfoldable mutual
   pub firstClash : Stmt → Option ℕ
   firstClash SKIP = none
