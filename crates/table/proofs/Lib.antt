@@ -1,0 +1,13 @@
+pub mod SameItems
+pub mod SameExpr
+pub mod SameSimple
+pub mod SameDeclare
+pub mod SameMany
+pub mod SameParts
+pub mod SameAlt
+pub mod SamePar
+pub mod SameStmt
+pub mod SameTable
+pub mod Marks
+pub mod Clash
+pub mod Small

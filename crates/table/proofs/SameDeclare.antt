@@ -1,0 +1,212 @@
+-- VAR and CHAN.
+use Prim.Native.Nat.{ℕ, suc, _+_, _-_, _≤_, _<_}
+use native.Mathlib.Omega.{arith}
+use mathlib.Core.Path.{_≡_, refl, sym, _∙_}
+use mathlib.Core.Logic.{_⊎_, inl, inr, ⊎-elim}
+use mathlib.Core.Bool.{Bool, true, false, _||_}
+use mathlib.Core.List.{List, _++_}
+use mathlib.Core.Option.{some}
+use lib.ListN.{length, drop, getElem?, length-append}
+use lib.Dec.{ltb, leb}
+use borrow.Author.Tests.{le-leb}
+use Rattle.model.specs.Syntax.{Site}
+use Rattle.model.specs.Syntax as M
+use Rattle.model.specs.Reader.{onward, pure, Scope, names, withVariables, withChannels, readCount, canInput, canOutput, readStmt, Inner}
+use Rattle.model.specs.Reader.{stmtOf, isVar, isChan}
+use Rattle.model.specs.Usage.{Usage, usage, firstClash}
+use Rattle.model.specs.Counts.{firstDeep, processes, need}
+use Rattle.table.specs.Stmts.{itemS, Fits, stmtAt, declaring, moreNames}
+use Rattle.table.specs.Uses.{Used, skipAt, stmtUsed}
+use Rattle.table.specs.declared.stmt.Names.{Names}
+use Rattle.table.specs.declared.stmt.StmtRead.the-variants.{Stmt, Refused as NoStmt}
+use Rattle.table.proofs.SameItems.{Bytes, Same, gives, onwards, inside, count-same}
+use Rattle.table.proofs.Marks.{Field, changed, used-there, inputs-of, outputs-of, names-of, Stretch, later, skip-used, InScope}
+use Rattle.table.specs.Items.{betweenAt}
+use Rattle.table.proofs.SameSimple.{partOf, DeclaredIn, Within, Scoped, Outer, RestIs, StmtIs, fresh-more, own-more, below-more}
+use Rattle.table.proofs.SameSimple.{below-later, lookup-append, names-at, length-names, declared-wider}
+
+-- the statements inside, one level down
+abbrev pub InnerIs : List ℕ → ℕ → Type 0
+InnerIs s d = (w : Names) (sc : Scope) (i : ℕ) → Scoped w sc i → Fits w d → Same s (StmtIs s d sc i) NoStmt (stmtAt d w s i)
+    (readStmt d sc i (drop i s))
+
+abbrev pub declaredWay : (d : ℕ) → (vs cs : List Site) → List ℕ → ℕ → List ℕ → Used
+declaredWay d vs cs part i l = stmtUsed d (length vs) (length cs) part (skipAt part i) l
+
+variables-in : (w : Names) (sc : Scope) (place c m : ℕ) → Scoped w sc place → place < m
+    → Scoped (moreNames 5 c w) (withVariables place c sc) m
+variables-in w sc place c m h l =
+    record {
+      variables = rw (h .variables) (sym (length-append (sc .variables) (names place c) ∙ rw (length-names place c) refl));
+      channels = h .channels;
+      outer = h .outer;
+      ins = h .ins;
+      outs = h .outs;
+      own-variables = own-more (sc .variables) place c (h .before-variables) (h .own-variables);
+      own-channels = h .own-channels;
+      before-variables = below-more (sc .variables) place c m (h .before-variables) l;
+      before-channels = below-later (sc .channels) place m (omega (arith, l)) (h .before-channels);
+    }
+
+channel-ways : (w : Names) (sc : Scope) (place c i : ℕ) (a : Site) → Scoped w sc place → getElem? (sc .channels ++ names place c) i ≡ some a
+    → (canInput a ≡ (ltb i (w .inputs) || leb (w .inputs + w .outputs) i)) × (canOutput a ≡ (ltb i 0 || leb (w .inputs) i))
+channel-ways w sc place c i a h e =
+    ⊎-elim (λ (g : getElem? (sc .channels) i ≡ some a). (h .ins i a g, h .outs i a g))
+    (λ (g : (length (sc .channels) ≤ i) × (getElem? (names place c) (i - length (sc .channels)) ≡ some a)).
+    let high : w .inputs + w .outputs ≤ i = omega (arith, h .outer, h .channels, g .0) in
+    rw (
+      names-at place c (i - length (sc .channels)) a (g .1) .0,
+      le-leb (w .inputs + w .outputs) i high,
+      le-leb (w .inputs) i
+          (omega (arith, high)),
+      or-true (ltb i (w .inputs)),
+      or-true (ltb i 0),
+    ) (refl, refl))
+    (lookup-append (sc .channels) (names place c) i a e)
+  where
+    or-true : (t : Bool) → (t || true) ≡ true
+    or-true true = refl
+    or-true false = refl
+
+channels-in : (w : Names) (sc : Scope) (place c m : ℕ) → Scoped w sc place → place < m
+    → Scoped (moreNames 6 c w) (withChannels place c sc) m
+channels-in w sc place c m h l =
+    record {
+      variables = h .variables;
+      channels = rw (h .channels) (sym (length-append (sc .channels) (names place c) ∙ rw (length-names place c) refl));
+      outer = omega (arith, h .outer);
+      ins = λ i a e. channel-ways w sc place c i a h e .0;
+      outs = λ i a e. channel-ways w sc place c i a h e .1;
+      own-variables = h .own-variables;
+      own-channels = own-more (sc .channels) place c (h .before-channels) (h .own-channels);
+      before-variables = below-later (sc .variables) place m (omega (arith, l)) (h .before-variables);
+      before-channels = below-more (sc .channels) place c m (h .before-channels) l;
+    }
+
+-- names of the scope outside, or of the declaration
+within-new : (names1 : List Site) (place c k n : ℕ) (x : Site) → place < n → getElem? (names1 ++ names place c) k ≡ some x
+    → InScope names1 x ⊎ DeclaredIn place n x
+within-new names1 place c k n x l e =
+    ⊎-elim (λ (h : getElem? names1 k ≡ some x). inl (k, h))
+    (λ (h : (length names1 ≤ k) × (getElem? (names place c) (k - length names1) ≡ some x)).
+    let new = names-at place c (k - length names1) x (h .1) in inr (rw (new .0) (omega arith, l)))
+    (lookup-append names1 (names place c) k x e)
+
+outer-variables : (sc : Scope) (place c m : ℕ) (vs cs : List Site) → place ≤ m → Outer sc place vs cs
+    → Outer (withVariables place c sc) m vs cs
+outer-variables sc place c m vs cs l o =
+    record {
+      before-variables = below-later vs place m l (o .before-variables);
+      before-channels = below-later cs place m l (o .before-channels);
+      variables = fresh-more vs (sc .variables) place c (o .before-variables) (o .variables) (o .fewer-variables);
+      channels = o .channels;
+      fewer-variables = omega (arith, o .fewer-variables, length-append (sc .variables) (names place c));
+      fewer-channels = o .fewer-channels;
+    }
+
+outer-channels : (sc : Scope) (place c m : ℕ) (vs cs : List Site) → place ≤ m → Outer sc place vs cs
+    → Outer (withChannels place c sc) m vs cs
+outer-channels sc place c m vs cs l o =
+    record {
+      before-variables = below-later vs place m l (o .before-variables);
+      before-channels = below-later cs place m l (o .before-channels);
+      variables = o .variables;
+      channels = fresh-more cs (sc .channels) place c (o .before-channels) (o .channels) (o .fewer-channels);
+      fewer-variables = o .fewer-variables;
+      fewer-channels = omega (arith, o .fewer-channels, length-append (sc .channels) (names place c));
+    }
+
+-- what a declaration asks of the scope that it makes
+record Declares (s : List ℕ) (d : ℕ) (w : Names) (sc : Scope) (place kind : ℕ) (more : ℕ → Scope) (of : ℕ → M.Stmt → M.Stmt) : Type 0 where
+  scoped : (c m : ℕ) → place < m → Scoped (moreNames kind c w) (more c) m
+  fits : (c : ℕ) → c ≤ 32 → Fits (moreNames kind c w) d
+  outer : (c m : ℕ) (vs cs : List Site) → place ≤ m → Outer sc place vs cs → Outer (more c) m vs cs
+  within : (c m n : ℕ) (u : Usage) → place < m → m ≤ n → Within (more c) m n u → Within sc place n u
+  counts : (c n : ℕ) (st : M.Stmt) → declaring c (Stmt (partOf st n)) ≡ Stmt (partOf (of c st) n)
+  same-usage : (c : ℕ) (st : M.Stmt) → usage (of c st) ≡ usage st
+
+declare-same : (s : List ℕ) (d : ℕ) (w : Names) (sc : Scope) (place kind : ℕ) (more : ℕ → Scope) (of : ℕ → M.Stmt → M.Stmt) (at : ℕ)
+    → Bytes s
+    → place < at → InnerIs s d → Declares s d w sc place kind more of
+    → Same s (RestIs s d sc place at (declaredWay d)) NoStmt
+    (itemS (betweenAt 1 32 s at) (λ c m. declaring c (stmtAt d (moreNames kind c w) s m)))
+    (onward (readCount 1 32 at (drop at s)) (λ c. λ i bytes. onward (readStmt d (more c) i bytes) (λ st. pure (of c st))))
+declare-same s d w sc place kind more of at b l inner h =
+    onwards (λ x. itemS x (λ c m. declaring c (stmtAt d (moreNames kind c w) s m))) _ (count-same 1 32 s at b)
+    (λ c m y k q. rw (k .found) (
+    onwards (λ x. declaring c x) (λ st. pure (of c st))
+    (inner (moreNames kind c w) (more c) m (h .scoped c m (omega (arith, l, k .there .ahead))) (h .fits c (k .most)))
+    (λ st n z r p. rw (r .is, h .counts c n st) (gives (of c st) n (Stmt (partOf (of c st) n))
+    (record {
+      is = refl;
+      ahead = omega (arith, k .there .ahead, r .ahead);
+      uses = λ vs cs from to j o st2.
+          let here : Stretch s vs cs at m from to j = later st2 (omega arith) (omega (arith, r .ahead)) refl in
+          let rest : Stretch s vs cs m n from to j = later st2 (omega (arith, k .there .ahead)) (omega arith) refl in
+          rw (skip-used (k .there) here, h .same-usage c st)
+          (r .uses vs cs from to j (h .outer c m vs cs (omega (arith, l, k .there .ahead)) o) rest);
+      within = rw (h .same-usage c st)
+          (h .within c m n (usage st) (omega (arith, l, k .there .ahead)) (omega (arith, r .ahead)) (r .within));
+    })))
+    (λ j p. refl)))
+    (λ j p. refl)
+
+within-variables : (sc : Scope) (place c m n : ℕ) (u : Usage) → place < m → m ≤ n → Within (withVariables place c sc) m n u
+    → Within sc place n u
+within-variables sc place c m n u l k w = record { each-in = λ f x e. one f x (w .each-in f x e) }
+  where
+    one : (f : Field) (x : Site) → InScope (names-of f (sc .variables ++ names place c) (sc .channels)) x ⊎ DeclaredIn m n x
+        → InScope (names-of f (sc .variables) (sc .channels)) x ⊎ DeclaredIn place n x
+    one changed x (inl i) = within-new (sc .variables) place c (i .0) n x (omega (arith, l, k)) (i .1)
+    one used-there x (inl i) = within-new (sc .variables) place c (i .0) n x (omega (arith, l, k)) (i .1)
+    one inputs-of x (inl i) = inl i
+    one outputs-of x (inl i) = inl i
+    one f x (inr i) = inr (declared-wider x m n place n (omega (arith, l)) (omega arith) i)
+
+within-channels : (sc : Scope) (place c m n : ℕ) (u : Usage) → place < m → m ≤ n → Within (withChannels place c sc) m n u
+    → Within sc place n u
+within-channels sc place c m n u l k w = record { each-in = λ f x e. one f x (w .each-in f x e) }
+  where
+    one : (f : Field) (x : Site) → InScope (names-of f (sc .variables) (sc .channels ++ names place c)) x ⊎ DeclaredIn m n x
+        → InScope (names-of f (sc .variables) (sc .channels)) x ⊎ DeclaredIn place n x
+    one changed x (inl i) = inl i
+    one used-there x (inl i) = inl i
+    one inputs-of x (inl i) = within-new (sc .channels) place c (i .0) n x (omega (arith, l, k)) (i .1)
+    one outputs-of x (inl i) = within-new (sc .channels) place c (i .0) n x (omega (arith, l, k)) (i .1)
+    one f x (inr i) = inr (declared-wider x m n place n (omega (arith, l)) (omega arith) i)
+
+pub variables-same : (s : List ℕ) (d : ℕ) (w : Names) (sc : Scope) (place at : ℕ) (inner : Inner) → Bytes s → place < at → Scoped w sc place
+    → Fits w (suc d) → InnerIs s d → inner .stmt ≡ readStmt d
+    → Same s (RestIs s d sc place at (declaredWay d)) NoStmt
+    (itemS (betweenAt 1 32 s at) (λ c m. declaring c (stmtAt d (moreNames 5 c w) s m)))
+    (stmtOf place sc inner isVar at (drop at s))
+unfolding stmtOf need processes firstDeep firstClash usage
+variables-same s d w sc place at inner b l h f i e =
+    rw e (
+    declare-same s d w sc place 5 (λ c. withVariables place c sc) (λ c st. M.VAR place c st) at b l i
+    (record {
+      scoped = λ c m k. variables-in w sc place c m h k;
+      fits = λ c k. (omega (arith, f .0), omega (arith, f .1, k), omega (arith, f .2), f .3, f .4);
+      outer = λ c m vs cs k o. outer-variables sc place c m vs cs k o;
+      within = λ c m n u k j r. within-variables sc place c m n u k j r;
+      counts = λ c n st. refl;
+      same-usage = λ c st. refl;
+    }))
+
+pub channels-same : (s : List ℕ) (d : ℕ) (w : Names) (sc : Scope) (place at : ℕ) (inner : Inner) → Bytes s → place < at → Scoped w sc place
+    → Fits w (suc d) → InnerIs s d → inner .stmt ≡ readStmt d
+    → Same s (RestIs s d sc place at (declaredWay d)) NoStmt
+    (itemS (betweenAt 1 32 s at) (λ c m. declaring c (stmtAt d (moreNames 6 c w) s m)))
+    (stmtOf place sc inner isChan at (drop at s))
+unfolding stmtOf need processes firstDeep firstClash usage
+channels-same s d w sc place at inner b l h f i e =
+    rw e (
+    declare-same s d w sc place 6 (λ c. withChannels place c sc) (λ c st. M.CHAN place c st) at b l i
+    (record {
+      scoped = λ c m k. channels-in w sc place c m h k;
+      fits = λ c k. (omega (arith, f .0), omega (arith, f .1), omega (arith, f .2, k), f .3, f .4);
+      outer = λ c m vs cs k o. outer-channels sc place c m vs cs k o;
+      within = λ c m n u k j r. within-channels sc place c m n u k j r;
+      counts = λ c n st. refl;
+      same-usage = λ c st. refl;
+    }))

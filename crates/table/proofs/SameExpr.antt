@@ -1,0 +1,183 @@
+-- Expressions as the reader answers them are those of the model's reader, with the registers that they need.
+use Prim.Native.Nat.{ℕ, zero, suc, _-_, _<_}
+use native.Mathlib.Omega.{arith}
+use mathlib.Core.Path.{_≡_, refl}
+use mathlib.Core.Bool.{true}
+use mathlib.Core.List.{List, []}
+use lib.ListN.{length, drop}
+use lib.Seq.{slice}
+use lib.Dec.{ltb, eqb}
+use borrow.Author.Tests.{le-leb, le-ltb}
+use Rattle.model.specs.Syntax.{Site, constant, variable, NOT, binary}
+use Rattle.model.specs.Syntax as M
+use Rattle.model.specs.Reader.{Parsed, Reader, pure, Scope, readName, anySite, isConstant, isVariable, isNot, isBinary, exprKinds}
+use Rattle.model.specs.Reader.{operators, exprOf, readExpr}
+use Rattle.model.specs.Usage.{Usage, isIn, reads}
+use Rattle.model.proofs.Cases.{never}
+use Rattle.model.specs.Counts.{registers}
+use Rattle.table.specs.Items.{betweenAt, nameAt}
+use Rattle.table.specs.Exprs.{pickE, withItem, withExpr, leafAt, joined, sides, exprAt}
+use Rattle.table.specs.Uses.{Used, used, pickU, skipAt, thenUsed, nameUsed, exprUsed}
+use Rattle.table.specs.declared.number.Item.the-variants.{Refused}
+use Rattle.table.specs.declared.expr.ExprRead.{ExprRead}
+use Rattle.table.specs.declared.expr.ExprRead.the-variants.{Expr, Refused as NoExpr}
+use Rattle.table.proofs.SameItems.{Bytes, NumberAt, Same, gives, turns, onwards, Listed, one-same, name-same, deep-same, word-same}
+use Rattle.table.proofs.SameItems.{each}
+use Rattle.table.proofs.Marks.{Fresh, UsedAs, Stretch, marked-nothing, marked-both, used-there, number-in, later, name-used}
+use Rattle.table.proofs.Marks.{skip-used, InScope, or-cases, in-one, isIn-append}
+
+-- the variables that an expression reads, and no more
+abbrev pub readsOnly : M.Expr → Usage
+readsOnly e = record { changes = []; uses = reads e; inputs = []; outputs = [] }
+
+-- a way to use the part of a table from a place up to another, as a usage says, in every stretch that has it
+abbrev pub UsesAs : List ℕ → Scope → (at n : ℕ) → Usage → ((vs cs : List Site) → List ℕ → ℕ → List ℕ → Used) → Type 0
+UsesAs s names at n u way =
+    (vs cs : List Site) (from to : ℕ) (l : List ℕ) → Fresh vs (names .variables) → Fresh cs (names .channels)
+    → Stretch s vs cs at n from to l → UsedAs vs cs l u n from (way vs cs (slice from to s) (at - from) l)
+
+-- an expression: its registers, its end and what it reads
+pub record ExprIs (s : List ℕ) (d : ℕ) (names : Scope) (at : ℕ) (e : M.Expr) (n : ℕ) (x : ExprRead) : Type 0 where
+  pub is : x ≡ Expr n (registers e)
+  pub ahead : at < n
+  pub uses : UsesAs s names at n (readsOnly e) (λ vs cs part i l. exprUsed d (length vs) part i l)
+  pub within : (x : Site) → isIn x (reads e) ≡ true → InScope (names .variables) x
+
+-- what follows an expression's kind
+abbrev afterKind : (d limit kind : ℕ) → List ℕ → ℕ → List ℕ → Used
+afterKind d limit k part n l =
+    pickU (eqb k 0) (used (skipAt part n) l)
+    (pickU (eqb k 1) (nameUsed 1024 limit part n l)
+    (pickU (eqb k 2) (exprUsed d limit part n l)
+    (thenUsed (exprUsed d limit part (skipAt part n) l) (λ m k2. exprUsed d limit part m k2))))
+
+record RestIs (s : List ℕ) (d : ℕ) (names : Scope) (kind at : ℕ) (e : M.Expr) (n : ℕ) (x : ExprRead) : Type 0 where
+  is : x ≡ Expr n (registers e)
+  ahead : at < n
+  uses : UsesAs s names at n (readsOnly e) (λ vs cs part i l. afterKind d (length vs) kind part i l)
+  within : (x : Site) → isIn x (reads e) ≡ true → InScope (names .variables) x
+
+pub variable-same : (vs : List Site) (s : List ℕ) (at : ℕ) → Bytes s
+    → Same s (Listed s at vs) Refused (nameAt (length vs) 0 0 s at) (readName anySite vs at (drop at s))
+variable-same vs s at b =
+    name-same anySite vs 0 0 s at b (λ i a e. rw (le-ltb i 0 (omega arith), le-leb 0 i (omega arith)) refl)
+
+constant-same : (d : ℕ) (names : Scope) (inner : Reader M.Expr) (vs : ℕ) (s : List ℕ) (at : ℕ) → Bytes s
+    → Same s (RestIs s d names 0 at) NoExpr (leafAt 0 vs s at) (exprOf names inner isConstant at (drop at s))
+unfolding leafAt exprOf registers reads isIn
+constant-same d names inner vs s at b =
+    onwards (λ i. withItem i (λ v n. Expr n 1)) (λ v. pure (constant v)) (word-same s at b)
+    (λ v n y h e. rw (h .found) (gives (constant v) n _
+    (record {
+      is = refl;
+      ahead = h .there .ahead;
+      uses = λ vs cs from to l fv fc st. record { next = skip-used (h .there) st; marks = marked-nothing vs cs l };
+      within = λ x i. never (cc);
+    })))
+    (λ j p. refl)
+
+leaf-same : (d : ℕ) (names : Scope) (inner : Reader M.Expr) (s : List ℕ) (at : ℕ) → Bytes s
+    → Same s (RestIs s d names 1 at) NoExpr (leafAt 1 (length (names .variables)) s at) (exprOf names inner isVariable at (drop at s))
+unfolding leafAt exprOf registers reads
+leaf-same d names inner s at b =
+    onwards (λ i. withItem i (λ v n. Expr n 1)) (λ x. pure (variable x)) (variable-same (names .variables) s at b)
+    (λ x n y h e. rw (h .found) (gives (variable x) n _
+    (record {
+      is = refl;
+      ahead = h .there .ahead;
+      uses = λ vs cs from to l fv fc st. name-used used-there h fv st;
+      within = λ z i. (h .value, rw (in-one x z i) (h .listed));
+    })))
+    (λ j p. refl)
+
+abbrev InnerSame : List ℕ → ℕ → Scope → (ℕ → ExprRead) → Reader M.Expr → Type 0
+InnerSame s d names inner reader = (i : ℕ) → Same s (ExprIs s d names i) NoExpr (inner i) (reader i (drop i s))
+
+not-same : (d : ℕ) (names : Scope) (inner : ℕ → ExprRead) (reader : Reader M.Expr) (s : List ℕ) (at : ℕ) → InnerSame s d names inner reader
+    → Same s (RestIs s d names 2 at) NoExpr (inner at) (exprOf names reader isNot at (drop at s))
+unfolding exprOf registers reads
+not-same d names inner reader s at h =
+    onwards (λ y. y) (λ e. pure (NOT e)) (h at)
+    (λ e n y k q. gives (NOT e) n y (record { is = k .is; ahead = k .ahead; uses = k .uses; within = k .within })) (λ j p. refl)
+
+-- left, then right
+both-uses : {s : List ℕ} {d : ℕ} {names : Scope} {at n m i : ℕ} {o : ℕ} {l r : M.Expr} {x y : ExprRead} (op : M.Operator)
+    → NumberAt s at o n
+    → ExprIs s d names n l m x → ExprIs s d names m r i y
+    → UsesAs s names at i (readsOnly (binary op l r)) (λ vs cs part i l. afterKind d (length vs) 3 part i l)
+unfolding reads
+both-uses {s} {d} {at = at} {n} {m} {i} op t kl kr vs cs from to marks fv fc st =
+    let here : Stretch s vs cs at n from to marks = later st (omega arith) (omega (arith, kl .ahead, kr .ahead)) refl in
+    let left : Stretch s vs cs n m from to marks = later st (omega (arith, t .ahead)) (omega (arith, kr .ahead)) refl in
+    let first = kl .uses vs cs from to marks fv fc left in
+    let half = exprUsed d (length vs) (slice from to s) (n - from) marks .marks in
+    let right : Stretch s vs cs m i from to half = later st (omega (arith, t .ahead, kl .ahead)) (omega arith) (first .marks .long) in
+    let second = kr .uses vs cs from to half fv fc right in
+    rw (skip-used t here, first .next) (record { next = second .next; marks = marked-both (first .marks) (second .marks) })
+
+binary-same : (d : ℕ) (names : Scope) (inner : ℕ → ExprRead) (reader : Reader M.Expr) (s : List ℕ) (at : ℕ) → Bytes s
+    → InnerSame s d names inner reader
+    → Same s (RestIs s d names 3 at) NoExpr (withItem (betweenAt 0 7 s at) (λ o m. sides inner m))
+    (exprOf names reader isBinary at (drop at s))
+unfolding exprOf registers reads
+binary-same d names inner reader s at b h =
+    onwards (λ i. withItem i (λ o m. sides inner m)) _ (one-same operators 7 s at b refl)
+    (λ op n y k q. rw (k .found) (
+    onwards (λ x. withExpr x (λ n l. withExpr (inner n) (λ m r. Expr m (joined l r)))) _ (h n)
+    (λ l m z kl ql. rw (kl .is) (
+    onwards (λ x. withExpr x (λ i r. Expr i (joined (registers l) r))) (λ r. pure (binary op l r)) (h m)
+    (λ r i u kr qr. rw (kr .is) (gives (binary op l r) i _
+    (record {
+      is = refl;
+      ahead = omega (arith, k .there .ahead, kl .ahead, kr .ahead);
+      uses = both-uses op (k .there) kl kr;
+      within =
+          λ x a.
+          or-cases (isIn x (reads l)) (isIn x (reads r)) (rw (isIn-append x (reads l) (reads r)) at a) (kl .within x) (kr .within x);
+    })))
+    (λ j p. refl)))
+    (λ j p. refl)))
+    (λ j p. refl)
+
+pub expr-same : (d : ℕ) (names : Scope) (s : List ℕ) (at : ℕ) → Bytes s
+    → Same s (ExprIs s d names at) NoExpr (exprAt d (length (names .variables)) s at) (readExpr d names at (drop at s))
+unfolding exprAt readExpr exprUsed
+expr-same zero names s at b = deep-same (ExprIs s zero names at) NoExpr (λ i. withItem i (λ v n. Expr n 1)) s at b (λ j p. refl)
+expr-same (suc d) names s at b =
+    let inner : InnerSame s d names (λ i. exprAt d (length (names .variables)) s i) (readExpr d names) = λ i. expr-same d names s i b in
+    onwards (λ x. withItem x (λ k n. kinds k n)) (λ k. exprOf names (readExpr d names) k) (one-same exprKinds 3 s at b refl)
+    (λ kind n y k q. rw (k .found) (with-kind (k .value) n _ _ (k .there) (
+    each (λ v kind. Same s (RestIs s d names v n) NoExpr (kinds v n) (exprOf names (readExpr d names) kind n (drop n s))) exprKinds
+    (k .value) (
+      constant-same d names (readExpr d names) (length (names .variables)) s n b,
+      (
+        leaf-same d names (readExpr d names) s n b,
+        (
+          not-same d names (λ i. exprAt d (length (names .variables)) s i) (readExpr d names) s n inner,
+          (binary-same d names (λ i. exprAt d (length (names .variables)) s i) (readExpr d names) s n b inner, tt),
+        ),
+      ),
+    ) (k .listed))))
+    (λ j p. refl)
+  where
+    kinds : ℕ → ℕ → ExprRead
+    kinds k n =
+        pickE (ltb k 2) (leafAt k (length (names .variables)) s n)
+        (pickE (eqb k 2) (exprAt d (length (names .variables)) s n)
+        (withItem (betweenAt 0 7 s n) (λ o m. sides (λ i. exprAt d (length (names .variables)) s i) m)))
+
+    with-kind : (k n : ℕ) (x : ExprRead) (r : Parsed M.Expr) → NumberAt s at k n → Same s (RestIs s d names k n) NoExpr x r
+        → Same s (ExprIs s (suc d) names at) NoExpr x r
+    with-kind k n x r t (gives e m y h) =
+        gives e m y
+        (record {
+          is = h .is;
+          ahead = omega (arith, t .ahead, h .ahead);
+          uses =
+              λ vs cs from to l fv fc st.
+              let here : Stretch s vs cs at n from to l = later st (omega arith) (omega (arith, h .ahead)) refl in
+              let rest : Stretch s vs cs n m from to l = later st (omega (arith, t .ahead)) (omega arith) refl in
+              rw (number-in t here) (h .uses vs cs from to l fv fc rest);
+          within = h .within;
+        })
+    with-kind k n x r t (turns j p) = turns j p

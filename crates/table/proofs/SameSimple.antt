@@ -1,0 +1,412 @@
+-- What is counted of statements and how they use names, against the model; statements without statements inside.
+use Prim.Native.Nat.{ℕ, zero, suc, _+_, _-_, _≤_, _<_}
+use native.Mathlib.Omega.{arith}
+use mathlib.Core.Path.{_≡_, refl, sym, _∙_}
+use mathlib.Core.Logic.{_⊎_, inl, inr, ⊎-elim}
+use mathlib.Core.Bool.{true, false, cond, _||_}
+use mathlib.Core.List.{List, [], _∷_, _++_}
+use mathlib.Core.Option.{Option, none, some, Option·some-injective}
+use lib.ListN.{length, drop, getElem?, length-append}
+use lib.Seq.{slice}
+use lib.Dec.{ltb, leb, eqb}
+use borrow.Author.Tests.{eq-eqb, ne-eqb, eqb-true, eqb-false}
+use Rattle.model.proofs.Cases.{by-bool, never}
+use Rattle.model.specs.Syntax.{Site, inputOf, outputOf, declared, Whole}
+use Rattle.model.specs.Syntax as M
+use Rattle.model.specs.Reader.{parsed, Reader, onward, pure, Scope, names, readName, anySite, canInput, canOutput, readWhole, Inner, stmtOf}
+use Rattle.model.specs.Reader.{isAssign, isInput, isOutput}
+use Rattle.model.specs.Usage.{Usage, nothing, _⊕_, reading, changing, inputting, same, isIn, reads, usage, firstClash}
+use Rattle.model.specs.Counts.{registers, firstDeep, processes, need}
+use Rattle.table.specs.Stmts.{pickF, itemS, itemH, headS, wholeOf, wholeAt, variableAt, inputAt, outputAt, leaf, valueAt, takenAt}
+use Rattle.table.specs.Stmts.{simpleAt}
+use Rattle.table.specs.Uses.{Used, used, thenUsed, nameUsed, variableUsed, exprUsed, simpleUsed, stmtUsed}
+use Rattle.table.specs.declared.number.Item.{Item}
+use Rattle.table.specs.declared.number.Item.the-variants.{Refused}
+use Rattle.table.specs.declared.stmt.Names.{Names}
+use Rattle.table.specs.declared.stmt.First.{First}
+use Rattle.table.specs.declared.stmt.First.the-variants.{Nowhere, At}
+use Rattle.table.specs.declared.stmt.Part.{Part}
+use Rattle.table.specs.declared.stmt.StmtRead.{StmtRead}
+use Rattle.table.specs.declared.stmt.StmtRead.the-variants.{Stmt, Refused as NoStmt}
+use Rattle.table.specs.declared.stmt.HeadRead.{HeadRead}
+use Rattle.table.specs.declared.stmt.HeadRead.the-variants.{Head, Refused as NoHead}
+use Rattle.table.proofs.SameItems.{Bytes, Same, gives, onwards, Listed, name-same, inside}
+use Rattle.table.proofs.Marks.{Field, changed, used-there, inputs-of, outputs-of, field, names-of, only, Fresh, UsedAs, Stretch}
+use Rattle.table.proofs.Marks.{marked-nothing, marked-both, later, name-used, variable-used, isIn-append, field-both, field-only}
+use Rattle.table.proofs.Marks.{fields, InScope, or-cases, in-one}
+use Rattle.table.proofs.SameExpr.{UsesAs, expr-same, variable-same}
+
+abbrev pub first : Option ℕ → First
+first none = Nowhere
+first (some p) = At p
+
+-- what is counted of a statement that ends at a place
+abbrev pub partOf : M.Stmt → ℕ → Part
+partOf st n =
+    record { next = n; words = need st; processes = processes st; deep = first (firstDeep st); clash = first (firstClash st) }
+
+-- declared at a place from lo up to hi
+abbrev pub DeclaredIn : (lo hi : ℕ) → Site → Type 0
+DeclaredIn lo hi (inputOf k) = ⊥
+DeclaredIn lo hi (outputOf k) = ⊥
+DeclaredIn lo hi (declared p j) = (lo ≤ p) × (p < hi)
+
+-- a usage of names in scope and of names declared from lo up to hi
+pub record Within (sc : Scope) (lo hi : ℕ) (u : Usage) : Type 0 where
+  pub each-in : (f : Field) (x : Site) → isIn x (field f u) ≡ true
+      → InScope (names-of f (sc .variables) (sc .channels)) x ⊎ DeclaredIn lo hi x
+
+-- all names were declared before a place
+abbrev pub Below : ℕ → List Site → Type 0
+Below at names = (k p j : ℕ) → getElem? names k ≡ some (declared p j) → p < at
+
+-- a scope, and the numbers of names in it
+pub record Scoped (w : Names) (sc : Scope) (at : ℕ) : Type 0 where
+  pub variables : w .variables ≡ length (sc .variables)
+  pub channels : w .channels ≡ length (sc .channels)
+  pub outer : w .inputs + w .outputs ≤ w .channels
+  pub ins : (i : ℕ) (a : Site) → getElem? (sc .channels) i ≡ some a → canInput a ≡ (ltb i (w .inputs) || leb (w .inputs + w .outputs) i)
+  pub outs : (i : ℕ) (a : Site) → getElem? (sc .channels) i ≡ some a → canOutput a ≡ (ltb i 0 || leb (w .inputs) i)
+  pub own-variables : Fresh (sc .variables) (sc .variables)
+  pub own-channels : Fresh (sc .channels) (sc .channels)
+  pub before-variables : Below at (sc .variables)
+  pub before-channels : Below at (sc .channels)
+
+-- names declared outside a PAR, at a place inside it
+pub record Outer (sc : Scope) (place : ℕ) (vs cs : List Site) : Type 0 where
+  pub before-variables : Below place vs
+  pub before-channels : Below place cs
+  pub variables : Fresh vs (sc .variables)
+  pub channels : Fresh cs (sc .channels)
+  pub fewer-variables : length vs ≤ length (sc .variables)
+  pub fewer-channels : length cs ≤ length (sc .channels)
+
+-- a way to use a part, for names declared before a place
+abbrev pub UsesFrom : List ℕ → Scope → (place at n : ℕ) → Usage → ((vs cs : List Site) → List ℕ → ℕ → List ℕ → Used) → Type 0
+UsesFrom s sc place at n u way =
+    (vs cs : List Site) (from to : ℕ) (l : List ℕ) → Outer sc place vs cs → Stretch s vs cs at n from to l
+    → UsedAs vs cs l u n from (way vs cs (slice from to s) (at - from) l)
+
+-- an expression that stands in no other
+abbrev pub noted : Whole → First
+noted e = pickF (leb (registers (e .expr)) 3) Nowhere (At (e .place))
+
+pub record WholeIs (s : List ℕ) (d : ℕ) (sc : Scope) (at : ℕ) (e : Whole) (n : ℕ) (x : HeadRead) : Type 0 where
+  pub is : x ≡ Head n (noted e)
+  pub ahead : at < n
+  pub uses : UsesAs s sc at n (reading e) (λ vs cs part i l. exprUsed d (length vs) part i l)
+  pub within : (lo hi : ℕ) → Within sc lo hi (reading e)
+
+within-reads : (sc : Scope) (e : Whole) (lo hi : ℕ) → ((x : Site) → isIn x (reads (e .expr)) ≡ true → InScope (sc .variables) x)
+    → Within sc lo hi (reading e)
+unfolding isIn
+within-reads sc e lo hi h = record { each-in = λ f x i. in-field f x i }
+  where
+    in-field : (f : Field) (x : Site) → isIn x (field f (reading e)) ≡ true
+        → InScope (names-of f (sc .variables) (sc .channels)) x ⊎ DeclaredIn lo hi x
+    in-field changed x i = never (cc)
+    in-field used-there x i = inl (h x i)
+    in-field inputs-of x i = never (cc)
+    in-field outputs-of x i = never (cc)
+
+pub whole-same : (d : ℕ) (sc : Scope) (s : List ℕ) (at : ℕ) → Bytes s
+    → Same s (WholeIs s d sc at) NoHead (wholeAt d (length (sc .variables)) s at) (readWhole d sc at (drop at s))
+unfolding wholeAt readWhole
+whole-same d sc s at b =
+    onwards (λ x. wholeOf at x) (λ e. pure (record { place = at; expr = e })) (expr-same d sc s at b)
+    (λ e n y k q. rw (k .is) (gives (record { place = at; expr = e }) n _
+    (record {
+      is = refl;
+      ahead = k .ahead;
+      uses = k .uses;
+      within = λ lo hi. within-reads sc (record { place = at; expr = e }) lo hi
+          (k .within);
+    })))
+    (λ j p. refl)
+
+pub first-noted : (e : Whole) → first (cond (leb (registers (e .expr)) 3) none (some (e .place))) ≡ noted e
+first-noted e = by-bool (leb (registers (e .expr)) 3) (λ q. rw q refl) (λ q. rw q refl)
+
+-- what follows a statement's kind
+pub record RestIs (s : List ℕ) (d : ℕ) (sc : Scope) (place at : ℕ) (way : (vs cs : List Site) → List ℕ → ℕ → List ℕ → Used)
+    (st : M.Stmt) (n : ℕ) (x : StmtRead) : Type 0 where
+  pub is : x ≡ Stmt (partOf st n)
+  pub ahead : at ≤ n
+  pub uses : UsesFrom s sc place at n (usage st) way
+  pub within : Within sc place n (usage st)
+
+abbrev pub Way : Type 0
+Way = (vs cs : List Site) → List ℕ → ℕ → List ℕ → Used
+
+-- parts of usages within a scope
+pub within-nothing : (sc : Scope) (lo hi : ℕ) → Within sc lo hi nothing
+unfolding isIn
+within-nothing sc lo hi = record { each-in = λ f x e. none-in f x e }
+  where
+    none-in : (f : Field) (x : Site) → isIn x (field f nothing) ≡ true
+        → InScope (names-of f (sc .variables) (sc .channels)) x ⊎ DeclaredIn lo hi x
+    none-in changed x e = never (cc)
+    none-in used-there x e = never (cc)
+    none-in inputs-of x e = never (cc)
+    none-in outputs-of x e = never (cc)
+
+pub declared-wider : (x : Site) (lo hi lo2 hi2 : ℕ) → lo2 ≤ lo → hi ≤ hi2 → DeclaredIn lo hi x → DeclaredIn lo2 hi2 x
+declared-wider (inputOf k) lo hi lo2 hi2 a b d = absurd d
+declared-wider (outputOf k) lo hi lo2 hi2 a b d = absurd d
+declared-wider (declared p j) lo hi lo2 hi2 a b d = (omega (arith, a, d .0), omega (arith, b, d .1))
+
+pub wider : {sc : Scope} {lo hi lo2 hi2 : ℕ} {u : Usage} → lo2 ≤ lo → hi ≤ hi2 → Within sc lo hi u → Within sc lo2 hi2 u
+wider {lo = lo} {hi} {lo2} {hi2} a b w =
+    record { each-in = λ f x e. ⊎-elim (λ i. inl i) (λ d. inr (declared-wider x lo hi lo2 hi2 a b d)) (w .each-in f x e) }
+
+pub within-both : {sc : Scope} {lo hi : ℕ} {u v : Usage} → Within sc lo hi u → Within sc lo hi v → Within sc lo hi (u ⊕ v)
+within-both {sc} {lo} {hi} {u} {v} a b =
+    record {
+      each-in = λ f x e.
+          let split : (isIn x (field f u) || isIn x (field f v)) ≡ true = rw
+          (field-both f u v, isIn-append x (field f u) (field f v)) at e in
+          or-cases (isIn x (field f u)) (isIn x (field f v)) split (λ h. a .each-in f x h) (λ h. b .each-in f x h);
+    }
+
+pub within-only : (f : Field) (sc : Scope) (lo hi k : ℕ) (x : Site) → getElem? (names-of f (sc .variables) (sc .channels)) k ≡ some x
+    → Within sc lo hi (only f x)
+unfolding isIn
+within-only f sc lo hi k x e =
+    record {
+      each-in = λ g y h.
+          fields g f
+          (λ q. let eq : y ≡ x = in-one x y (rw (q, field-only f x) at h) in inl (k, rw (q, eq) e))
+          (λ a. never (cc (rw (a .empty x) at h)));
+    }
+
+pub within-changing : (sc : Scope) (lo hi k : ℕ) (x : Site) → getElem? (sc .variables) k ≡ some x → Within sc lo hi (changing x)
+within-changing sc lo hi k x e = within-both (within-only changed sc lo hi k x e) (within-only used-there sc lo hi k x e)
+
+-- SKIP and STOP
+pub idle-same : (d : ℕ) (sc : Scope) (s : List ℕ) (place at k : ℕ) (st : M.Stmt) → ltb k 2 ≡ true → usage st ≡ nothing
+    → partOf st at ≡ record { next = at; words = 2; processes = 1; deep = Nowhere; clash = Nowhere }
+    → Same s (RestIs s d sc place at (λ vs cs part i l. simpleUsed k d (length vs) (length cs) part i l)) NoStmt (leaf at 2 Nowhere)
+    (parsed st at (drop at s))
+unfolding simpleUsed
+idle-same d sc s place at k st small none-used is =
+    gives st at (leaf at 2 Nowhere)
+    (record {
+      is = rw is refl;
+      ahead = omega arith;
+      uses = λ vs cs from to l o h. rw (small, none-used) (record { next = refl; marks = marked-nothing vs cs l });
+      within = rw none-used (within-nothing sc place at);
+    })
+
+-- an expression at the end of a statement without statements inside
+value-same : (words d : ℕ) (sc : Scope) (s : List ℕ) (at : ℕ) (of : Whole → M.Stmt) (R : M.Stmt → ℕ → StmtRead → Type 0) → Bytes s
+    → ((e : Whole) (n : ℕ) (x : HeadRead) → WholeIs s d sc at e n x → R (of e) n (leaf n words (noted e)))
+    → Same s R NoStmt (valueAt words d (length (sc .variables)) s at) (onward (readWhole d sc at (drop at s)) (λ e. pure (of e)))
+unfolding valueAt
+value-same words d sc s at of R b h =
+    onwards (λ x. headS x (λ m e. leaf m words e)) (λ e. pure (of e)) (whole-same d sc s at b)
+    (λ e n y k q. rw (k .is) (gives (of e) n (leaf n words (noted e)) (h e n y k))) (λ j p. refl)
+
+input-same : (w : Names) (sc : Scope) (place : ℕ) (s : List ℕ) (at : ℕ) → Bytes s → Scoped w sc place
+    → Same s (Listed s at (sc .channels)) Refused (inputAt w s at) (readName canInput (sc .channels) at (drop at s))
+input-same w sc place s at b h = rw (h .channels) (name-same canInput (sc .channels) (w .inputs) (w .inputs + w .outputs) s at b (h .ins))
+
+output-same : (w : Names) (sc : Scope) (place : ℕ) (s : List ℕ) (at : ℕ) → Bytes s → Scoped w sc place
+    → Same s (Listed s at (sc .channels)) Refused (outputAt w s at) (readName canOutput (sc .channels) at (drop at s))
+output-same w sc place s at b h = rw (h .channels) (name-same canOutput (sc .channels) 0 (w .inputs) s at b (h .outs))
+
+-- one part's use, then another's
+pub use-both : {vs cs : List Site} {l : List ℕ} {u v : Usage} {m n from : ℕ} (x : Used) (f : ℕ → List ℕ → Used)
+    → UsedAs vs cs l u m from x → UsedAs vs cs (x .marks) v n from (f (m - from) (x .marks)) → UsedAs vs cs l (u ⊕ v) n from (thenUsed x f)
+use-both x f a b = rw (a .next) (record { next = b .next; marks = marked-both (a .marks) (b .marks) })
+
+abbrev pub simpleWay : (kind d : ℕ) → Way
+simpleWay k d vs cs part i l = simpleUsed k d (length vs) (length cs) part i l
+
+pub assign-same : (d : ℕ) (w : Names) (sc : Scope) (s : List ℕ) (place at : ℕ) (stmts : Scope → Reader M.Stmt) → Bytes s → Scoped w sc place
+    → Same s (RestIs s d sc place at (simpleWay 2 d)) NoStmt (simpleAt 2 d w s at)
+    (stmtOf place sc (record { expr = readWhole d sc; stmt = stmts }) isAssign at (drop at s))
+unfolding simpleAt stmtOf simpleUsed need processes firstDeep firstClash usage
+assign-same d w sc s place at stmts b h =
+    rw (h .variables) (
+    onwards (λ i. itemS i (λ x n. valueAt 2 d (length (sc .variables)) s n)) _ (variable-same (sc .variables) s at b)
+    (λ x n y k q. rw (k .found) (
+    value-same 2 d sc s n (λ e. M.assign x e) (RestIs s d sc place at (simpleWay 2 d)) b (λ e m z r.
+    record {
+      is = rw (first-noted e) refl;
+      ahead = omega (arith, k .there .ahead, r .ahead);
+      uses = λ vs cs from to l o st.
+          let here : Stretch s vs cs at n from to l = later st (omega arith) (omega (arith, r .ahead)) refl in
+          let target = variable-used k (o .variables) here in
+          let rest : Stretch s vs cs n m from to (variableUsed (length vs) (slice from to s) (at - from) l .marks) =
+          later st (omega (arith, k .there .ahead)) (omega arith) (target .marks .long) in
+          use-both _ (λ i j. exprUsed d (length vs) (slice from to s) i j) target
+          (r .uses vs cs from to _ (o .variables) (o .channels) rest);
+      within = within-both (within-changing sc place m (k .value) x (k .listed)) (r .within place m);
+    })))
+    (λ j p. refl))
+
+-- a channel to input from and a variable, and what follows them
+pub taken-onward : {B Y : Type 0} {Q : B → ℕ → Y → Type 0} {g : ℕ → ℕ → Y} (w : Names) (sc : Scope) (s : List ℕ) (place at : ℕ) (e : First)
+    (c : HeadRead → Y) (k : Site → Site → Reader B) → Bytes s → Scoped w sc place
+    → ((ch x : Site) (n m : ℕ) (i j : Item) → Listed s at (sc .channels) ch n i → Listed s n (sc .variables) x m j
+    → Same s Q g (c (Head m e)) (k ch x m (drop m s)))
+    → ((j p : ℕ) → c (NoHead j p) ≡ g j p)
+    → Same s Q g (c (takenAt w s at e))
+    (onward (readName canInput (sc .channels) at (drop at s))
+    (λ ch. λ i bytes. onward (readName anySite (sc .variables) i bytes) (λ x. k ch x)))
+unfolding takenAt
+taken-onward w sc s place at e c k b h f r =
+    onwards (λ i. c (itemH i (λ ch n. itemH (variableAt w s n) (λ x m. Head m e)))) _ (input-same w sc place s at b h)
+    (λ ch n y kc q. rw (kc .found, h .variables) (
+    onwards (λ i. c (itemH i (λ x m. Head m e))) (λ x. k ch x) (variable-same (sc .variables) s n b)
+    (λ x m z kx p. rw (kx .found) (f ch x n m y z kc kx)) r))
+    r
+
+-- how a channel and a variable that are input are used
+pub input-used : {s : List ℕ} {vs cs : List Site} {sc : Scope} {ch x : Site} {at n m from to : ℕ} {i j : Item} (l : List ℕ)
+    → Listed s at (sc .channels) ch n i → Listed s n (sc .variables) x m j → Fresh vs (sc .variables) → Fresh cs (sc .channels)
+    → Stretch s vs cs at m from to l
+    → UsedAs vs cs l (inputting ch ⊕ changing x) m from
+    (thenUsed (nameUsed 2048 (length cs) (slice from to s) (at - from) l) (λ i j. variableUsed (length vs) (slice from to s) i j))
+input-used {s} {vs} {cs} {at = at} {n} {m} {from} {to} l kc kx fv fc st =
+    let here : Stretch s vs cs at n from to l = later st (omega arith) (omega (arith, kx .there .ahead)) refl in
+    let channel = name-used inputs-of kc fc here in
+    let rest : Stretch s vs cs n m from to (nameUsed 2048 (length cs) (slice from to s) (at - from) l .marks) =
+    later st (omega (arith, kc .there .ahead)) (omega arith) (channel .marks .long) in
+    use-both _ (λ i j. variableUsed (length vs) (slice from to s) i j) channel (variable-used kx fv rest)
+
+pub within-input : {s : List ℕ} {sc : Scope} {ch x : Site} {at n m : ℕ} {i j : Item} (lo hi : ℕ)
+    → Listed s at (sc .channels) ch n i → Listed s n (sc .variables) x m j → Within sc lo hi (inputting ch ⊕ changing x)
+within-input {sc = sc} {ch} {x} lo hi kc kx =
+    within-both (within-only inputs-of sc lo hi (kc .value) ch (kc .listed)) (within-changing sc lo hi (kx .value) x (kx .listed))
+
+pub input-stmt-same : (d : ℕ) (w : Names) (sc : Scope) (s : List ℕ) (place at : ℕ) (inner : Inner) → Bytes s → Scoped w sc place
+    → Same s (RestIs s d sc place at (simpleWay 3 d)) NoStmt (simpleAt 3 d w s at) (stmtOf place sc inner isInput at (drop at s))
+unfolding simpleAt stmtOf simpleUsed need processes firstDeep firstClash usage
+input-stmt-same d w sc s place at inner b h =
+    taken-onward w sc s place at Nowhere (λ x. headS x (λ m e. leaf m 3 e)) (λ c x. pure (M.input c x)) b h
+    (λ ch x n m i j kc kx. gives (M.input ch x) m (leaf m 3 Nowhere)
+    (record {
+      is = refl;
+      ahead = omega (arith, kc .there .ahead, kx .there .ahead);
+      uses = λ vs cs from to l o st. input-used l kc kx (o .variables) (o .channels) st;
+      within = within-input place m kc kx;
+    }))
+    (λ j p. refl)
+
+pub output-stmt-same : (d : ℕ) (w : Names) (sc : Scope) (s : List ℕ) (place at : ℕ) (stmts : Scope → Reader M.Stmt) → Bytes s
+    → Scoped w sc place
+    → Same s (RestIs s d sc place at (simpleWay 4 d)) NoStmt (simpleAt 4 d w s at)
+    (stmtOf place sc (record { expr = readWhole d sc; stmt = stmts }) isOutput at (drop at s))
+unfolding simpleAt stmtOf simpleUsed need processes firstDeep firstClash usage
+output-stmt-same d w sc s place at stmts b h =
+    rw (h .variables) (
+    onwards (λ i. itemS i (λ x n. valueAt 4 d (length (sc .variables)) s n)) _ (output-same w sc place s at b h)
+    (λ ch n y k q. rw (k .found) (
+    value-same 4 d sc s n (λ e. M.output ch e) (RestIs s d sc place at (simpleWay 4 d)) b (λ e m z r.
+    record {
+      is = rw (first-noted e) refl;
+      ahead = omega (arith, k .there .ahead, r .ahead);
+      uses = λ vs cs from to l o st.
+          let here : Stretch s vs cs at n from to l = later st (omega arith) (omega (arith, r .ahead)) refl in
+          let target = name-used outputs-of k (o .channels) here in
+          let rest : Stretch s vs cs n m from to (nameUsed 3072 (length cs) (slice from to s) (at - from) l .marks) =
+          later st (omega (arith, k .there .ahead)) (omega arith) (target .marks .long) in
+          use-both _ (λ i j. exprUsed d (length vs) (slice from to s) i j) target
+          (r .uses vs cs from to _ (o .variables) (o .channels) rest);
+      within = within-both (within-only outputs-of sc place m (k .value) ch (k .listed)) (r .within place m);
+    })))
+    (λ j p. refl))
+
+-- a statement
+pub record StmtIs (s : List ℕ) (d : ℕ) (sc : Scope) (at : ℕ) (st : M.Stmt) (n : ℕ) (x : StmtRead) : Type 0 where
+  pub is : x ≡ Stmt (partOf st n)
+  pub ahead : at < n
+  pub uses : UsesFrom s sc at at n (usage st) (λ vs cs part i l. stmtUsed d (length vs) (length cs) part i l)
+  pub within : Within sc at n (usage st)
+
+-- a name among two lists of names
+pub lookup-append : {A : Type 0} (a b : List A) (k : ℕ) (x : A) → getElem? (a ++ b) k ≡ some x
+    → (getElem? a k ≡ some x) ⊎ ((length a ≤ k) × (getElem? b (k - length a) ≡ some x))
+lookup-append [] b k x e = inr (omega arith, let here : k - 0 ≡ k = omega arith in rw here e)
+lookup-append (y ∷ a) b zero x e = inl e
+lookup-append (y ∷ a) b (suc k) x e =
+    ⊎-elim (λ (h : getElem? a k ≡ some x). inl h)
+    (λ (h : (length a ≤ k) × (getElem? b (k - length a) ≡ some x)).
+    let here : suc k - suc (length a) ≡ k - length a = omega arith in inr (omega (arith, h .0), rw here (h .1)))
+    (lookup-append a b k x e)
+
+pub length-names : (p c : ℕ) → length (names p c) ≡ c
+unfolding names
+length-names p zero = refl
+length-names p (suc c) = length-append (names p c) (declared p c ∷ []) ∙ rw (length-names p c) (omega arith)
+
+-- so many more names at a place
+pub names-at : (p c i : ℕ) (x : Site) → getElem? (names p c) i ≡ some x → (x ≡ declared p i) × (i < c)
+unfolding names
+names-at p zero i x e = never (cc)
+names-at p (suc c) i x e =
+    ⊎-elim
+    (λ (h : getElem? (names p c) i ≡ some x). let r = names-at p c i x h in (r .0, omega (arith, r .1)))
+    (λ (h : (length (names p c) ≤ i) × (getElem? (declared p c ∷ []) (i - length (names p c)) ≡ some x)).
+    let q = only-one (i - length (names p c)) (h .1) in
+    let here : i ≡ c = omega (arith, h .0, q .0, length-names p c) in
+    (rw here (sym (q .1)), omega (arith, here)))
+    (lookup-append (names p c) (declared p c ∷ []) i x e)
+  where
+    only-one : (j : ℕ) → getElem? (declared p c ∷ []) j ≡ some x → (j ≡ 0) × (declared p c ≡ x)
+    only-one zero h = (refl, Option·some-injective (declared p c) x h)
+    only-one (suc j) h = never (cc)
+
+-- names declared before a place are none of those declared there
+before-other : (y : Site) (p i : ℕ) → ((q j : ℕ) → y ≡ declared q j → q < p)
+    → (same y (declared p i) ≡ false) × (same (declared p i) y ≡ false)
+unfolding same
+before-other (inputOf k) p i h = (refl, refl)
+before-other (outputOf k) p i h = (refl, refl)
+before-other (declared q j) p i h =
+    let l : q < p = h q j refl in
+    (rw (ne-eqb q p (λ e. omega (arith, l, e))) refl, rw (ne-eqb p q (λ e. omega (arith, l, e))) refl)
+
+before-name : (place : ℕ) (vs : List Site) (k : ℕ) (y : Site) → Below place vs → getElem? vs k ≡ some y → (q j : ℕ) → y ≡ declared q j
+    → q < place
+before-name place vs k y below e q j d = below k q j (rw d at e)
+
+pub fresh-more : (vs old : List Site) (p c : ℕ) → Below p vs → Fresh vs old → length vs ≤ length old → Fresh vs (old ++ names p c)
+fresh-more vs old p c below fresh few k v y x ek ev =
+    ⊎-elim (λ (h : getElem? old v ≡ some x). fresh k v y x ek h)
+    (λ (h : (length old ≤ v) × (getElem? (names p c) (v - length old) ≡ some x)).
+    let new = names-at p c (v - length old) x (h .1) in
+    let apart : k ≡ v → ⊥ = λ e. omega (arith, e, h .0, few, inside vs k ek) in
+    rw (new .0, before-other y p (v - length old) (before-name p vs k y below ek) .0) (sym (ne-eqb k v apart)))
+    (lookup-append old (names p c) v x ev)
+
+pub own-more : (vs : List Site) (p c : ℕ) → Below p vs → Fresh vs vs → Fresh (vs ++ names p c) (vs ++ names p c)
+unfolding same
+own-more vs p c below fresh k v y x ek ev =
+    ⊎-elim (λ (h : getElem? vs k ≡ some y). fresh-more vs vs p c below fresh (omega arith) k v y x h ev)
+    (λ (h : (length vs ≤ k) × (getElem? (names p c) (k - length vs) ≡ some y)).
+    let new = names-at p c (k - length vs) y (h .1) in
+    rw (new .0) (
+    ⊎-elim (λ (g : getElem? vs v ≡ some x).
+    let apart : k ≡ v → ⊥ = λ e. omega (arith, e, h .0, inside vs v g) in
+    rw (before-other x p (k - length vs) (before-name p vs v x below g) .1) (sym (ne-eqb k v apart)))
+    (λ (g : (length vs ≤ v) × (getElem? (names p c) (v - length vs) ≡ some x)).
+    rw (names-at p c (v - length vs) x (g .1) .0, eq-eqb p p refl) (
+    by-bool (eqb k v)
+    (λ q. rw (q, eqb-true k v q) (eq-eqb (v - length vs) (v - length vs) refl))
+    (λ q. rw q (ne-eqb (k - length vs) (v - length vs) (λ e. eqb-false k v q (omega (arith, e, h .0, g .0)))))))
+    (lookup-append vs (names p c) v x ev)))
+    (lookup-append vs (names p c) k y ek)
+
+pub below-more : (vs : List Site) (p c m : ℕ) → Below p vs → p < m → Below m (vs ++ names p c)
+below-more vs p c m below l k q j e =
+    ⊎-elim (λ (h : getElem? vs k ≡ some (declared q j)). omega (arith, l, below k q j h))
+    (λ (h : (length vs ≤ k) × (getElem? (names p c) (k - length vs) ≡ some (declared q j))).
+    let new : declared q j ≡ declared p (k - length vs) = names-at p c (k - length vs) (declared q j) (h .1) .0 in
+    let here : q ≡ p = cc in
+    omega (arith, l, here))
+    (lookup-append vs (names p c) k (declared q j) e)
+
+pub below-later : (vs : List Site) (p m : ℕ) → p ≤ m → Below p vs → Below m vs
+below-later vs p m l below k q j e = omega (arith, l, below k q j e)

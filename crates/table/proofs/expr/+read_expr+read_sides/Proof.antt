@@ -1,0 +1,247 @@
+-- `table::expr::read_expr` and `table::expr::read_sides`, which call each other, meet their contracts. The measures are twice the depth
+-- left, and one less for the sides. Assumes nothing.
+use Prim.Native.Nat.{ℕ, _<_, zero, suc, _-_, _*_}
+use borrow.Fn.Kinds.{In}
+use borrow.Fn.PlainCycle.{Measures, is, falls, and}
+use Rattle.table.proofs.expr.read_expr.Reads as read-expr
+use Rattle.table.proofs.expr.read_expr.Kinds as read-expr-kinds
+use Rattle.table.proofs.expr.+read_expr+read_sides.Lts-read_expr as read-expr-lts
+use Rattle.table.proofs.expr.read_sides.Reads as read-sides
+use Rattle.table.proofs.expr.read_sides.Kinds as read-sides-kinds
+use Rattle.table.proofs.expr.+read_expr+read_sides.Lts-read_sides as read-sides-lts
+use Rattle.table.proofs.expr.join.Reads as join-reads
+use Rattle.table.proofs.expr.no_expr.Reads as no-expr-reads
+use Rattle.table.proofs.expr.read_leaf.Reads as read-leaf-reads
+use Rattle.table.proofs.number.read_between.Reads as read-between-reads
+use Rattle.table.proofs.number.read_deep.Reads as read-deep-reads
+use Rattle.table.proofs.expr.+read_expr+read_sides.{statement}
+use Rattle.table.proofs.expr.+read_expr+read_sides.Tie.{close}
+use borrow.Author.Needs.{needs}
+use borrow.Author.Tests.{lt-ltb, le-ltb, eq-eqb, ne-eqb}
+use native.Mathlib.Omega.{arith}
+use mathlib.Core.Bool.{Bool, true, false}
+use mathlib.Core.List.{List}
+use mathlib.Core.Path.{_≡_, refl, sym, _∙_}
+use lib.Dec.{ltb, eqb}
+use Rattle.table.specs.Items.{betweenAt, nameAt, deepAt, deepOf, groupsAt}
+use Rattle.table.specs.Exprs.{exprAt, leafAt, sidesAt, pickE, withItem, Within}
+use Rattle.table.specs.declared.number.Item.{Item}
+use Rattle.table.specs.declared.number.Item.the-variants.{Item as Found, Refused}
+use Rattle.table.specs.declared.number.NumberRead.{NumberRead}
+use Rattle.table.specs.declared.number.NumberRead.the-variants.{Number, Bad}
+use Rattle.table.specs.declared.expr.ExprRead.{ExprRead}
+use Rattle.table.specs.declared.expr.ExprRead.the-variants.{Expr, Refused as NoExpr}
+
+none : (d vs : ℕ) (s : List ℕ) (at : ℕ) → d ≡ 0 → exprAt d vs s at ≡ withItem (deepAt s at) (λ v n. Expr n 1)
+unfolding exprAt
+none d vs s at e = rw e
+
+-- what follows a kind, and `exprAt` unrolled once where there is depth left
+abbrev byKind : (d vs : ℕ) → List ℕ → ℕ → ℕ → ExprRead
+byKind d vs s k n =
+    pickE (ltb k 2) (leafAt k vs s n)
+    (pickE (eqb k 2) (exprAt (d - 1) vs s n) (withItem (betweenAt 0 7 s n) (λ o m. sidesAt d vs s m)))
+
+turn : (d vs : ℕ) (s : List ℕ) (at : ℕ) → (d ≡ 0 → ⊥)
+    → exprAt d vs s at ≡ withItem (betweenAt 0 3 s at) (λ k n. byKind d vs s k n)
+unfolding exprAt sidesAt
+turn zero vs s at p = absurd (p refl)
+turn (suc d) vs s at p = let e : suc d - 1 ≡ d = omega arith in rw e
+
+-- the registers of a refusal, a leaf and an expression one level in
+deep-within : (at d : ℕ) (x : NumberRead) → Within (withItem (deepOf at x) (λ v n. Expr n 1)) d
+deep-within at d (Number v n) = tt
+deep-within at d Bad = tt
+
+item-within : (d : ℕ) (i : Item) → (d ≡ 0 → ⊥) → Within (withItem i (λ v n. Expr n 1)) d
+item-within d (Found v n) p = omega arith
+item-within d (Refused k a) p = tt
+
+pick-within : (d : ℕ) (b : Bool) (x y : ExprRead) → Within x d → Within y d → Within (pickE b x y) d
+pick-within d true x y p q = p
+pick-within d false x y p q = q
+
+leaf-within : (d k vs : ℕ) (s : List ℕ) (at : ℕ) → (d ≡ 0 → ⊥) → Within (leafAt k vs s at) d
+unfolding leafAt
+leaf-within d k vs s at p =
+    pick-within d (eqb k 0) _ _ (item-within d (betweenAt 0 4294967295 s at) p) (item-within d (nameAt vs 0 0 s at) p)
+
+within-more : (d : ℕ) (x : ExprRead) → Within x (d - 1) → Within x d
+within-more d (Expr n r) p = omega arith
+within-more d (NoExpr k a) p = tt
+
+abbrev μ-read-expr : Measures 1 read-expr-kinds.ps ℕ
+μ-read-expr κs a = 2 * a .1 .1 .0
+
+abbrev μ-read-sides : Measures 1 read-sides-kinds.ps ℕ
+μ-read-sides κs a = 2 * a .1 .1 .0 - 1
+
+abbrev read-expr-at : ℕ → In 1 read-expr-kinds.ps
+read-expr-at t = and 1 read-expr-kinds.ps (is 1 read-expr-kinds.ps μ-read-expr t) read-expr.Pre
+
+abbrev read-expr-below : ℕ → In 1 read-expr-kinds.ps
+read-expr-below t =
+    and 1 read-expr-kinds.ps (falls 1 read-expr-kinds.ps _<_ μ-read-expr t) read-expr.Pre
+
+abbrev read-sides-at : ℕ → In 1 read-sides-kinds.ps
+read-sides-at t =
+    and 1 read-sides-kinds.ps (is 1 read-sides-kinds.ps μ-read-sides t) read-sides.Pre
+
+abbrev read-sides-below : ℕ → In 1 read-sides-kinds.ps
+read-sides-below t =
+    and 1 read-sides-kinds.ps (falls 1 read-sides-kinds.ps _<_ μ-read-sides t) read-sides.Pre
+
+abbrev read-expr-claims : ℕ → read-expr-lts.Claims
+read-expr-claims t = (
+  read-deep-reads.Asked,
+  read-deep-reads.Learnt,
+  no-expr-reads.Asked,
+  no-expr-reads.Learnt,
+  read-between-reads.Asked,
+  read-between-reads.Learnt,
+  read-leaf-reads.Asked,
+  read-leaf-reads.Learnt,
+  read-expr-below t,
+  read-expr.Post,
+  read-sides-below t,
+  read-sides.Post,
+)
+
+abbrev read-sides-claims : ℕ → read-sides-lts.Claims
+read-sides-claims t = (read-expr-below t, read-expr.Post, join-reads.Asked, join-reads.Learnt)
+
+-- what is to be answered once the first number is read, and once an operator's is
+first : {t : ℕ} {x : Item} (c : read-expr-lts.After-read-between (read-expr-claims t) (read-expr-at t) read-expr.Post)
+    → c .read-between .result ≡ x
+    → let a = c .before .before .before .args in
+    exprAt (a .depth) (a .variables) (a .table .now) (a .at) ≡ withItem x (byKind (a .depth) (a .variables) (a .table .now))
+first c e = turn _ _ _ _ (c .before .if1 .left) ∙ simp (sym (c .read-between .ensures) ∙ e)
+
+second : {t : ℕ} {x : Item} (c : read-expr-lts.After-read-between2 (read-expr-claims t) (read-expr-at t) read-expr.Post)
+    → c .read-between2 .result ≡ x
+    → let a = c .before .before .before .before .before .before .before .before .before .args in
+    exprAt (a .depth) (a .variables) (a .table .now) (a .at)
+    ≡ withItem x (λ o m. sidesAt (a .depth) (a .variables) (a .table .now) m)
+second c e =
+    let k = c .before .before .before .before in
+    first (k .before .before) (k .kind .given .1)
+    ∙ simp (le-ltb _ _ (c .before .before .if2 .left), ne-eqb _ _ (c .before .if3 .left), sym (c .read-between2 .ensures) ∙ e)
+
+read-expr-returns : (t : ℕ) → read-expr-lts.Need-returns (read-expr-claims t) (read-expr-at t) read-expr.Post
+unfolding deepAt
+read-expr-returns t c =
+    let a = c .before .before .before .before .args in (
+      sym (none _ _ _ _ (c .before .before .if1 .taken) ∙ simp (c .no-expr .ensures, c .before .read-deep .ensures)),
+      rw (c .no-expr .ensures, c .before .read-deep .ensures) (deep-within _ (a .depth) (groupsAt 5 (a .table .now) (a .at))),
+    )
+
+read-expr-returns-2 : (t : ℕ) → read-expr-lts.Need-returns-2 (read-expr-claims t) (read-expr-at t) read-expr.Post
+read-expr-returns-2 t c =
+    let k = c .before .before .before in (
+      c .read-leaf .ensures ∙ sym (first (k .before .before) (k .kind .given .1) ∙ simp (lt-ltb _ _ (c .before .if2 .taken))),
+      rw (c .read-leaf .ensures) (leaf-within _ _ _ _ _ (c .before .before .before .before .before .before .if1 .left)),
+    )
+
+read-expr-read-expr-requires : (t : ℕ) → read-expr-lts.Need-read-expr-requires (read-expr-claims t) (read-expr-at t) read-expr.Post
+read-expr-read-expr-requires t c κs =
+    (omega (arith, c .before .before .before .before .before .before .before .before .pre .0), omega arith)
+
+read-expr-returns-3 : (t : ℕ) → read-expr-lts.Need-returns-3 (read-expr-claims t) (read-expr-at t) read-expr.Post
+read-expr-returns-3 t c =
+    let k = c .before .before .before .before in
+    let a = c .before .before .before .before .before .before .before .before .before .args in (
+      c .read-expr .ensures .0
+          ∙ sym (first (k .before .before) (k .kind .given .1)
+          ∙ simp (le-ltb _ _ (c .before .before .if2 .left), eq-eqb _ _ (c .before .if3 .taken))),
+      within-more (a .depth) (c .read-expr .result) (c .read-expr .ensures .1),
+    )
+
+read-expr-read-sides-requires : (t : ℕ) → read-expr-lts.Need-read-sides-requires (read-expr-claims t) (read-expr-at t) read-expr.Post
+read-expr-read-sides-requires t c κs = (
+  omega (arith, c .before .before .before .before .before .before .before .before .before .before .before .before .pre .0),
+  (omega arith, omega arith),
+)
+
+read-expr-returns-4 : (t : ℕ) → read-expr-lts.Need-returns-4 (read-expr-claims t) (read-expr-at t) read-expr.Post
+read-expr-returns-4 t c = (
+  c .read-sides .ensures .0 ∙ sym (second (c .before .before .before .before) (c .before .before .operator .given .1)),
+  c .read-sides .ensures .1,
+)
+
+read-expr-returns-5 : (t : ℕ) → read-expr-lts.Need-returns-5 (read-expr-claims t) (read-expr-at t) read-expr.Post
+read-expr-returns-5 t c = (sym (second (c .before .before .before) (c .before .n .given .1)), tt)
+
+read-expr-returns-6 : (t : ℕ) → read-expr-lts.Need-returns-6 (read-expr-claims t) (read-expr-at t) read-expr.Post
+read-expr-returns-6 t c = (sym (first (c .before .before .before) (c .before .n2 .given .1)), tt)
+
+read-sides-read-expr-requires : (t : ℕ) → read-sides-lts.Need-read-expr-requires (read-sides-claims t) (read-sides-at t) read-sides.Post
+read-sides-read-expr-requires t c κs = (omega (arith, c .before .pre .0), omega arith)
+
+read-sides-read-expr-requires-2 : (t : ℕ) → read-sides-lts.Need-read-expr-requires-2 (read-sides-claims t) (read-sides-at t) read-sides.Post
+read-sides-read-expr-requires-2 t c κs = (omega (arith, c .before .before .before .before .before .pre .0), omega arith)
+
+read-sides-join-requires : (t : ℕ) → read-sides-lts.Need-join-requires (read-sides-claims t) (read-sides-at t) read-sides.Post
+read-sides-join-requires t c κs = omega (arith, rw (c .before .last .given .1) at (c .before .before .before .read-expr2 .ensures .1))
+
+read-sides-returns : (t : ℕ) → read-sides-lts.Need-returns (read-sides-claims t) (read-sides-at t) read-sides.Post
+unfolding sidesAt
+read-sides-returns t c =
+    let k = c .before .before .before .before .before .before in
+    let h = k .before .before .read-expr in
+    let j = c .before .before .before .before .read-expr2 in (
+      simp (sym (h .ensures .0) ∙ k .next .given .1, sym (j .ensures .0) ∙ c .before .before .last .given .1, c .join .ensures),
+      omega (arith, c .join .ensures, rw (k .next .given .1) at (h .ensures .1), rw (c .before .before .last .given .1) at (j .ensures .1)),
+    )
+
+read-sides-returns-2 : (t : ℕ) → read-sides-lts.Need-returns-2 (read-sides-claims t) (read-sides-at t) read-sides.Post
+unfolding sidesAt
+read-sides-returns-2 t c =
+    let k = c .before .before .before .before .before in (
+      simp (
+        sym (k .before .before .read-expr .ensures .0) ∙ k .next .given .1,
+        sym (c .before .before .before .read-expr2 .ensures .0) ∙ c .before .n .given .1,
+      ),
+      tt,
+    )
+
+read-sides-returns-3 : (t : ℕ) → read-sides-lts.Need-returns-3 (read-sides-claims t) (read-sides-at t) read-sides.Post
+unfolding sidesAt
+read-sides-returns-3 t c = (simp (sym (c .before .before .before .read-expr .ensures .0) ∙ c .before .n2 .given .1), tt)
+
+pub +read-expr+read-sides-spec : {M : Type 1} → statement M
++read-expr+read-sides-spec = close μ-read-expr μ-read-sides (λ t. read-expr-lts.spec (read-expr-claims t)
+    (read-expr-at t)
+    read-expr.Post
+    (λ c κs. search needs)
+    (λ c κs. search needs)
+    (read-expr-returns t)
+    (λ c κs. search needs)
+    (λ c. search needs)
+    (λ c κs. search needs)
+    (read-expr-returns-2 t)
+    (λ c. search needs)
+    (read-expr-read-expr-requires t)
+    (read-expr-returns-3 t)
+    (λ c κs. search needs)
+    (λ c. search needs)
+    (read-expr-read-sides-requires t)
+    (λ c. search needs)
+    (λ c. search needs)
+    (read-expr-returns-4 t)
+    (read-expr-returns-5 t)
+    (read-expr-returns-6 t))
+    λ t. read-sides-lts.spec (read-sides-claims t)
+    (read-sides-at t)
+    read-sides.Post
+    (λ c. search needs)
+    (read-sides-read-expr-requires t)
+    (λ c. search needs)
+    (λ c. search needs)
+    (read-sides-read-expr-requires-2 t)
+    (λ c. search needs)
+    (read-sides-join-requires t)
+    (λ c. search needs)
+    (λ c. search needs)
+    (read-sides-returns t)
+    (read-sides-returns-2 t)
+    (read-sides-returns-3 t)

@@ -1,0 +1,17 @@
+-- `table::number::read_deep` meets its contract. Assumes nothing.
+use borrow.Author.Needs.{needs}
+use Rattle.table.proofs.number.read_deep.Statement.{statement}
+use Rattle.table.proofs.number.read_deep.Tie as tie
+use mathlib.Core.Path.{sym, _∙_}
+use Rattle.table.specs.Items.{deepAt}
+
+returns : tie.Need-returns
+unfolding deepAt
+returns c = simp (sym (c .before .before .before .read-groups .ensures) ∙ c .before .v .given .1)
+
+returns-2 : tie.Need-returns-2
+unfolding deepAt
+returns-2 c = simp (sym (c .before .before .read-groups .ensures) ∙ c .enum-told .given .1)
+
+pub read-deep-spec : {M : Type 1} → statement M
+read-deep-spec = tie.close (tie.spec (λ c κs. search needs) (λ c. search needs) (λ c. search needs) returns returns-2)

@@ -1,0 +1,5 @@
+pub mod Items
+pub mod Exprs
+pub mod Stmts
+pub mod Uses
+pub mod Tables

@@ -1,0 +1,248 @@
+-- Statements as the reader answers them, by places of the table. The usage check of a PAR is a parameter: it sees the branches' stretches.
+use Prim.Native.Nat.{ℕ, zero, suc, _+_, _-_, _*_, _≤_, max}
+use mathlib.Core.Bool.{Bool, true, false, _||_}
+use mathlib.Core.List.{List}
+use lib.ListN.{replicate}
+use lib.Seq.{slice}
+use lib.Dec.{ltb, leb, eqb}
+use Rattle.table.specs.Items.{betweenAt, nameAt, deepAt}
+use Rattle.table.specs.Exprs.{exprAt}
+use Rattle.table.specs.Uses.{Checked, checkedAt}
+use Rattle.table.specs.declared.number.Item.{Item}
+use Rattle.table.specs.declared.number.Item.the-variants.{Item as Found, Refused}
+use Rattle.table.specs.declared.expr.ExprRead.{ExprRead}
+use Rattle.table.specs.declared.expr.ExprRead.the-variants.{Expr, Refused as NoExpr}
+use Rattle.table.specs.declared.stmt.Names.{Names}
+use Rattle.table.specs.declared.stmt.First.{First}
+use Rattle.table.specs.declared.stmt.First.the-variants.{Nowhere, At}
+use Rattle.table.specs.declared.stmt.Part.{Part}
+use Rattle.table.specs.declared.stmt.StmtRead.{StmtRead}
+use Rattle.table.specs.declared.stmt.StmtRead.the-variants.{Stmt, Refused as NoStmt}
+use Rattle.table.specs.declared.stmt.HeadRead.{HeadRead}
+use Rattle.table.specs.declared.stmt.HeadRead.the-variants.{Head, Refused as NoHead}
+use Rattle.table.specs.declared.stmt.Sum.{Sum}
+use Rattle.table.specs.declared.stmt.SumRead.{SumRead}
+use Rattle.table.specs.declared.stmt.SumRead.the-variants.{Sum as Total, Refused as NoSum}
+
+abbrev pub pickS : Bool → StmtRead → StmtRead → StmtRead
+pickS true a b = a
+pickS false a b = b
+
+abbrev pub pickH : Bool → HeadRead → HeadRead → HeadRead
+pickH true a b = a
+pickH false a b = b
+
+abbrev pub pickF : Bool → First → First → First
+pickF true a b = a
+pickF false a b = b
+
+abbrev pub firstOf : First → First → First
+firstOf Nowhere o = o
+firstOf (At p) o = At p
+
+-- continuations
+abbrev pub itemS : Item → (ℕ → ℕ → StmtRead) → StmtRead
+itemS (Found v n) f = f v n
+itemS (Refused k p) f = NoStmt k p
+
+abbrev pub itemH : Item → (ℕ → ℕ → HeadRead) → HeadRead
+itemH (Found v n) f = f v n
+itemH (Refused k p) f = NoHead k p
+
+abbrev pub headS : HeadRead → (ℕ → First → StmtRead) → StmtRead
+headS (Head n d) f = f n d
+headS (NoHead k p) f = NoStmt k p
+
+abbrev pub headH : HeadRead → (ℕ → First → HeadRead) → HeadRead
+headH (Head n d) f = f n d
+headH (NoHead k p) f = NoHead k p
+
+abbrev pub stmtS : StmtRead → (Part → StmtRead) → StmtRead
+stmtS (Stmt p) f = f p
+stmtS (NoStmt k p) f = NoStmt k p
+
+abbrev pub stmtT : StmtRead → (Part → SumRead) → SumRead
+stmtT (Stmt p) f = f p
+stmtT (NoStmt k p) f = NoSum k p
+
+abbrev pub sumS : SumRead → (Sum → StmtRead) → StmtRead
+sumS (Total t) f = f t
+sumS (NoSum k p) f = NoStmt k p
+
+-- an expression that stands in no other: over 3 registers it is noted
+abbrev pub wholeOf : ℕ → ExprRead → HeadRead
+wholeOf at (Expr n r) = Head n (pickF (leb r 3) Nowhere (At at))
+wholeOf at (NoExpr k p) = NoHead k p
+
+unfoldable pub wholeAt : (depth variables : ℕ) → List ℕ → (at : ℕ) → HeadRead
+wholeAt d vs s at = wholeOf at (exprAt d vs s at)
+
+abbrev pub variableAt : Names → List ℕ → ℕ → Item
+variableAt w s at = nameAt (w .variables) 0 0 s at
+
+abbrev pub inputAt : Names → List ℕ → ℕ → Item
+inputAt w s at = nameAt (w .channels) (w .inputs) (w .inputs + w .outputs) s at
+
+abbrev pub outputAt : Names → List ℕ → ℕ → Item
+outputAt w s at = nameAt (w .channels) 0 (w .inputs) s at
+
+abbrev pub leaf : (next words : ℕ) → First → StmtRead
+leaf n words d = Stmt (record { next = n; words = words; processes = 1; deep = d; clash = Nowhere })
+
+-- an expression as the end of a statement without statements inside
+unfoldable pub valueAt : (words depth variables : ℕ) → List ℕ → (at : ℕ) → StmtRead
+valueAt words d vs s at = headS (wholeAt d vs s at) (λ m e. leaf m words e)
+
+-- a channel to input from and a variable, behind what has been read
+unfoldable pub takenAt : Names → List ℕ → (at : ℕ) → First → HeadRead
+takenAt w s at e = itemH (inputAt w s at) (λ c n. itemH (variableAt w s n) (λ x m. Head m e))
+
+-- kinds 0 to 4, whose expressions have `depth` left
+unfoldable pub simpleAt : (kind depth : ℕ) → Names → List ℕ → (at : ℕ) → StmtRead
+simpleAt k d w s at =
+    pickS (ltb k 2) (leaf at 2 Nowhere)
+    (pickS (eqb k 2) (itemS (variableAt w s at) (λ x n. valueAt 2 d (w .variables) s n))
+    (pickS (eqb k 3) (headS (takenAt w s at Nowhere) (λ m e. leaf m 3 e))
+    (itemS (outputAt w s at) (λ c n. valueAt 4 d (w .variables) s n))))
+
+-- a guard: its kind, its condition, and for kind 0 its channel and its variable
+unfoldable pub guardAt : (depth : ℕ) → Names → List ℕ → (at : ℕ) → HeadRead
+guardAt d w s at =
+    itemH (betweenAt 0 1 s at) (λ g n.
+    headH (wholeAt d (w .variables) s n) (λ m e. pickH (eqb g 0) (takenAt w s m e) (Head m e)))
+
+-- what stands before the statement of a part: nothing in SEQ and PAR (7, 8), a condition in IF and WHILE (9, 10), a guard in ALT (11)
+unfoldable pub headAt : (kind depth : ℕ) → Names → List ℕ → (at : ℕ) → HeadRead
+headAt k d w s at = pickH (ltb k 9) (Head at Nowhere) (pickH (ltb k 11) (wholeAt d (w .variables) s at) (guardAt d w s at))
+
+abbrev pub behind : First → Part → Part
+behind d p = record { next = p .next; words = p .words; processes = p .processes; deep = firstOf d (p .deep); clash = p .clash }
+
+abbrev pub nothing : ℕ → Sum
+nothing at = record { next = at; most = 0; sum = 0; live = 0; all = 0; deep = Nowhere; clash = Nowhere }
+
+abbrev pub added : Sum → Part → Sum
+added t p =
+    record {
+      next = p .next;
+      most = max (t .most) (p .words);
+      sum = t .sum + p .words;
+      live = max (t .live) (p .processes);
+      all = t .all + p .processes;
+      deep = firstOf (t .deep) (p .deep);
+      clash = firstOf (t .clash) (p .clash);
+    }
+
+-- one part: its head, then its statement
+unfoldable pub partAt : (kind depth : ℕ) → Names → (ℕ → StmtRead) → List ℕ → (at : ℕ) → StmtRead
+partAt k d w inner s at = headS (headAt k d w s at) (λ n e. stmtS (inner n) (λ p. Stmt (behind e p)))
+
+-- so many parts, after some
+unfoldable pub mostFrom : (left kind depth : ℕ) → Names → (ℕ → StmtRead) → List ℕ → Sum → SumRead
+mostFrom zero k d w inner s t = Total t
+mostFrom (suc i) k d w inner s t = stmtT (partAt k d w inner s (t .next)) (λ p. mostFrom i k d w inner s (added t p))
+
+abbrev pub pickW : Bool → ℕ → ℕ → ℕ
+pickW true a b = a
+pickW false a b = b
+
+-- what is counted of a SEQ, an IF, a WHILE (at least 2 words) or an ALT (at least 4)
+abbrev pub gathered : (kind : ℕ) → Sum → StmtRead
+gathered k t =
+    Stmt
+    (record {
+      next = t .next;
+      words = max (pickW (eqb k 11) 4 2) (t .most);
+      processes = max 1 (t .live);
+      deep = t .deep;
+      clash = t .clash;
+    })
+
+-- the branches of a PAR so far: what is counted, the sets of all of them, and whether any two clash
+pub record Branches : Type 0 where
+  pub total : Sum
+  pub before : List ℕ
+  pub bad : Bool
+
+-- one more branch, over its stretch
+abbrev pub joinedBy : (depth : ℕ) → Names → List ℕ → Branches → Part → Branches
+joinedBy d w s b p =
+    let c = checkedAt d (w .variables) (w .channels) (slice (b .total .next) (p .next) s) (b .before) (b .bad) in
+    record { total = added (b .total) p; before = c .before; bad = c .bad }
+
+-- what is counted of the PAR at a place
+abbrev pub parOf : (place : ℕ) → Sum → Bool → StmtRead
+parOf at t bad =
+    Stmt
+    (record {
+      next = t .next;
+      words = 2 + t .sum;
+      processes = max 1 (t .all);
+      deep = t .deep;
+      clash = pickF bad (At at) (t .clash);
+    })
+
+-- so many branches of the PAR at a place, after some
+unfoldable pub branchesFrom : (left depth place : ℕ) → Names → (ℕ → StmtRead) → List ℕ → Branches → StmtRead
+branchesFrom zero d at w inner s b = parOf at (b .total) (b .bad)
+branchesFrom (suc i) d at w inner s b =
+    stmtS (inner (b .total .next)) (λ p. branchesFrom i d at w inner s (joinedBy d w s b p))
+
+abbrev pub noBranches : ℕ → Branches
+noBranches at = record { total = nothing at; before = replicate 4096 0; bad = false }
+
+-- so many more names
+abbrev pub moreNames : (kind count : ℕ) → Names → Names
+moreNames k n w =
+    record {
+      variables = pickW (eqb k 5) (w .variables + n) (w .variables);
+      channels = pickW (eqb k 5) (w .channels) (w .channels + n);
+      inputs = w .inputs;
+      outputs = w .outputs;
+    }
+
+-- VAR and CHAN
+abbrev pub declaring : ℕ → StmtRead → StmtRead
+declaring n r =
+    stmtS r (λ p. Stmt (record { next = p .next; words = n + p .words; processes = p .processes; deep = p .deep; clash = p .clash }))
+
+-- what follows a kind from 5 on, with a reader of the statements inside, which have `depth` left
+abbrev pub insideAt : (place kind depth : ℕ) → Names → (Names → ℕ → StmtRead) → List ℕ → (at : ℕ) → StmtRead
+insideAt place k d w inner s n =
+    pickS (ltb k 7) (itemS (betweenAt 1 32 s n) (λ c m. declaring c (inner (moreNames k c w) m)))
+    (pickS (eqb k 10) (sumS (mostFrom 1 k d w (inner w) s (nothing n)) (λ t. gathered k t))
+    (itemS (betweenAt 0 (pickW (eqb k 8) 16 32) s n) (λ c m.
+    pickS (eqb k 8) (branchesFrom c d place w (inner w) s (noBranches m))
+    (sumS (mostFrom c k d w (inner w) s (nothing m)) (λ t. gathered k t)))))
+
+unfoldable pub stmtAt : (depth : ℕ) → Names → List ℕ → (at : ℕ) → StmtRead
+stmtAt zero w s at = itemS (deepAt s at) (λ v n. leaf n 2 Nowhere)
+stmtAt (suc d) w s at =
+    itemS (betweenAt 0 11 s at) (λ k n. pickS (ltb k 5) (simpleAt k d w s n) (insideAt at k d w (λ v i. stmtAt d v s i) s n))
+
+-- the same by its parts
+unfoldable pub partIn : (kind depth : ℕ) → Names → List ℕ → (at : ℕ) → StmtRead
+partIn k d w s at = partAt k d w (λ i. stmtAt d w s i) s at
+
+unfoldable pub mostAt : (kind count depth : ℕ) → Names → List ℕ → (at : ℕ) → StmtRead
+mostAt k c d w s at = sumS (mostFrom c k d w (λ i. stmtAt d w s i) s (nothing at)) (λ t. gathered k t)
+
+unfoldable pub parAt : (place count depth : ℕ) → Names → List ℕ → (at : ℕ) → StmtRead
+parAt place c d w s at = branchesFrom c d place w (λ i. stmtAt d w s i) s (noBranches at)
+
+unfoldable pub declaredAt : (kind depth : ℕ) → Names → List ℕ → (at : ℕ) → StmtRead
+declaredAt k d w s at = itemS (betweenAt 1 32 s at) (λ c m. declaring c (stmtAt (d - 1) (moreNames k c w) s m))
+
+unfoldable pub partsAt : (place kind depth : ℕ) → Names → List ℕ → (at : ℕ) → StmtRead
+partsAt place k d w s n =
+    pickS (eqb k 10) (mostAt k 1 (d - 1) w s n)
+    (itemS (betweenAt 0 (pickW (eqb k 8) 16 32) s n) (λ c m. pickS (eqb k 8) (parAt place c (d - 1) w s m) (mostAt k c (d - 1) w s m)))
+
+-- what the readers ask: at most 32 names are declared for each depth that is left
+abbrev pub Fits : Names → ℕ → Type 0
+Fits w d =
+    (d ≤ 32) × (w .variables + 32 * d ≤ 1024) × (w .channels + 32 * d ≤ 1040) × (w .inputs ≤ 8) × (w .outputs ≤ 8)
+
+abbrev pub SmallWords : StmtRead → Type 0
+SmallWords (Stmt p) = p .words ≤ 1000000
+SmallWords (NoStmt k p) = Unit {0}

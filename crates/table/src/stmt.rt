@@ -1,0 +1,484 @@
+// Statements: what one reading counts.
+ghost use mathlib.Core.Path.{_≡_};
+ghost use Prim.Native.Nat.{ℕ, _+_, _<_, _≤_, max};
+ghost use lib.ListN.{length};
+ghost use Rattle.table.specs.Stmts.{firstOf, leaf, wholeAt, valueAt, takenAt, simpleAt, guardAt, headAt, itemS, stmtS, behind};
+ghost use Rattle.table.specs.Stmts.{added, gathered, parOf, declaring, SmallWords, Fits};
+ghost use Rattle.table.specs.Stmts.{partIn, mostAt, parAt, declaredAt, partsAt, stmtAt};
+ghost use Rattle.table.specs.declared.stmt.StmtRead.the-variants.{Stmt};
+ghost use Rattle.table.specs.declared.stmt.First.the-variants.{Nowhere};
+
+// How many names are in scope: variables, channels with the outside ones, outside inputs and outputs.
+pub struct Names {
+    pub variables: u64,
+    pub channels: u64,
+    pub inputs: u64,
+    pub outputs: u64,
+}
+
+// A place, or none.
+pub enum First {
+    Nowhere,
+    At(usize),
+}
+
+// What is counted of a statement: the place after it, words needed, live processes, the first expression over 3 registers and the
+// first PAR with a clash.
+pub struct Part {
+    pub next: usize,
+    pub words: u64,
+    pub processes: u64,
+    pub deep: First,
+    pub clash: First,
+}
+
+pub enum StmtRead {
+    Stmt(Part),
+    Refused(u32, usize),
+}
+
+// What stands before a part's statement: the place after it, and the first expression over 3 registers.
+pub enum HeadRead {
+    Head(usize, First),
+    Refused(u32, usize),
+}
+
+// What is counted over the parts of a statement: the most and the sum of words and of processes.
+pub struct Sum {
+    pub next: usize,
+    pub most: u64,
+    pub sum: u64,
+    pub live: u64,
+    pub all: u64,
+    pub deep: First,
+    pub clash: First,
+}
+
+pub enum SumRead {
+    Sum(Sum),
+    Refused(u32, usize),
+}
+
+fn earlier(a: First, b: First) -> First
+    ensures { λ r. ⌜ r ≡ firstOf a b ⌝ }
+{
+    match a {
+        First::Nowhere => b,
+        First::At(p) => First::At(p),
+    }
+}
+
+fn larger(a: u64, b: u64) -> u64
+    ensures { λ r. ⌜ r ≡ max a b ⌝ }
+{
+    if a < b { b } else { a }
+}
+
+// A statement without statements inside.
+fn leaf_part(next: usize, words: u64, deep: First) -> StmtRead
+    ensures { λ r. ⌜ r ≡ leaf next words deep ⌝ }
+{
+    StmtRead::Stmt(Part {
+        next: next,
+        words: words,
+        processes: 1,
+        deep: deep,
+        clash: First::Nowhere,
+    })
+}
+
+// An expression that stands in no other: over 3 registers its place is noted.
+fn read_whole(table: &[u8], at: usize, depth: u64, variables: u64) -> HeadRead
+    requires { ⌜ depth ≤ 32 ⌝ }
+    ensures { λ r. ⌜ r ≡ wholeAt depth variables (now (table .entry)) at ⌝ }
+{
+    match crate::expr::read_expr(table, at, depth, variables) {
+        crate::expr::ExprRead::Expr(next, registers) => {
+            if registers <= 3 {
+                HeadRead::Head(next, First::Nowhere)
+            } else {
+                HeadRead::Head(next, First::At(at))
+            }
+        }
+        crate::expr::ExprRead::Refused(n, p) => HeadRead::Refused(n, p),
+    }
+}
+
+// An expression as the end of a statement without statements inside.
+fn read_value(table: &[u8], at: usize, depth: u64, variables: u64, words: u64) -> StmtRead
+    requires { ⌜ depth ≤ 32 ⌝ }
+    ensures { λ r. ⌜ r ≡ valueAt words depth variables (now (table .entry)) at ⌝ }
+{
+    match read_whole(table, at, depth, variables) {
+        HeadRead::Head(next, deep) => leaf_part(next, words, deep),
+        HeadRead::Refused(n, p) => StmtRead::Refused(n, p),
+    }
+}
+
+// A channel to input from and a variable, behind what has been read.
+fn read_input(table: &[u8], at: usize, names: Names, deep: First) -> HeadRead
+    requires { ⌜ (names .inputs ≤ 8) × (names .outputs ≤ 8) ⌝ }
+    ensures { λ r. ⌜ r ≡ takenAt names (now (table .entry)) at deep ⌝ }
+{
+    match crate::number::read_name(
+        table,
+        at,
+        names.channels,
+        names.inputs,
+        names.inputs + names.outputs,
+    ) {
+        crate::number::Item::Item(channel, next) => match crate::number::read_name(
+            table,
+            next,
+            names.variables,
+            0,
+            0,
+        ) {
+            crate::number::Item::Item(variable, last) => HeadRead::Head(last, deep),
+            crate::number::Item::Refused(n, p) => HeadRead::Refused(n, p),
+        },
+        crate::number::Item::Refused(n, p) => HeadRead::Refused(n, p),
+    }
+}
+
+// Kinds 0 to 4: SKIP, STOP, assign, input, output.
+fn read_simple(table: &[u8], at: usize, kind: u64, depth: u64, names: Names) -> StmtRead
+    requires { ⌜ (depth ≤ 32) × (names .inputs ≤ 8) × (names .outputs ≤ 8) ⌝ }
+    ensures { λ r. ⌜ r ≡ simpleAt kind depth names (now (table .entry)) at ⌝ }
+{
+    if kind < 2 {
+        return leaf_part(at, 2, First::Nowhere);
+    }
+    if kind == 2 {
+        return match crate::number::read_name(table, at, names.variables, 0, 0) {
+            crate::number::Item::Item(variable, next) => read_value(
+                table,
+                next,
+                depth,
+                names.variables,
+                2,
+            ),
+            crate::number::Item::Refused(n, p) => StmtRead::Refused(n, p),
+        };
+    }
+    if kind == 3 {
+        return match read_input(table, at, names, First::Nowhere) {
+            HeadRead::Head(next, deep) => leaf_part(next, 3, deep),
+            HeadRead::Refused(n, p) => StmtRead::Refused(n, p),
+        };
+    }
+    match crate::number::read_name(table, at, names.channels, 0, names.inputs) {
+        crate::number::Item::Item(channel, next) => read_value(
+            table,
+            next,
+            depth,
+            names.variables,
+            4,
+        ),
+        crate::number::Item::Refused(n, p) => StmtRead::Refused(n, p),
+    }
+}
+
+// A guard: its kind, its condition, and for kind 0 its channel and its variable.
+fn read_guard(table: &[u8], at: usize, depth: u64, names: Names) -> HeadRead
+    requires { ⌜ (depth ≤ 32) × (names .inputs ≤ 8) × (names .outputs ≤ 8) ⌝ }
+    ensures { λ r. ⌜ r ≡ guardAt depth names (now (table .entry)) at ⌝ }
+{
+    match crate::number::read_between(table, at, 0, 1) {
+        crate::number::Item::Item(kind, next) => match read_whole(
+            table,
+            next,
+            depth,
+            names.variables,
+        ) {
+            HeadRead::Head(last, deep) => {
+                if kind == 0 {
+                    read_input(table, last, names, deep)
+                } else {
+                    HeadRead::Head(last, deep)
+                }
+            }
+            HeadRead::Refused(n, p) => HeadRead::Refused(n, p),
+        },
+        crate::number::Item::Refused(n, p) => HeadRead::Refused(n, p),
+    }
+}
+
+// What stands before the statement of a part: nothing (7, 8), a condition (9, 10), a guard (11).
+fn read_head(table: &[u8], at: usize, kind: u64, depth: u64, names: Names) -> HeadRead
+    requires { ⌜ (depth ≤ 32) × (names .inputs ≤ 8) × (names .outputs ≤ 8) ⌝ }
+    ensures { λ r. ⌜ r ≡ headAt kind depth names (now (table .entry)) at ⌝ }
+{
+    if kind < 9 {
+        return HeadRead::Head(at, First::Nowhere);
+    }
+    if kind < 11 {
+        return read_whole(table, at, depth, names.variables);
+    }
+    read_guard(table, at, depth, names)
+}
+
+// A refusal for the whole statement.
+fn no_stmt(item: crate::number::Item) -> StmtRead
+    ensures { λ r. ⌜ r ≡ itemS item (λ v n. leaf n 2 Nowhere) ⌝ }
+{
+    match item {
+        crate::number::Item::Item(v, next) => leaf_part(next, 2, First::Nowhere),
+        crate::number::Item::Refused(n, p) => StmtRead::Refused(n, p),
+    }
+}
+
+// What is counted with one more part.
+fn add(sum: Sum, part: Part) -> Sum
+    requires { ⌜ (sum .sum ≤ 32000000) × (sum .all ≤ 32000000) × (part .words ≤ 1000000) × (part .processes ≤ 1000000) ⌝ }
+    ensures { λ r. ⌜ r ≡ added sum part ⌝ }
+{
+    let most = larger(sum.most, part.words);
+    let live = larger(sum.live, part.processes);
+    let deep_before = sum.deep;
+    let deep_here = part.deep;
+    let deep = earlier(deep_before, deep_here);
+    let clash_before = sum.clash;
+    let clash_here = part.clash;
+    let clash = earlier(clash_before, clash_here);
+    Sum {
+        next: part.next,
+        most: most,
+        sum: sum.sum + part.words,
+        live: live,
+        all: sum.all + part.processes,
+        deep: deep,
+        clash: clash,
+    }
+}
+
+// What is counted of a SEQ, an IF, a WHILE or an ALT.
+fn gather(kind: u64, sum: Sum) -> StmtRead
+    ensures { λ r. ⌜ r ≡ gathered kind sum ⌝ }
+{
+    let least = if kind == 11 { 4 } else { 2 };
+    let words = larger(least, sum.most);
+    let processes = larger(1, sum.live);
+    let deep = sum.deep;
+    let clash = sum.clash;
+    StmtRead::Stmt(Part {
+        next: sum.next,
+        words: words,
+        processes: processes,
+        deep: deep,
+        clash: clash,
+    })
+}
+
+// What is counted of the PAR at a place.
+fn close_par(place: usize, sum: Sum, bad: bool) -> StmtRead
+    requires { ⌜ sum .sum ≤ 32000000 ⌝ }
+    ensures { λ r. ⌜ r ≡ parOf place sum bad ⌝ }
+{
+    let mut clash = sum.clash;
+    if bad {
+        clash = First::At(place);
+    }
+    let processes = larger(1, sum.all);
+    let deep = sum.deep;
+    StmtRead::Stmt(Part {
+        next: sum.next,
+        words: 2 + sum.sum,
+        processes: processes,
+        deep: deep,
+        clash: clash,
+    })
+}
+
+// A statement behind a head.
+fn behind_head(deep: First, read: StmtRead) -> StmtRead
+    ensures { λ r. ⌜ r ≡ stmtS read (λ p. Stmt (behind deep p)) ⌝ }
+{
+    match read {
+        StmtRead::Stmt(p) => {
+            let inner = p.deep;
+            let first = earlier(deep, inner);
+            let clash = p.clash;
+            StmtRead::Stmt(Part {
+                next: p.next,
+                words: p.words,
+                processes: p.processes,
+                deep: first,
+                clash: clash,
+            })
+        }
+        StmtRead::Refused(n, p) => StmtRead::Refused(n, p),
+    }
+}
+
+// A statement in a VAR or CHAN of so many names.
+fn in_scope(count: u64, read: StmtRead) -> StmtRead
+    requires { ⌜ (count ≤ 32) × SmallWords read ⌝ }
+    ensures { λ r. ⌜ r ≡ declaring count read ⌝ }
+{
+    match read {
+        StmtRead::Stmt(p) => {
+            let deep = p.deep;
+            let clash = p.clash;
+            StmtRead::Stmt(Part {
+                next: p.next,
+                words: count + p.words,
+                processes: p.processes,
+                deep: deep,
+                clash: clash,
+            })
+        }
+        StmtRead::Refused(n, p) => StmtRead::Refused(n, p),
+    }
+}
+
+// One part of a SEQ, an IF, a WHILE or an ALT: its head, then its statement.
+fn read_part(table: &[u8], at: usize, kind: u64, depth: u64, names: Names) -> StmtRead
+    requires { ⌜ Fits names depth × (length (now table) ≤ 16384) ⌝ }
+    ensures { λ r. ⌜ r ≡ partIn kind depth names (now (table .entry)) at ⌝ }
+{
+    match read_head(table, at, kind, depth, names) {
+        HeadRead::Head(next, deep) => behind_head(deep, read_stmt(table, next, depth, names)),
+        HeadRead::Refused(n, p) => StmtRead::Refused(n, p),
+    }
+}
+
+// The parts of a SEQ, an IF, a WHILE or an ALT.
+fn read_most(table: &[u8], at: usize, kind: u64, count: u64, depth: u64, names: Names) -> StmtRead
+    requires { ⌜ Fits names depth × (length (now table) ≤ 16384) × (count ≤ 32) ⌝ }
+    ensures { λ r. ⌜ r ≡ mostAt kind count depth names (now (table .entry)) at ⌝ }
+{
+    let mut sum = Sum {
+        next: at,
+        most: 0,
+        sum: 0,
+        live: 0,
+        all: 0,
+        deep: First::Nowhere,
+        clash: First::Nowhere,
+    };
+    let mut i: u64 = 0;
+    while i < count {
+        let from = sum.next;
+        match read_part(table, from, kind, depth, names) {
+            StmtRead::Stmt(p) => {
+                sum = add(sum, p);
+                i += 1;
+            }
+            StmtRead::Refused(n, p) => {
+                return StmtRead::Refused(n, p);
+            }
+        }
+    }
+    gather(kind, sum)
+}
+
+// The branches of the PAR at a place. Each branch is checked over its own stretch of the table.
+fn read_par(table: &[u8], place: usize, at: usize, count: u64, depth: u64, names: Names) -> StmtRead
+    requires { ⌜ Fits names depth × (names .channels ≤ 1024) × (length (now table) ≤ 16384) × (count ≤ 16) ⌝ }
+    ensures { λ r. ⌜ r ≡ parAt place count depth names (now (table .entry)) at ⌝ }
+{
+    let mut sum = Sum {
+        next: at,
+        most: 0,
+        sum: 0,
+        live: 0,
+        all: 0,
+        deep: First::Nowhere,
+        clash: First::Nowhere,
+    };
+    let mut before: [u8; 4096] = [0; 4096];
+    let mut bad = false;
+    let mut i: u64 = 0;
+    while i < count {
+        let from = sum.next;
+        match read_stmt(table, from, depth, names) {
+            StmtRead::Stmt(p) => {
+                let to = p.next;
+                bad = crate::usage::check_branch(
+                    &table[from..to],
+                    depth,
+                    &mut before,
+                    names.variables,
+                    names.channels,
+                    bad,
+                );
+                sum = add(sum, p);
+                i += 1;
+            }
+            StmtRead::Refused(n, p) => {
+                return StmtRead::Refused(n, p);
+            }
+        }
+    }
+    close_par(place, sum, bad)
+}
+
+// VAR (kind 5) and CHAN (kind 6): a count and a statement in which so many more names are in scope.
+fn read_declaration(table: &[u8], at: usize, kind: u64, depth: u64, names: Names) -> StmtRead
+    requires { ⌜ (0 < depth) × Fits names depth × (length (now table) ≤ 16384) ⌝ }
+    ensures { λ r. ⌜ r ≡ declaredAt kind depth names (now (table .entry)) at ⌝ }
+{
+    match crate::number::read_between(table, at, 1, 32) {
+        crate::number::Item::Item(count, next) => {
+            let mut more = names;
+            if kind == 5 {
+                more.variables = names.variables + count;
+            } else {
+                more.channels = names.channels + count;
+            }
+            in_scope(count, read_stmt(table, next, depth - 1, more))
+        }
+        crate::number::Item::Refused(n, p) => StmtRead::Refused(n, p),
+    }
+}
+
+// Kinds 7 to 11: a count, which a WHILE does not have, and the parts.
+fn read_parts(
+    table: &[u8],
+    place: usize,
+    at: usize,
+    kind: u64,
+    depth: u64,
+    names: Names,
+) -> StmtRead
+    requires { ⌜ (0 < depth) × Fits names depth × (length (now table) ≤ 16384) ⌝ }
+    ensures { λ r. ⌜ r ≡ partsAt place kind depth names (now (table .entry)) at ⌝ }
+{
+    if kind == 10 {
+        return read_most(table, at, kind, 1, depth - 1, names);
+    }
+    let most = if kind == 8 { 16 } else { 32 };
+    match crate::number::read_between(table, at, 0, most) {
+        crate::number::Item::Item(count, next) => {
+            if kind == 8 {
+                read_par(table, place, next, count, depth - 1, names)
+            } else {
+                read_most(table, next, kind, count, depth - 1, names)
+            }
+        }
+        crate::number::Item::Refused(n, p) => StmtRead::Refused(n, p),
+    }
+}
+
+// A statement; the depth left falls at each call.
+pub fn read_stmt(table: &[u8], at: usize, depth: u64, names: Names) -> StmtRead
+    requires { ⌜ Fits names depth × (length (now table) ≤ 16384) ⌝ }
+    ensures { λ r. ⌜ r ≡ stmtAt depth names (now (table .entry)) at ⌝ }
+{
+    if depth == 0 {
+        return no_stmt(crate::number::read_deep(table, at));
+    }
+    match crate::number::read_between(table, at, 0, 11) {
+        crate::number::Item::Item(kind, next) => {
+            if kind < 5 {
+                return read_simple(table, next, kind, depth - 1, names);
+            }
+            if kind < 7 {
+                return read_declaration(table, next, kind, depth, names);
+            }
+            read_parts(table, at, next, kind, depth, names)
+        }
+        crate::number::Item::Refused(n, p) => StmtRead::Refused(n, p),
+    }
+}

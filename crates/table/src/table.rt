@@ -1,0 +1,76 @@
+// A whole table: the channel counts, the statement, and what is tested after it was read.
+ghost use mathlib.Core.Path.{_≡_};
+ghost use Prim.Native.Nat.{ℕ, _≤_};
+ghost use lib.ListN.{length};
+ghost use Rattle.table.specs.Tables.{finished, bodyAt, tableAt};
+
+// The answer for a statement that was read: refusals 6 to 9, lowest first, then the facts.
+fn finish(ins: u64, outs: u64, length: usize, part: crate::stmt::Part) -> model::Reading
+    requires { ⌜ (ins ≤ 8) × (outs ≤ 8) × (part .words ≤ 655360) ⌝ }
+    ensures { λ r. ⌜ r ≡ finished ins outs length part ⌝ }
+{
+    if part.next < length {
+        return model::Reading::Refused(6, part.next);
+    }
+    let clash = part.clash;
+    let deep = part.deep;
+    match clash {
+        crate::stmt::First::At(p) => model::Reading::Refused(7, p),
+        crate::stmt::First::Nowhere => match deep {
+            crate::stmt::First::At(p) => model::Reading::Refused(8, p),
+            crate::stmt::First::Nowhere => {
+                if part.processes <= 64 {
+                    model::Reading::Accepted(model::Facts {
+                        words: (part.words + ins + outs) as u32,
+                        inputs: ins as u32,
+                        outputs: outs as u32,
+                        processes: part.processes as u32,
+                    })
+                } else {
+                    model::Reading::Refused(9, 0)
+                }
+            }
+        },
+    }
+}
+
+// The statement behind the channel counts, and nothing behind it.
+fn read_body(table: &[u8], at: usize, ins: u64, outs: u64) -> model::Reading
+    requires { ⌜ (ins ≤ 8) × (outs ≤ 8) × (length (now table) ≤ 16384) ⌝ }
+    ensures { λ r. ⌜ r ≡ bodyAt ins outs (now (table .entry)) at ⌝ }
+{
+    let names = crate::stmt::Names {
+        variables: 0,
+        channels: ins + outs,
+        inputs: ins,
+        outputs: outs,
+    };
+    match crate::stmt::read_stmt(table, at, 32, names) {
+        crate::stmt::StmtRead::Stmt(part) => finish(ins, outs, table.len(), part),
+        crate::stmt::StmtRead::Refused(n, p) => model::Reading::Refused(n, p),
+    }
+}
+
+// A table of 1 to 16384 bytes: the channel counts, then the statement.
+pub fn read_table(table: &[u8]) -> model::Reading
+    ensures { λ r. ⌜ r ≡ tableAt (now (table .entry)) ⌝ }
+{
+    if table.len() == 0 {
+        return model::Reading::Refused(1, 0);
+    }
+    if 16384 < table.len() {
+        return model::Reading::Refused(1, 0);
+    }
+    match crate::number::read_between(table, 0, 0, 8) {
+        crate::number::Item::Item(ins, next) => match crate::number::read_between(
+            table,
+            next,
+            0,
+            8,
+        ) {
+            crate::number::Item::Item(outs, last) => read_body(table, last, ins, outs),
+            crate::number::Item::Refused(n, p) => model::Reading::Refused(n, p),
+        },
+        crate::number::Item::Refused(n, p) => model::Reading::Refused(n, p),
+    }
+}
