@@ -1,5 +1,6 @@
--- What is found in the machine over a list of calls (demand 3): a moment after the start, at each run's beginning, after each byte
--- executed and after each call. Each call has the state, code and memory as the one before left them.
+-- What is found in the machine over a list of calls (demand 3): a moment at each run's beginning, after each byte executed and after
+-- each call. The moment after the start is put in front of them in Demand.antt. Each call has the state, code and memory as the one
+-- before left them.
 use Prim.Native.Nat.{ℕ, zero, suc}
 use mathlib.Core.Bool.{Bool, true, false, cond, _||_}
 use mathlib.Core.List.{List, [], _∷_, _++_}

@@ -253,12 +253,12 @@ readStmt (suc d) names = do
   k ← oneOf stmtKinds
   stmtOf at names (record { expr = readWhole d names; stmt = readStmt d }) k
 
--- the outside channels, as they are numbered: inputs first
+-- so many outside channels of one kind, in the order of their numbers
 unfoldable pub outside : (ℕ → Site) → ℕ → List Site
 outside of zero = []
 outside of (suc n) = outside of n ++ of n ∷ []
 
--- 01: first two numbers, 0 to 8 each: outside inputs, then outside outputs. Then one statement, at depth 1; 32 is the deepest
+-- 01: first two numbers, 0 to 8 each: outside inputs, then outside outputs, numbered so. Then one statement, at depth 1; 32 is the deepest
 unfoldable pub readProgram : Reader Program
 readProgram = do
   ins ← readCount 0 8

@@ -26,7 +26,8 @@ use Rattle.model.specs.declared.RunAnswer.the-variants.{Ran, Short as Ru
 use Rattle.model.specs.declared.StartAnswer.{StartAnswer}
 use Rattle.model.specs.declared.StartAnswer.the-variants.{Started, BadSlice, BadCount, TooLarge, Short as StartShort}
 
--- the byte at the process's place; later runs use as much code as the start had
+-- the byte at the process's place; later runs use as much code as the start had. A run tests its end first, so no byte is asked
+-- for at the code's end
 unfoldable pub fetch : List ℕ → Act ℕ
 fetch code = do
   r ← registers
@@ -68,7 +69,7 @@ byte code = do
 abbrev pub ended : Machine → Bool
 ended m = m .cpu .running && eqb (m .cpu .place) (m .setup .code)
 
--- 01, waiting: no process has the processor and none is queued (`queued` counts only while `running`)
+-- 01, waiting: no process has the processor and none is queued (decision 26: `queued` counts only while `running`)
 abbrev pub waits : Machine → Bool
 waits m = not (m .cpu .running)
 

@@ -15,7 +15,8 @@ use Rattle.model.proofs.Sites.{same-refl, same-eq}
 use Rattle.model.specs.Syntax.{Site, Stmts, noStmt, stmt}
 use Rattle.model.specs.Usage.{Usage, nothing, _⊕_, usage, same, isIn, share, clash, clashesLater, anyClash}
 use Rattle.table.specs.Uses.{met, merged}
-use Rattle.table.proofs.SameItems.{inside}
+use Rattle.model.proofs.Points.{getElem-inside as inside}
+use Rattle.table.proofs.SameItems.{}
 use Rattle.table.proofs.Marks.{Field, changed, used-there, inputs-of, outputs-of, base, field, names-of, hit, Marked, or-false}
 use Rattle.table.proofs.Marks.{or-assoc, or-true, hit-append, hit-none, field-both, field-nothing, base-low, isIn-append}
 

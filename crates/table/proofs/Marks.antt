@@ -10,6 +10,7 @@ use lib.ListN.{length, getD, getElem?, set, take, length-set}
 use lib.Seq.{slice, length-slice, getD-take, getD-drop, getD-set-same, getD-set-other}
 use lib.Dec.{ltb, leb, eqb}
 use borrow.Author.Tests.{lt-ltb, le-ltb, lt-leb, ne-eqb, ltb-true, ltb-false, eqb-true, eqb-false}
+use Rattle.model.proofs.Points.{getElem-inside as inside}
 use Rattle.model.proofs.Cases.{by-bool, by-option, never}
 use Rattle.model.specs.Syntax.{Site}
 use Rattle.model.specs.Usage.{Usage, nothing, _⊕_, changing, same, isIn}
@@ -19,7 +20,7 @@ use Rattle.table.specs.Uses.{Used, after, skipAt, markAt, nameUsed, vari
 use Rattle.table.specs.declared.number.Item.{Item}
 use Rattle.table.specs.declared.number.NumberRead.{NumberRead}
 use Rattle.table.specs.declared.number.NumberRead.the-variants.{Number, Bad}
-use Rattle.table.proofs.SameItems.{NumberAt, Listed, inside, outside-of}
+use Rattle.table.proofs.SameItems.{NumberAt, Listed, outside-of}
 
 by-number : {R : Type 0} (x : NumberRead) → (x ≡ Bad → R) → ((v n : ℕ) → x ≡ Number v n → R) → R
 by-number Bad b f = b refl
@@ -129,7 +130,7 @@ pub or-assoc : (a b c : Bool) → ((a || b) || c) ≡ (a || (b || c))
 or-assoc true b c = refl
 or-assoc false b c = refl
 
-and-false : (t : Bool) → (t && false) ≡ false
+pub and-false : (t : Bool) → (t && false) ≡ false
 and-false true = refl
 and-false false = refl
 

@@ -19,8 +19,9 @@ use Rattle.table.specs.Stmts.{itemS, Fits, stmtAt, declaring, moreNames}
 use Rattle.table.specs.Uses.{Used, skipAt, stmtUsed}
 use Rattle.table.specs.declared.stmt.Names.{Names}
 use Rattle.table.specs.declared.stmt.StmtRead.the-variants.{Stmt, Refused as NoStmt}
-use Rattle.table.proofs.SameItems.{Bytes, Same, gives, onwards, inside, count-same}
-use Rattle.table.proofs.Marks.{Field, changed, used-there, inputs-of, outputs-of, names-of, Stretch, later, skip-used, InScope}
+use Rattle.table.proofs.SameItems.{Bytes, Same, gives, onwards, count-same}
+use Rattle.table.proofs.Marks.{or-true, Field, changed, used-there, inputs-of, outputs-of, names-of, Stretch, later, skip-used}
+use Rattle.table.proofs.Marks.{InScope}
 use Rattle.table.specs.Items.{betweenAt}
 use Rattle.table.proofs.SameSimple.{partOf, DeclaredIn, Within, Scoped, Outer, RestIs, StmtIs, fresh-more, own-more, below-more}
 use Rattle.table.proofs.SameSimple.{below-later, lookup-append, names-at, length-names, declared-wider}
@@ -63,10 +64,6 @@ channel-ways w sc place c i a h e =
       or-true (ltb i 0),
     ) (refl, refl))
     (lookup-append (sc .channels) (names place c) i a e)
-  where
-    or-true : (t : Bool) → (t || true) ≡ true
-    or-true true = refl
-    or-true false = refl
 
 channels-in : (w : Names) (sc : Scope) (place c m : ℕ) → Scoped w sc place → place < m
     → Scoped (moreNames 6 c w) (withChannels place c sc) m

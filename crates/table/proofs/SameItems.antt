@@ -18,6 +18,7 @@ use Rattle.model.specs.Number.{groups, number}
 use Rattle.model.specs.Syntax.{Site}
 use Rattle.model.specs.Reader.{Parsed, parsed, fails, Reader, onward, pure, refuse, readNumber, oneOf, readCount, readName, tooDeep}
 use Rattle.model.proofs.Readers.{number-sized}
+use Rattle.model.proofs.Points.{getElem-inside as inside}
 use Rattle.model.proofs.Cases.{by-bool, by-option, never}
 use Rattle.table.specs.Items.{groupsAt, grouped, pickN, pickI, betweenAt, nameAt, deepAt}
 use Rattle.table.specs.declared.number.NumberRead.{NumberRead}
@@ -163,11 +164,6 @@ pub onwards : {A B X Y : Type 0} {s : List ℕ} {R : A → ℕ → X → Type 0}
     → ((j p : ℕ) → c (g j p) ≡ h j p) → Same s Q h (c x) (onward r k)
 onwards c k (gives a n x h) f e = f a n x h refl
 onwards c k (turns j p) f e = rw (e j p) (turns j p)
-
-pub inside : {A : Type 0} {a : A} (l : List A) (i : ℕ) → getElem? l i ≡ some a → i < length l
-inside [] i e = never (cc)
-inside (x ∷ l) zero e = omega arith
-inside (x ∷ l) (suc i) e = omega (arith, inside l i e)
 
 pub outside-of : {A : Type 0} (l : List A) (i : ℕ) → getElem? l i ≡ none → length l ≤ i
 outside-of [] i e = omega arith

@@ -10,6 +10,7 @@ use lib.ListN.{length, drop, getElem?, length-append}
 use lib.Seq.{slice}
 use lib.Dec.{ltb, leb, eqb}
 use borrow.Author.Tests.{eq-eqb, ne-eqb, eqb-true, eqb-false}
+use Rattle.model.proofs.Points.{getElem-inside as inside}
 use Rattle.model.proofs.Cases.{by-bool, never}
 use Rattle.model.specs.Syntax.{Site, inputOf, outputOf, declared, Whole}
 use Rattle.model.specs.Syntax as M
@@ -30,7 +31,7 @@ use Rattle.table.specs.declared.stmt.StmtRead.{StmtRead}
 use Rattle.table.specs.declared.stmt.StmtRead.the-variants.{Stmt, Refused as NoStmt}
 use Rattle.table.specs.declared.stmt.HeadRead.{HeadRead}
 use Rattle.table.specs.declared.stmt.HeadRead.the-variants.{Head, Refused as NoHead}
-use Rattle.table.proofs.SameItems.{Bytes, Same, gives, onwards, Listed, name-same, inside}
+use Rattle.table.proofs.SameItems.{Bytes, Same, gives, onwards, Listed, name-same}
 use Rattle.table.proofs.Marks.{Field, changed, used-there, inputs-of, outputs-of, field, names-of, only, Fresh, UsedAs, Stretch}
 use Rattle.table.proofs.Marks.{marked-nothing, marked-both, later, name-used, variable-used, isIn-append, field-both, field-only}
 use Rattle.table.proofs.Marks.{fields, InScope, or-cases, in-one}

@@ -23,7 +23,7 @@ use Rattle.table.specs.Stmts.{Fits}
 use Rattle.table.specs.Tables.{itemR, stmtR, finished, bodyAt, tableAt}
 use Rattle.table.specs.declared.stmt.Names.{Names}
 use Rattle.table.proofs.SameItems.{Bytes, Same, gives, turns, onwards, count-same}
-use Rattle.table.proofs.Marks.{Fresh}
+use Rattle.table.proofs.Marks.{and-false, Fresh}
 use Rattle.table.proofs.SameSimple.{first, partOf, Below, Scoped, lookup-append}
 use Rattle.table.proofs.SameStmt.{stmt-same}
 
@@ -200,9 +200,5 @@ table-same s b =
     rw (le-leb 1 (length s) least, le-leb (length s) 16384 (ltb-false 16384 (length s) f)) refl in
     rw (e, f, accept-is s fine) (ended-same s _ (readProgram 0 s) (program-same s b))))
   where
-    and-false : (t : Bool) → (t && false) ≡ false
-    and-false true = refl
-    and-false false = refl
-
     one-least : (n : ℕ) → (n ≡ 0 → ⊥) → 1 ≤ n
     one-least n h = omega (arith, h)
