@@ -20,11 +20,11 @@ use Rattle.model.specs.Reader.{Parsed, parsed, fails, Reader, onward, pure, ref
 use Rattle.model.proofs.Readers.{number-sized}
 use Rattle.model.proofs.Points.{getElem-inside as inside}
 use Rattle.model.proofs.Cases.{by-bool, by-option, never}
-use Rattle.table.specs.Items.{groupsAt, grouped, pickN, pickI, betweenAt, nameAt, deepAt}
-use Rattle.table.specs.declared.number.NumberRead.{NumberRead}
-use Rattle.table.specs.declared.number.NumberRead.the-variants.{Number, Bad}
-use Rattle.table.specs.declared.number.Item.{Item}
-use Rattle.table.specs.declared.number.Item.the-variants.{Item as Found, Refused}
+use Rattle.number.specs.Items.{groupsAt, grouped, pickN, pickI, betweenAt, nameAt, deepAt}
+use Rattle.number.specs.declared.NumberRead.{NumberRead}
+use Rattle.number.specs.declared.NumberRead.the-variants.{Number, Bad}
+use Rattle.number.specs.declared.Item.{Item}
+use Rattle.number.specs.declared.Item.the-variants.{Item as Found, Refused}
 
 -- a table's elements are bytes
 abbrev pub Bytes : List ℕ → Type 0

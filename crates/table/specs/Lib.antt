@@ -1,4 +1,3 @@
-pub mod Items
 pub mod Exprs
 pub mod Stmts
 pub mod Uses

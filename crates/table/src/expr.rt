@@ -16,18 +16,18 @@ fn read_leaf(table: &[u8], at: usize, kind: u64, variables: u64) -> ExprRead
     ensures { λ r. ⌜ r ≡ leafAt kind variables (now (table .entry)) at ⌝ }
 {
     if kind == 0 {
-        return no_expr(crate::number::read_between(table, at, 0, 4294967295));
+        return no_expr(number::read_between(table, at, 0, 4294967295));
     }
-    no_expr(crate::number::read_name(table, at, variables, 0, 0))
+    no_expr(number::read_name(table, at, variables, 0, 0))
 }
 
 // A refusal for the whole expression.
-fn no_expr(item: crate::number::Item) -> ExprRead
+fn no_expr(item: number::Item) -> ExprRead
     ensures { λ r. ⌜ r ≡ withItem item (λ v n. Expr n 1) ⌝ }
 {
     match item {
-        crate::number::Item::Item(v, next) => ExprRead::Expr(next, 1),
-        crate::number::Item::Refused(n, p) => ExprRead::Refused(n, p),
+        number::Item::Item(v, next) => ExprRead::Expr(next, 1),
+        number::Item::Refused(n, p) => ExprRead::Refused(n, p),
     }
 }
 
@@ -61,26 +61,21 @@ pub fn read_expr(table: &[u8], at: usize, depth: u64, variables: u64) -> ExprRea
     ensures within { λ r. ⌜ Within r depth ⌝ }
 {
     if depth == 0 {
-        return no_expr(crate::number::read_deep(table, at));
+        return no_expr(number::read_deep(table, at));
     }
-    match crate::number::read_between(table, at, 0, 3) {
-        crate::number::Item::Item(kind, next) => {
+    match number::read_between(table, at, 0, 3) {
+        number::Item::Item(kind, next) => {
             if kind < 2 {
                 return read_leaf(table, next, kind, variables);
             }
             if kind == 2 {
                 return read_expr(table, next, depth - 1, variables);
             }
-            match crate::number::read_between(table, next, 0, 7) {
-                crate::number::Item::Item(operator, after) => read_sides(
-                    table,
-                    after,
-                    depth,
-                    variables,
-                ),
-                crate::number::Item::Refused(n, p) => ExprRead::Refused(n, p),
+            match number::read_between(table, next, 0, 7) {
+                number::Item::Item(operator, after) => read_sides(table, after, depth, variables),
+                number::Item::Refused(n, p) => ExprRead::Refused(n, p),
             }
         }
-        crate::number::Item::Refused(n, p) => ExprRead::Refused(n, p),
+        number::Item::Refused(n, p) => ExprRead::Refused(n, p),
     }
 }

@@ -3,7 +3,6 @@ ghost use mathlib.Core.Path.{_≡_};
 ghost use Rattle.model.specs.Accept.{accept, answerOf};
 
 mod expr;
-mod number;
 mod stmt;
 mod table;
 mod usage;

@@ -61,16 +61,11 @@ pub fn read_table(table: &[u8]) -> model::Reading
     if 16384 < table.len() {
         return model::Reading::Refused(1, 0);
     }
-    match crate::number::read_between(table, 0, 0, 8) {
-        crate::number::Item::Item(ins, next) => match crate::number::read_between(
-            table,
-            next,
-            0,
-            8,
-        ) {
-            crate::number::Item::Item(outs, last) => read_body(table, last, ins, outs),
-            crate::number::Item::Refused(n, p) => model::Reading::Refused(n, p),
+    match number::read_between(table, 0, 0, 8) {
+        number::Item::Item(ins, next) => match number::read_between(table, next, 0, 8) {
+            number::Item::Item(outs, last) => read_body(table, last, ins, outs),
+            number::Item::Refused(n, p) => model::Reading::Refused(n, p),
         },
-        crate::number::Item::Refused(n, p) => model::Reading::Refused(n, p),
+        number::Item::Refused(n, p) => model::Reading::Refused(n, p),
     }
 }

@@ -1,10 +1,10 @@
--- `table::number::read_name` meets its contract. Assumes nothing.
+-- `number::read_name` meets its contract. Assumes nothing.
 use borrow.Author.Needs.{needs}
-use Rattle.table.proofs.number.read_name.Statement.{statement}
-use Rattle.table.proofs.number.read_name.Tie as tie
+use Rattle.number.proofs.read_name.Statement.{statement}
+use Rattle.number.proofs.read_name.Tie as tie
 use borrow.Author.Tests.{lt-ltb, le-ltb, le-leb, lt-leb}
 use mathlib.Core.Path.{sym, _∙_}
-use Rattle.table.specs.Items.{nameAt}
+use Rattle.number.specs.Items.{nameAt}
 
 returns : tie.Need-returns
 unfolding nameAt

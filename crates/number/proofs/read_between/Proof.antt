@@ -1,10 +1,10 @@
--- `table::number::read_between` meets its contract. Assumes nothing.
+-- `number::read_between` meets its contract. Assumes nothing.
 use borrow.Author.Needs.{needs}
-use Rattle.table.proofs.number.read_between.Statement.{statement}
-use Rattle.table.proofs.number.read_between.Tie as tie
+use Rattle.number.proofs.read_between.Statement.{statement}
+use Rattle.number.proofs.read_between.Tie as tie
 use borrow.Author.Tests.{lt-ltb, le-ltb}
 use mathlib.Core.Path.{sym, _∙_}
-use Rattle.table.specs.Items.{betweenAt}
+use Rattle.number.specs.Items.{betweenAt}
 
 returns : tie.Need-returns
 unfolding betweenAt

@@ -1,9 +1,9 @@
--- `table::number::read_deep` meets its contract. Assumes nothing.
+-- `number::read_deep` meets its contract. Assumes nothing.
 use borrow.Author.Needs.{needs}
-use Rattle.table.proofs.number.read_deep.Statement.{statement}
-use Rattle.table.proofs.number.read_deep.Tie as tie
+use Rattle.number.proofs.read_deep.Statement.{statement}
+use Rattle.number.proofs.read_deep.Tie as tie
 use mathlib.Core.Path.{sym, _∙_}
-use Rattle.table.specs.Items.{deepAt}
+use Rattle.number.specs.Items.{deepAt}
 
 returns : tie.Need-returns
 unfolding deepAt
