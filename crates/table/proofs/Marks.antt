@@ -15,11 +15,11 @@ use Rattle.model.proofs.Cases.{by-bool, by-option, never}
 use Rattle.model.specs.Syntax.{Site}
 use Rattle.model.specs.Usage.{Usage, nothing, _⊕_, changing, same, isIn}
 use Rattle.model.proofs.Sites.{same-eq}
-use Rattle.number.specs.Items.{groupsAt, grouped}
+use Rattle.numbers.specs.Items.{groupsAt, grouped}
 use Rattle.table.specs.Uses.{Used, after, skipAt, markAt, nameUsed, variableUsed}
-use Rattle.number.specs.declared.Item.{Item}
-use Rattle.number.specs.declared.NumberRead.{NumberRead}
-use Rattle.number.specs.declared.NumberRead.the-variants.{Number, Bad}
+use Rattle.numbers.specs.declared.Item.{Item}
+use Rattle.numbers.specs.declared.NumberRead.{NumberRead}
+use Rattle.numbers.specs.declared.NumberRead.the-variants.{Number, Bad}
 use Rattle.table.proofs.SameItems.{NumberAt, Listed, outside-of}
 
 by-number : {R : Type 0} (x : NumberRead) → (x ≡ Bad → R) → ((v n : ℕ) → x ≡ Number v n → R) → R

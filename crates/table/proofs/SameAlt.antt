@@ -17,7 +17,7 @@ use Rattle.model.specs.Counts.{registers, firstDeep, processes, need, guardNeed
 use Rattle.table.specs.Stmts.{firstOf, itemS, itemH, headS, headH, wholeAt, takenAt, Fits, stmtAt, pickH, stmtS, sumS, headAt}
 use Rattle.table.specs.Stmts.{guardAt, behind, nothing as no-part, partAt, mostFrom, gathered}
 use Rattle.table.specs.Uses.{thenUsed, nameUsed, variableUsed, exprUsed, stmtUsed, headUsed, guardUsed}
-use Rattle.number.specs.declared.Item.{Item}
+use Rattle.numbers.specs.declared.Item.{Item}
 use Rattle.table.specs.declared.stmt.Names.{Names}
 use Rattle.table.specs.declared.stmt.StmtRead.{StmtRead}
 use Rattle.table.specs.declared.stmt.StmtRead.the-variants.{Stmt, Refused as NoStmt}
@@ -29,7 +29,7 @@ use Rattle.table.specs.declared.stmt.Sum.{Sum}
 use Rattle.table.proofs.SameSimple.{first, partOf, Within, Scoped, UsesFrom, RestIs, StmtIs, wider, within-both, use-both, noted}
 use Rattle.table.proofs.SameSimple.{WholeIs, first-noted, taken-onward, input-used, within-input}
 use Rattle.table.proofs.SameDeclare.{InnerIs}
-use Rattle.number.specs.Items.{betweenAt}
+use Rattle.numbers.specs.Items.{betweenAt}
 use Rattle.table.proofs.SameMany.{first-orElse, firstOf-assoc, Counting, partWay, PartIs}
 use Rattle.table.proofs.SameParts.{outer-later, scoped-later, plus-assoc, whole-scoped, countedWay, counted-same}
 

@@ -22,7 +22,7 @@ use Rattle.table.specs.declared.stmt.StmtRead.the-variants.{Stmt, Refuse
 use Rattle.table.proofs.SameItems.{Bytes, Same, gives, onwards, count-same}
 use Rattle.table.proofs.Marks.{or-true, Field, changed, used-there, inputs-of, outputs-of, names-of, Stretch, later, skip-used}
 use Rattle.table.proofs.Marks.{InScope}
-use Rattle.number.specs.Items.{betweenAt}
+use Rattle.numbers.specs.Items.{betweenAt}
 use Rattle.table.proofs.SameSimple.{partOf, DeclaredIn, Within, Scoped, Outer, RestIs, StmtIs, fresh-more, own-more, below-more}
 use Rattle.table.proofs.SameSimple.{below-later, lookup-append, names-at, length-names, declared-wider}
 

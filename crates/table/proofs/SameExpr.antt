@@ -15,10 +15,10 @@ use Rattle.model.specs.Reader.{operators, exprOf, readExpr}
 use Rattle.model.specs.Usage.{Usage, isIn, reads}
 use Rattle.model.proofs.Cases.{never}
 use Rattle.model.specs.Counts.{registers}
-use Rattle.number.specs.Items.{betweenAt, nameAt}
+use Rattle.numbers.specs.Items.{betweenAt, nameAt}
 use Rattle.table.specs.Exprs.{pickE, withItem, withExpr, leafAt, joined, sides, exprAt}
 use Rattle.table.specs.Uses.{Used, used, pickU, skipAt, thenUsed, nameUsed, exprUsed}
-use Rattle.number.specs.declared.Item.the-variants.{Refused}
+use Rattle.numbers.specs.declared.Item.the-variants.{Refused}
 use Rattle.table.specs.declared.expr.ExprRead.{ExprRead}
 use Rattle.table.specs.declared.expr.ExprRead.the-variants.{Expr, Refused as NoExpr}
 use Rattle.table.proofs.SameItems.{Bytes, NumberAt, Same, gives, turns, onwards, Listed, one-same, name-same, deep-same, word-same}

@@ -20,11 +20,11 @@ use Rattle.model.specs.Reader.{Parsed, parsed, fails, Reader, onward, pure, ref
 use Rattle.model.proofs.Readers.{number-sized}
 use Rattle.model.proofs.Points.{getElem-inside as inside}
 use Rattle.model.proofs.Cases.{by-bool, by-option, never}
-use Rattle.number.specs.Items.{groupsAt, grouped, pickN, pickI, betweenAt, nameAt, deepAt}
-use Rattle.number.specs.declared.NumberRead.{NumberRead}
-use Rattle.number.specs.declared.NumberRead.the-variants.{Number, Bad}
-use Rattle.number.specs.declared.Item.{Item}
-use Rattle.number.specs.declared.Item.the-variants.{Item as Found, Refused}
+use Rattle.numbers.specs.Items.{groupsAt, grouped, pickN, pickI, betweenAt, nameAt, deepAt}
+use Rattle.numbers.specs.declared.NumberRead.{NumberRead}
+use Rattle.numbers.specs.declared.NumberRead.the-variants.{Number, Bad}
+use Rattle.numbers.specs.declared.Item.{Item}
+use Rattle.numbers.specs.declared.Item.the-variants.{Item as Found, Refused}
 
 -- a table's elements are bytes
 abbrev pub Bytes : List ℕ → Type 0

@@ -27,7 +27,7 @@ use Rattle.table.specs.declared.stmt.Sum.{Sum}
 use Rattle.table.proofs.SameSimple.{first, partOf, Within, Scoped, Outer, UsesFrom, RestIs, StmtIs, wider, within-both}
 use Rattle.table.proofs.SameSimple.{within-nothing, use-both, DeclaredIn}
 use Rattle.table.proofs.SameDeclare.{InnerIs}
-use Rattle.number.specs.Items.{betweenAt}
+use Rattle.numbers.specs.Items.{betweenAt}
 use Rattle.table.proofs.SameMany.{first-orElse, firstOf-assoc, manyWay, firstOf-nowhere}
 use Rattle.table.proofs.Small.{Small, stmt-small}
 use Rattle.table.proofs.Clash.{Sets, sets-nothing, sets-of-marked, sets-both, met-clash, clashesBefore, before-any}

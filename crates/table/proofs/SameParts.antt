@@ -31,7 +31,7 @@ use Rattle.table.specs.declared.stmt.SumRead.the-variants.{Sum as Total}
 use Rattle.table.proofs.SameSimple.{first, partOf, Within, Scoped, Outer, UsesFrom, RestIs, StmtIs, below-later, wider, within-both}
 use Rattle.table.proofs.SameSimple.{use-both, noted, WholeIs, whole-same, first-noted}
 use Rattle.table.proofs.SameDeclare.{InnerIs}
-use Rattle.number.specs.Items.{groupsAt, betweenAt}
+use Rattle.numbers.specs.Items.{groupsAt, betweenAt}
 use Rattle.table.proofs.SameMany.{first-orElse, firstOf-assoc, Counting, PartIs, manyWay, many-same}
 
 pub outer-later : {sc : Scope} {place : ℕ} {vs cs : List Site} (m : ℕ) → place ≤ m → Outer sc place vs cs → Outer sc m vs cs

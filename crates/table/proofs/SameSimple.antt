@@ -21,8 +21,8 @@ use Rattle.model.specs.Counts.{registers, firstDeep, processes, need}
 use Rattle.table.specs.Stmts.{pickF, itemS, itemH, headS, wholeOf, wholeAt, variableAt, inputAt, outputAt, leaf, valueAt, takenAt}
 use Rattle.table.specs.Stmts.{simpleAt}
 use Rattle.table.specs.Uses.{Used, used, thenUsed, nameUsed, variableUsed, exprUsed, simpleUsed, stmtUsed}
-use Rattle.number.specs.declared.Item.{Item}
-use Rattle.number.specs.declared.Item.the-variants.{Refused}
+use Rattle.numbers.specs.declared.Item.{Item}
+use Rattle.numbers.specs.declared.Item.the-variants.{Refused}
 use Rattle.table.specs.declared.stmt.Names.{Names}
 use Rattle.table.specs.declared.stmt.First.{First}
 use Rattle.table.specs.declared.stmt.First.the-variants.{Nowhere, At}

@@ -18,7 +18,7 @@ use Rattle.model.specs.Counts.{firstDeep, processes}
 use Rattle.model.specs.Accept.{accept, answerOf, checks}
 use Rattle.model.specs.declared.Reading.{Reading}
 use Rattle.model.specs.declared.Reading.the-variants.{Refused}
-use Rattle.number.specs.Items.{betweenAt}
+use Rattle.numbers.specs.Items.{betweenAt}
 use Rattle.table.specs.Stmts.{Fits}
 use Rattle.table.specs.Tables.{itemR, stmtR, finished, bodyAt, tableAt}
 use Rattle.table.specs.declared.stmt.Names.{Names}

@@ -7,16 +7,16 @@ use lib.ListN.{length, getD}
 use lib.Dec.{ltb, leb, eqb}
 use borrow.Author.Tests.{leb-false, ltb-false}
 use Rattle.model.proofs.Cases.{by-bool}
-use Rattle.number.specs.Items.{groupsAt, grouped, pickN, pickI, between, betweenAt, nameOf, nameAt, deepOf, deepAt}
+use Rattle.numbers.specs.Items.{groupsAt, grouped, pickN, pickI, between, betweenAt, nameOf, nameAt, deepOf, deepAt}
 use Rattle.table.specs.Exprs.{pickE, withItem, withExpr, leafAt, joined, sides, exprAt}
 use Rattle.table.specs.Stmts.{pickS, pickH, itemS, itemH, headS, headH, stmtS, stmtT, sumS, wholeOf, wholeAt, variableAt, inputAt}
 use Rattle.table.specs.Stmts.{outputAt, leaf, valueAt, takenAt, simpleAt, guardAt, headAt, behind, nothing, added, partAt, mostFrom}
 use Rattle.table.specs.Stmts.{pickW, gathered, Branches, joinedBy, branchesFrom, noBranches, moreNames, declaring, insideAt, stmtAt}
 use Rattle.table.specs.Stmts.{partIn}
-use Rattle.number.specs.declared.NumberRead.{NumberRead}
-use Rattle.number.specs.declared.NumberRead.the-variants.{Number, Bad}
-use Rattle.number.specs.declared.Item.{Item}
-use Rattle.number.specs.declared.Item.the-variants.{Item as Found, Refused}
+use Rattle.numbers.specs.declared.NumberRead.{NumberRead}
+use Rattle.numbers.specs.declared.NumberRead.the-variants.{Number, Bad}
+use Rattle.numbers.specs.declared.Item.{Item}
+use Rattle.numbers.specs.declared.Item.the-variants.{Item as Found, Refused}
 use Rattle.table.specs.declared.expr.ExprRead.{ExprRead}
 use Rattle.table.specs.declared.expr.ExprRead.the-variants.{Expr, Refused as NoExpr}
 use Rattle.table.specs.declared.stmt.Names.{Names}

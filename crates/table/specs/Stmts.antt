@@ -5,11 +5,11 @@ use mathlib.Core.List.{List}
 use lib.ListN.{replicate}
 use lib.Seq.{slice}
 use lib.Dec.{ltb, leb, eqb}
-use Rattle.number.specs.Items.{betweenAt, nameAt, deepAt}
+use Rattle.numbers.specs.Items.{betweenAt, nameAt, deepAt}
 use Rattle.table.specs.Exprs.{exprAt}
 use Rattle.table.specs.Uses.{Checked, checkedAt}
-use Rattle.number.specs.declared.Item.{Item}
-use Rattle.number.specs.declared.Item.the-variants.{Item as Found, Refused}
+use Rattle.numbers.specs.declared.Item.{Item}
+use Rattle.numbers.specs.declared.Item.the-variants.{Item as Found, Refused}
 use Rattle.table.specs.declared.expr.ExprRead.{ExprRead}
 use Rattle.table.specs.declared.expr.ExprRead.the-variants.{Expr, Refused as NoExpr}
 use Rattle.table.specs.declared.stmt.Names.{Names}

@@ -6,10 +6,10 @@ use lib.ListN.{length}
 use lib.Dec.{ltb, leb, eqb}
 use Rattle.model.specs.declared.Reading.{Reading}
 use Rattle.model.specs.declared.Reading.the-variants.{Accepted, Refused}
-use Rattle.number.specs.Items.{betweenAt}
+use Rattle.numbers.specs.Items.{betweenAt}
 use Rattle.table.specs.Stmts.{stmtAt}
-use Rattle.number.specs.declared.Item.{Item}
-use Rattle.number.specs.declared.Item.the-variants.{Item as Found, Refused as NoItem}
+use Rattle.numbers.specs.declared.Item.{Item}
+use Rattle.numbers.specs.declared.Item.the-variants.{Item as Found, Refused as NoItem}
 use Rattle.table.specs.declared.stmt.First.{First}
 use Rattle.table.specs.declared.stmt.First.the-variants.{Nowhere, At}
 use Rattle.table.specs.declared.stmt.Part.{Part}

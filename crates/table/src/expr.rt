@@ -16,18 +16,18 @@ fn read_leaf(table: &[u8], at: usize, kind: u64, variables: u64) -> ExprRead
     ensures { λ r. ⌜ r ≡ leafAt kind variables (now (table .entry)) at ⌝ }
 {
     if kind == 0 {
-        return no_expr(number::read_between(table, at, 0, 4294967295));
+        return no_expr(numbers::read_between(table, at, 0, 4294967295));
     }
-    no_expr(number::read_name(table, at, variables, 0, 0))
+    no_expr(numbers::read_name(table, at, variables, 0, 0))
 }
 
 // A refusal for the whole expression.
-fn no_expr(item: number::Item) -> ExprRead
+fn no_expr(item: numbers::Item) -> ExprRead
     ensures { λ r. ⌜ r ≡ withItem item (λ v n. Expr n 1) ⌝ }
 {
     match item {
-        number::Item::Item(v, next) => ExprRead::Expr(next, 1),
-        number::Item::Refused(n, p) => ExprRead::Refused(n, p),
+        numbers::Item::Item(v, next) => ExprRead::Expr(next, 1),
+        numbers::Item::Refused(n, p) => ExprRead::Refused(n, p),
     }
 }
 
@@ -61,21 +61,21 @@ pub fn read_expr(table: &[u8], at: usize, depth: u64, variables: u64) -> ExprRea
     ensures within { λ r. ⌜ Within r depth ⌝ }
 {
     if depth == 0 {
-        return no_expr(number::read_deep(table, at));
+        return no_expr(numbers::read_deep(table, at));
     }
-    match number::read_between(table, at, 0, 3) {
-        number::Item::Item(kind, next) => {
+    match numbers::read_between(table, at, 0, 3) {
+        numbers::Item::Item(kind, next) => {
             if kind < 2 {
                 return read_leaf(table, next, kind, variables);
             }
             if kind == 2 {
                 return read_expr(table, next, depth - 1, variables);
             }
-            match number::read_between(table, next, 0, 7) {
-                number::Item::Item(operator, after) => read_sides(table, after, depth, variables),
-                number::Item::Refused(n, p) => ExprRead::Refused(n, p),
+            match numbers::read_between(table, next, 0, 7) {
+                numbers::Item::Item(operator, after) => read_sides(table, after, depth, variables),
+                numbers::Item::Refused(n, p) => ExprRead::Refused(n, p),
             }
         }
-        number::Item::Refused(n, p) => ExprRead::Refused(n, p),
+        numbers::Item::Refused(n, p) => ExprRead::Refused(n, p),
     }
 }

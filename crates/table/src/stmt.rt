@@ -120,24 +120,24 @@ fn read_input(table: &[u8], at: usize, names: Names, deep: First) -> HeadRead
     requires { ⌜ (names .inputs ≤ 8) × (names .outputs ≤ 8) ⌝ }
     ensures { λ r. ⌜ r ≡ takenAt names (now (table .entry)) at deep ⌝ }
 {
-    match number::read_name(
+    match numbers::read_name(
         table,
         at,
         names.channels,
         names.inputs,
         names.inputs + names.outputs,
     ) {
-        number::Item::Item(channel, next) => match number::read_name(
+        numbers::Item::Item(channel, next) => match numbers::read_name(
             table,
             next,
             names.variables,
             0,
             0,
         ) {
-            number::Item::Item(variable, last) => HeadRead::Head(last, deep),
-            number::Item::Refused(n, p) => HeadRead::Refused(n, p),
+            numbers::Item::Item(variable, last) => HeadRead::Head(last, deep),
+            numbers::Item::Refused(n, p) => HeadRead::Refused(n, p),
         },
-        number::Item::Refused(n, p) => HeadRead::Refused(n, p),
+        numbers::Item::Refused(n, p) => HeadRead::Refused(n, p),
     }
 }
 
@@ -150,15 +150,15 @@ fn read_simple(table: &[u8], at: usize, kind: u64, depth: u64, names: Names) -> 
         return leaf_part(at, 2, First::Nowhere);
     }
     if kind == 2 {
-        return match number::read_name(table, at, names.variables, 0, 0) {
-            number::Item::Item(variable, next) => read_value(
+        return match numbers::read_name(table, at, names.variables, 0, 0) {
+            numbers::Item::Item(variable, next) => read_value(
                 table,
                 next,
                 depth,
                 names.variables,
                 2,
             ),
-            number::Item::Refused(n, p) => StmtRead::Refused(n, p),
+            numbers::Item::Refused(n, p) => StmtRead::Refused(n, p),
         };
     }
     if kind == 3 {
@@ -167,9 +167,9 @@ fn read_simple(table: &[u8], at: usize, kind: u64, depth: u64, names: Names) -> 
             HeadRead::Refused(n, p) => StmtRead::Refused(n, p),
         };
     }
-    match number::read_name(table, at, names.channels, 0, names.inputs) {
-        number::Item::Item(channel, next) => read_value(table, next, depth, names.variables, 4),
-        number::Item::Refused(n, p) => StmtRead::Refused(n, p),
+    match numbers::read_name(table, at, names.channels, 0, names.inputs) {
+        numbers::Item::Item(channel, next) => read_value(table, next, depth, names.variables, 4),
+        numbers::Item::Refused(n, p) => StmtRead::Refused(n, p),
     }
 }
 
@@ -178,8 +178,8 @@ fn read_guard(table: &[u8], at: usize, depth: u64, names: Names) -> HeadRead
     requires { ⌜ (depth ≤ 32) × (names .inputs ≤ 8) × (names .outputs ≤ 8) ⌝ }
     ensures { λ r. ⌜ r ≡ guardAt depth names (now (table .entry)) at ⌝ }
 {
-    match number::read_between(table, at, 0, 1) {
-        number::Item::Item(kind, next) => match read_whole(table, next, depth, names.variables) {
+    match numbers::read_between(table, at, 0, 1) {
+        numbers::Item::Item(kind, next) => match read_whole(table, next, depth, names.variables) {
             HeadRead::Head(last, deep) => {
                 if kind == 0 {
                     read_input(table, last, names, deep)
@@ -189,7 +189,7 @@ fn read_guard(table: &[u8], at: usize, depth: u64, names: Names) -> HeadRead
             }
             HeadRead::Refused(n, p) => HeadRead::Refused(n, p),
         },
-        number::Item::Refused(n, p) => HeadRead::Refused(n, p),
+        numbers::Item::Refused(n, p) => HeadRead::Refused(n, p),
     }
 }
 
@@ -208,12 +208,12 @@ fn read_head(table: &[u8], at: usize, kind: u64, depth: u64, names: Names) -> He
 }
 
 // A refusal for the whole statement.
-fn no_stmt(item: number::Item) -> StmtRead
+fn no_stmt(item: numbers::Item) -> StmtRead
     ensures { λ r. ⌜ r ≡ itemS item (λ v n. leaf n 2 Nowhere) ⌝ }
 {
     match item {
-        number::Item::Item(v, next) => leaf_part(next, 2, First::Nowhere),
-        number::Item::Refused(n, p) => StmtRead::Refused(n, p),
+        numbers::Item::Item(v, next) => leaf_part(next, 2, First::Nowhere),
+        numbers::Item::Refused(n, p) => StmtRead::Refused(n, p),
     }
 }
 
@@ -408,8 +408,8 @@ fn read_declaration(table: &[u8], at: usize, kind: u64, depth: u64, names: Names
     requires { ⌜ (0 < depth) × Fits names depth × (length (now table) ≤ 16384) ⌝ }
     ensures { λ r. ⌜ r ≡ declaredAt kind depth names (now (table .entry)) at ⌝ }
 {
-    match number::read_between(table, at, 1, 32) {
-        number::Item::Item(count, next) => {
+    match numbers::read_between(table, at, 1, 32) {
+        numbers::Item::Item(count, next) => {
             let mut more = names;
             if kind == 5 {
                 more.variables = names.variables + count;
@@ -418,7 +418,7 @@ fn read_declaration(table: &[u8], at: usize, kind: u64, depth: u64, names: Names
             }
             in_scope(count, read_stmt(table, next, depth - 1, more))
         }
-        number::Item::Refused(n, p) => StmtRead::Refused(n, p),
+        numbers::Item::Refused(n, p) => StmtRead::Refused(n, p),
     }
 }
 
@@ -438,15 +438,15 @@ fn read_parts(
         return read_most(table, at, kind, 1, depth - 1, names);
     }
     let most = if kind == 8 { 16 } else { 32 };
-    match number::read_between(table, at, 0, most) {
-        number::Item::Item(count, next) => {
+    match numbers::read_between(table, at, 0, most) {
+        numbers::Item::Item(count, next) => {
             if kind == 8 {
                 read_par(table, place, next, count, depth - 1, names)
             } else {
                 read_most(table, next, kind, count, depth - 1, names)
             }
         }
-        number::Item::Refused(n, p) => StmtRead::Refused(n, p),
+        numbers::Item::Refused(n, p) => StmtRead::Refused(n, p),
     }
 }
 
@@ -456,10 +456,10 @@ pub fn read_stmt(table: &[u8], at: usize, depth: u64, names: Names) -> StmtRead
     ensures { λ r. ⌜ r ≡ stmtAt depth names (now (table .entry)) at ⌝ }
 {
     if depth == 0 {
-        return no_stmt(number::read_deep(table, at));
+        return no_stmt(numbers::read_deep(table, at));
     }
-    match number::read_between(table, at, 0, 11) {
-        number::Item::Item(kind, next) => {
+    match numbers::read_between(table, at, 0, 11) {
+        numbers::Item::Item(kind, next) => {
             if kind < 5 {
                 return read_simple(table, next, kind, depth - 1, names);
             }
@@ -468,6 +468,6 @@ pub fn read_stmt(table: &[u8], at: usize, depth: u64, names: Names) -> StmtRead
             }
             read_parts(table, at, next, kind, depth, names)
         }
-        number::Item::Refused(n, p) => StmtRead::Refused(n, p),
+        numbers::Item::Refused(n, p) => StmtRead::Refused(n, p),
     }
 }

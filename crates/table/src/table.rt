@@ -61,11 +61,11 @@ pub fn read_table(table: &[u8]) -> model::Reading
     if 16384 < table.len() {
         return model::Reading::Refused(1, 0);
     }
-    match number::read_between(table, 0, 0, 8) {
-        number::Item::Item(ins, next) => match number::read_between(table, next, 0, 8) {
-            number::Item::Item(outs, last) => read_body(table, last, ins, outs),
-            number::Item::Refused(n, p) => model::Reading::Refused(n, p),
+    match numbers::read_between(table, 0, 0, 8) {
+        numbers::Item::Item(ins, next) => match numbers::read_between(table, next, 0, 8) {
+            numbers::Item::Item(outs, last) => read_body(table, last, ins, outs),
+            numbers::Item::Refused(n, p) => model::Reading::Refused(n, p),
         },
-        number::Item::Refused(n, p) => model::Reading::Refused(n, p),
+        numbers::Item::Refused(n, p) => model::Reading::Refused(n, p),
     }
 }

@@ -14,9 +14,9 @@ ghost use Rattle.table.specs.Uses.{manyUsed, partsUsed, stmtUsed, met, m
 fn skip(part: &[u8], at: usize) -> usize
     ensures { λ r. ⌜ r ≡ skipAt (now (part .entry)) at ⌝ }
 {
-    match number::read_groups(part, at, 5) {
-        number::NumberRead::Number(v, next) => next,
-        number::NumberRead::Bad => at,
+    match numbers::read_groups(part, at, 5) {
+        numbers::NumberRead::Number(v, next) => next,
+        numbers::NumberRead::Bad => at,
     }
 }
 
@@ -35,12 +35,12 @@ fn use_name(part: &[u8], at: usize, marks: &mut [u8; 4096], base: usize, limit: 
     requires { ⌜ (base ≤ 3072) × (limit ≤ 1024) ⌝ }
     ensures { λ r. ⌜ used r (now (marks .exit)) ≡ nameUsed base limit (now (part .entry)) at (now (marks .entry)) ⌝ }
 {
-    match number::read_groups(part, at, 5) {
-        number::NumberRead::Number(v, next) => {
+    match numbers::read_groups(part, at, 5) {
+        numbers::NumberRead::Number(v, next) => {
             mark(marks, base, v, limit);
             next
         }
-        number::NumberRead::Bad => at,
+        numbers::NumberRead::Bad => at,
     }
 }
 
@@ -49,13 +49,13 @@ fn use_variable(part: &[u8], at: usize, marks: &mut [u8; 4096], limit: u64) -> u
     requires { ⌜ limit ≤ 1024 ⌝ }
     ensures { λ r. ⌜ used r (now (marks .exit)) ≡ variableUsed limit (now (part .entry)) at (now (marks .entry)) ⌝ }
 {
-    match number::read_groups(part, at, 5) {
-        number::NumberRead::Number(v, next) => {
+    match numbers::read_groups(part, at, 5) {
+        numbers::NumberRead::Number(v, next) => {
             mark(marks, 0, v, limit);
             mark(marks, 1024, v, limit);
             next
         }
-        number::NumberRead::Bad => at,
+        numbers::NumberRead::Bad => at,
     }
 }
 
@@ -67,8 +67,8 @@ fn use_expr(part: &[u8], at: usize, depth: u64, marks: &mut [u8; 4096], limit: u
     if depth == 0 {
         return at;
     }
-    match number::read_groups(part, at, 5) {
-        number::NumberRead::Number(kind, next) => {
+    match numbers::read_groups(part, at, 5) {
+        numbers::NumberRead::Number(kind, next) => {
             if kind == 0 {
                 return skip(part, next);
             }
@@ -82,7 +82,7 @@ fn use_expr(part: &[u8], at: usize, depth: u64, marks: &mut [u8; 4096], limit: u
             let right = use_expr(part, left, depth - 1, marks, limit);
             use_expr(part, right, depth - 1, marks, limit)
         }
-        number::NumberRead::Bad => at,
+        numbers::NumberRead::Bad => at,
     }
 }
 
@@ -126,8 +126,8 @@ fn use_guard(
     requires { ⌜ (variables ≤ 1024) × (channels ≤ 1024) ⌝ }
     ensures { λ r. ⌜ used r (now (marks .exit)) ≡ guardUsed depth variables channels (now (part .entry)) at (now (marks .entry)) ⌝ }
 {
-    match number::read_groups(part, at, 5) {
-        number::NumberRead::Number(kind, next) => {
+    match numbers::read_groups(part, at, 5) {
+        numbers::NumberRead::Number(kind, next) => {
             let channel = use_expr(part, next, depth, marks, variables);
             if kind == 0 {
                 let variable = use_name(part, channel, marks, 2048, channels);
@@ -135,7 +135,7 @@ fn use_guard(
             }
             channel
         }
-        number::NumberRead::Bad => at,
+        numbers::NumberRead::Bad => at,
     }
 }
 
@@ -201,8 +201,8 @@ pub fn use_stmt(
     if depth == 0 {
         return at;
     }
-    match number::read_groups(part, at, 5) {
-        number::NumberRead::Number(kind, next) => {
+    match numbers::read_groups(part, at, 5) {
+        numbers::NumberRead::Number(kind, next) => {
             if kind < 5 {
                 return use_simple(part, next, kind, depth - 1, marks, variables, channels);
             }
@@ -218,7 +218,7 @@ pub fn use_stmt(
             }
             use_parts(part, next, kind, depth, marks, variables, channels)
         }
-        number::NumberRead::Bad => at,
+        numbers::NumberRead::Bad => at,
     }
 }
 
@@ -238,8 +238,8 @@ fn use_parts(
     if kind == 10 {
         return use_many(part, at, kind, 1, depth - 1, marks, variables, channels);
     }
-    match number::read_groups(part, at, 5) {
-        number::NumberRead::Number(count, next) => use_many(
+    match numbers::read_groups(part, at, 5) {
+        numbers::NumberRead::Number(count, next) => use_many(
             part,
             next,
             kind,
@@ -249,7 +249,7 @@ fn use_parts(
             variables,
             channels,
         ),
-        number::NumberRead::Bad => at,
+        numbers::NumberRead::Bad => at,
     }
 }
 

@@ -12,8 +12,8 @@ use Rattle.table.proofs.expr.+read_expr+read_sides.Lts-read_sides as re
 use Rattle.table.proofs.expr.join.Reads as join-reads
 use Rattle.table.proofs.expr.no_expr.Reads as no-expr-reads
 use Rattle.table.proofs.expr.read_leaf.Reads as read-leaf-reads
-use Rattle.number.proofs.read_between.Reads as read-between-reads
-use Rattle.number.proofs.read_deep.Reads as read-deep-reads
+use Rattle.numbers.proofs.read_between.Reads as read-between-reads
+use Rattle.numbers.proofs.read_deep.Reads as read-deep-reads
 use Rattle.table.proofs.expr.+read_expr+read_sides.{statement}
 use Rattle.table.proofs.expr.+read_expr+read_sides.Tie.{close}
 use borrow.Author.Needs.{needs}
@@ -23,12 +23,12 @@ use mathlib.Core.Bool.{Bool, true, false}
 use mathlib.Core.List.{List}
 use mathlib.Core.Path.{_≡_, refl, sym, _∙_}
 use lib.Dec.{ltb, eqb}
-use Rattle.number.specs.Items.{betweenAt, nameAt, deepAt, deepOf, groupsAt}
+use Rattle.numbers.specs.Items.{betweenAt, nameAt, deepAt, deepOf, groupsAt}
 use Rattle.table.specs.Exprs.{exprAt, leafAt, sidesAt, pickE, withItem, Within}
-use Rattle.number.specs.declared.Item.{Item}
-use Rattle.number.specs.declared.Item.the-variants.{Item as Found, Refused}
-use Rattle.number.specs.declared.NumberRead.{NumberRead}
-use Rattle.number.specs.declared.NumberRead.the-variants.{Number, Bad}
+use Rattle.numbers.specs.declared.Item.{Item}
+use Rattle.numbers.specs.declared.Item.the-variants.{Item as Found, Refused}
+use Rattle.numbers.specs.declared.NumberRead.{NumberRead}
+use Rattle.numbers.specs.declared.NumberRead.the-variants.{Number, Bad}
 use Rattle.table.specs.declared.expr.ExprRead.{ExprRead}
 use Rattle.table.specs.declared.expr.ExprRead.the-variants.{Expr, Refused as NoExpr}
 

@@ -21,8 +21,8 @@ use Rattle.table.proofs.stmt.+read_declaration+read_most+read_par+read_
 use Rattle.table.proofs.stmt.read_stmt.Reads as read-stmt
 use Rattle.table.proofs.stmt.read_stmt.Kinds as read-stmt-kinds
 use Rattle.table.proofs.stmt.+read_declaration+read_most+read_par+read_part+read_parts+read_stmt.Lts-read_stmt as read-stmt-lts
-use Rattle.number.proofs.read_between.Reads as read-between-reads
-use Rattle.number.proofs.read_deep.Reads as read-deep-reads
+use Rattle.numbers.proofs.read_between.Reads as read-between-reads
+use Rattle.numbers.proofs.read_deep.Reads as read-deep-reads
 use Rattle.table.proofs.stmt.add.Reads as add-reads
 use Rattle.table.proofs.stmt.behind_head.Reads as behind-head-reads
 use Rattle.table.proofs.stmt.close_par.Reads as close-par-reads
@@ -45,14 +45,14 @@ use lib.Dec.{ltb, eqb}
 use lib.ListN.{length, take, drop}
 use lib.Seq.{take-nil}
 use Rattle.table.specs.Uses.{checked, checkedAt}
-use Rattle.number.specs.Items.{betweenAt, between, pickI, deepAt, groupsAt}
+use Rattle.numbers.specs.Items.{betweenAt, between, pickI, deepAt, groupsAt}
 use Rattle.table.specs.Stmts.{stmtAt, partIn, partAt, mostAt, parAt, declaredAt, partsAt, simpleAt, mostFrom, branchesFrom, itemS}
 use Rattle.table.specs.Stmts.{stmtS, stmtT, pickS, pickW, leaf, nothing, added, parOf, Branches, joinedBy, noBranches, moreNames}
 use Rattle.table.specs.Stmts.{Fits, SmallWords}
-use Rattle.number.specs.declared.Item.{Item}
-use Rattle.number.specs.declared.Item.the-variants.{Item as Found, Refused}
-use Rattle.number.specs.declared.NumberRead.{NumberRead}
-use Rattle.number.specs.declared.NumberRead.the-variants.{Number, Bad}
+use Rattle.numbers.specs.declared.Item.{Item}
+use Rattle.numbers.specs.declared.Item.the-variants.{Item as Found, Refused}
+use Rattle.numbers.specs.declared.NumberRead.{NumberRead}
+use Rattle.numbers.specs.declared.NumberRead.the-variants.{Number, Bad}
 use Rattle.table.specs.declared.stmt.Names.{Names}
 use Rattle.table.specs.declared.stmt.First.the-variants.{Nowhere}
 use Rattle.table.specs.declared.stmt.Part.{Part}

@@ -6,9 +6,9 @@ use Prim.Native.Nat.{ℕ, _≤_}
 use borrow.Author.Tests.{lt-ltb, le-ltb, eq-eqb, ne-eqb}
 use mathlib.Core.List.{List}
 use mathlib.Core.Path.{_≡_, sym, _∙_}
-use Rattle.number.specs.Items.{betweenAt}
+use Rattle.numbers.specs.Items.{betweenAt}
 use Rattle.table.specs.Tables.{tableAt}
-use Rattle.number.specs.declared.Item.the-variants.{Item as Found}
+use Rattle.numbers.specs.declared.Item.the-variants.{Item as Found}
 use Rattle.table.proofs.Small.{between-most}
 
 -- a count is at most what is asked for

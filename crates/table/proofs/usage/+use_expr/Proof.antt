@@ -5,7 +5,7 @@ use borrow.Fn.PlainCycle.{Measures, is, falls, and}
 use Rattle.table.proofs.usage.use_expr.Reads as use-expr
 use Rattle.table.proofs.usage.use_expr.Kinds as use-expr-kinds
 use Rattle.table.proofs.usage.+use_expr.Lts-use_expr as use-expr-lts
-use Rattle.number.proofs.read_groups.Reads as read-groups-reads
+use Rattle.numbers.proofs.read_groups.Reads as read-groups-reads
 use Rattle.table.proofs.usage.skip.Reads as skip-reads
 use Rattle.table.proofs.usage.use_name.Reads as use-name-reads
 use Rattle.table.proofs.usage.+use_expr.{statement}
@@ -16,7 +16,7 @@ use native.Mathlib.Omega.{arith}
 use mathlib.Core.List.{List}
 use mathlib.Core.Path.{_≡_, refl, sym, _∙_}
 use lib.Dec.{eqb}
-use Rattle.number.specs.Items.{groupsAt}
+use Rattle.numbers.specs.Items.{groupsAt}
 use Rattle.table.specs.Uses.{Used, used, pickU, onNumber, thenUsed, skipAt, nameUsed, exprUsed}
 
 none : (d limit : ℕ) (s : List ℕ) (at : ℕ) (l : List ℕ) → d ≡ 0 → exprUsed d limit s at l ≡ used at l

@@ -13,7 +13,7 @@ use Rattle.table.proofs.usage.+use_many+use_parts+use_stmt.Lts-use_part
 use Rattle.table.proofs.usage.use_stmt.Reads as use-stmt
 use Rattle.table.proofs.usage.use_stmt.Kinds as use-stmt-kinds
 use Rattle.table.proofs.usage.+use_many+use_parts+use_stmt.Lts-use_stmt as use-stmt-lts
-use Rattle.number.proofs.read_groups.Reads as read-groups-reads
+use Rattle.numbers.proofs.read_groups.Reads as read-groups-reads
 use Rattle.table.proofs.usage.skip.Reads as skip-reads
 use Rattle.table.proofs.usage.use_head.Reads as use-head-reads
 use Rattle.table.proofs.usage.use_simple.Reads as use-simple-reads
@@ -25,7 +25,7 @@ use native.Mathlib.Omega.{arith}
 use mathlib.Core.List.{List}
 use mathlib.Core.Path.{_≡_, refl, sym, _∙_}
 use lib.Dec.{ltb}
-use Rattle.number.specs.Items.{groupsAt}
+use Rattle.numbers.specs.Items.{groupsAt}
 use Rattle.table.specs.Uses.{Used, used, pickU, onNumber, thenUsed, skipAt, simpleUsed, headUsed, repeated}
 use Rattle.table.specs.Uses.{stmtUsed, manyUsed, partsUsed}
 

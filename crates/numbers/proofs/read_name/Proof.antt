@@ -1,10 +1,10 @@
--- `number::read_name` meets its contract. Assumes nothing.
+-- `numbers::read_name` meets its contract. Assumes nothing.
 use borrow.Author.Needs.{needs}
-use Rattle.number.proofs.read_name.Statement.{statement}
-use Rattle.number.proofs.read_name.Tie as tie
+use Rattle.numbers.proofs.read_name.Statement.{statement}
+use Rattle.numbers.proofs.read_name.Tie as tie
 use borrow.Author.Tests.{lt-ltb, le-ltb, le-leb, lt-leb}
 use mathlib.Core.Path.{sym, _∙_}
-use Rattle.number.specs.Items.{nameAt}
+use Rattle.numbers.specs.Items.{nameAt}
 
 returns : tie.Need-returns
 unfolding nameAt

@@ -1,9 +1,9 @@
--- `number::read_deep` meets its contract. Assumes nothing.
+-- `numbers::read_deep` meets its contract. Assumes nothing.
 use borrow.Author.Needs.{needs}
-use Rattle.number.proofs.read_deep.Statement.{statement}
-use Rattle.number.proofs.read_deep.Tie as tie
+use Rattle.numbers.proofs.read_deep.Statement.{statement}
+use Rattle.numbers.proofs.read_deep.Tie as tie
 use mathlib.Core.Path.{sym, _∙_}
-use Rattle.number.specs.Items.{deepAt}
+use Rattle.numbers.specs.Items.{deepAt}
 
 returns : tie.Need-returns
 unfolding deepAt

@@ -1,10 +1,10 @@
--- `number::read_between` meets its contract. Assumes nothing.
+-- `numbers::read_between` meets its contract. Assumes nothing.
 use borrow.Author.Needs.{needs}
-use Rattle.number.proofs.read_between.Statement.{statement}
-use Rattle.number.proofs.read_between.Tie as tie
+use Rattle.numbers.proofs.read_between.Statement.{statement}
+use Rattle.numbers.proofs.read_between.Tie as tie
 use borrow.Author.Tests.{lt-ltb, le-ltb}
 use mathlib.Core.Path.{sym, _∙_}
-use Rattle.number.specs.Items.{betweenAt}
+use Rattle.numbers.specs.Items.{betweenAt}
 
 returns : tie.Need-returns
 unfolding betweenAt

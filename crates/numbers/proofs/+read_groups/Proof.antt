@@ -1,13 +1,13 @@
--- `number::read_groups` meets its contract; the measure is the bytes that are left. Assumes nothing.
+-- `numbers::read_groups` meets its contract; the measure is the bytes that are left. Assumes nothing.
 use Prim.Native.Nat.{ℕ, _<_, zero, suc, _+_, _-_}
 use borrow.Fn.Kinds.{In}
 use borrow.Fn.PlainCycle.{Measures, is, falls, and}
-use Rattle.number.proofs.read_groups.Reads as read-groups
-use Rattle.number.proofs.read_groups.Kinds as read-groups-kinds
-use Rattle.number.proofs.+read_groups.Lts-read_groups as read-groups-lts
-use Rattle.number.proofs.wide.Reads as wide-reads
-use Rattle.number.proofs.+read_groups.{statement}
-use Rattle.number.proofs.+read_groups.Tie.{close}
+use Rattle.numbers.proofs.read_groups.Reads as read-groups
+use Rattle.numbers.proofs.read_groups.Kinds as read-groups-kinds
+use Rattle.numbers.proofs.+read_groups.Lts-read_groups as read-groups-lts
+use Rattle.numbers.proofs.wide.Reads as wide-reads
+use Rattle.numbers.proofs.+read_groups.{statement}
+use Rattle.numbers.proofs.+read_groups.Tie.{close}
 use borrow.Author.Needs.{needs}
 use native.Mathlib.Omega.{arith}
 use borrow.Author.Tests.{lt-ltb, le-ltb, le-leb, lt-leb, eq-eqb, ne-eqb}
@@ -15,9 +15,9 @@ use mathlib.Core.Path.{_≡_, refl, sym, _∙_}
 use mathlib.Core.List.{List}
 use lib.ListN.{length, getD}
 use lib.Dec.{leb, ltb}
-use Rattle.number.specs.Items.{groupsAt, pickN, grouped}
-use Rattle.number.specs.declared.NumberRead.{NumberRead}
-use Rattle.number.specs.declared.NumberRead.the-variants.{Number, Bad}
+use Rattle.numbers.specs.Items.{groupsAt, pickN, grouped}
+use Rattle.numbers.specs.declared.NumberRead.{NumberRead}
+use Rattle.numbers.specs.declared.NumberRead.the-variants.{Number, Bad}
 
 none : (k : ℕ) (s : List ℕ) (at : ℕ) → k ≡ 0 → groupsAt k s at ≡ Bad
 unfolding groupsAt

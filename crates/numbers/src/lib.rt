@@ -2,7 +2,7 @@
 ghost use mathlib.Core.Path.{_≡_};
 ghost use Prim.Native.Nat.{ℕ, _+_, _<_, _≤_};
 ghost use lib.ListN.{length};
-ghost use Rattle.number.specs.Items.{groupsAt, betweenAt, nameAt, deepAt};
+ghost use Rattle.numbers.specs.Items.{groupsAt, betweenAt, nameAt, deepAt};
 
 // A number and the place after it; Bad: cut short, too long or too large.
 pub enum NumberRead {
