@@ -1,41 +1,32 @@
 -- From where a part of a program is over, or begins, its code leads to the next significant instruction.
-use Prim.Native.Nat.{ℕ, zero, suc, _+_, _-_, _^_, _≤_, _<_}
+use Prim.Native.Nat.{ℕ, zero, suc, _+_, _-_, _≤_, _<_}
 use native.Mathlib.Omega.{arith}
 use native.Mathlib.Numerals.{add-one}
 use native.Mathlib.Decide.{ℕ-discrete}
-use mathlib.Core.Path.{_≡_, refl, sym, ap, _∙_, subst}
-use mathlib.Core.Logic.{_≢_, _⊎_, inl, inr, ⊎-elim}
-use mathlib.Core.Bool.{Bool, true, false}
+use mathlib.Core.Path.{_≡_, sym, ap, _∙_}
+use mathlib.Core.Logic.{⊎-elim}
 use mathlib.Core.List.{List, [], _∷_, _++_, List·Memᴰ, List·Memᴰ·append-cases, List·Memᴰ·eq-of-singleton, List·Memᴰ·not-nil}
-use mathlib.Core.Option.{Option, none, some}
-use lib.ListN.{length, getElem?, length-append}
-use lib.Dec.{eqb}
-use borrow.Author.Tests.{eqb-true, eqb-false}
-use Rattle.model.specs.Word.{low, less, minus}
-use Rattle.model.specs.Syntax.{Site, declared, Expr, Whole, Stmt, SKIP, STOP, assign, input, output, VAR, CHAN, SEQ, PAR, IF, WHILE}
-use Rattle.model.specs.Syntax.{ALT, Stmts, noStmt, stmt, Pairs, noPair, pair}
-use Rattle.model.specs.Reader.{names}
-use Rattle.model.specs.Counts.{registers}
-use Rattle.model.specs.Instruction.{Function, ldc, cj, ajw, stl, stopp, Instruction, plain, distance, operation}
+use lib.ListN.{length, length-append}
+use Rattle.model.specs.Word.{minus}
+use Rattle.model.specs.Syntax.{Site, declared, Whole, Stmt, VAR, WHILE}
+use Rattle.model.specs.Syntax.{Pairs, pair}
+use Rattle.model.specs.Reader.{numbered, names}
+use Rattle.model.specs.Instruction.{ldc, cj, ajw, stl, Instruction, plain, distance}
 use Rattle.model.specs.Instruction as I
-use Rattle.model.specs.Scheme.{initialise, wholeSize, exprSize, size, sizePairs, local, exprCode, wholeCode, code, codeAll, codePairs}
-use Rattle.model.specs.Occam.{Store, value, isTrue, Frame, inSeq, inVar, inWhile, Process, before, finished, framesOf, resume, begin}
-use Rattle.model.specs.Occam.{enter, enterAll, firstTrue}
+use Rattle.model.specs.Scheme.{initialise, wholeSize, size, wholeCode, code, codePairs}
+use Rattle.model.specs.Occam.{Frame}
 use Rattle.model.specs.Demand.{liveIn}
-use Rattle.model.proofs.Way.{Regs, pushing, moving, Mem, Way, arrived, through, quiet, loads, jumps, falls, quiet-ldc, quiet-ajw}
-use Rattle.model.proofs.Values.{FineExpr}
-use Rattle.model.proofs.Expr.{Seg, nil, at, Split, split, apart, cut, seg-length, Evaluated, evaluates, local-word}
+use Rattle.model.proofs.Expr.{Seg, nil, at, cut, seg-length}
 use Rattle.model.proofs.Sizes.{code-length, expr-length, initialise-length}
-use Rattle.model.proofs.Points.{Fine, FineAll, FinePairs, FineWhole, Setting, whole, getElem-inside, At, Cont, c-end, c-seq, c-var}
-use Rattle.model.proofs.Points.{c-while, c-hop, Opening, Point, pt-stop, pt-assign, pt-init, pt-taken, pt-none, pt-while, Skips}
-use Rattle.model.proofs.Points.{s-none, s-skip, s-if, Comes, comes}
+use Rattle.model.proofs.Points.{Fine, Setting, whole, getElem-inside, At, Cont, c-end, c-seq, c-var}
+use Rattle.model.proofs.Points.{c-while, c-hop, Opening}
 
 -- the names of a VAR
 pub data Named (p n : ℕ) (x : Site) : Type 0 where
   named : (j : ℕ) → j < n → x ≡ declared p j → Named p n x
 
 pub named-in : (p n : ℕ) {x : Site} → List·Memᴰ x (names p n) → Named p n x
-unfolding names
+unfolding numbered
 named-in p zero m = absurd (List·Memᴰ·not-nil m)
 named-in p (suc n) {x} m =
     ⊎-elim

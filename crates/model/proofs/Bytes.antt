@@ -1,22 +1,22 @@
 -- From bytes to instructions: in the middle of an instruction, the gathered operand and the bytes left decode to it. One lemma for
 -- all functions and operands.
-use Prim.Native.Nat.{ℕ, zero, suc, _+_, _-_, _*_, _/_, _%_, _^_, _≤_, _<_, min}
+use Prim.Native.Nat.{ℕ, suc, _/_, _^_, _≤_, _<_, min}
 use native.Mathlib.Omega.{arith}
-use mathlib.Core.Path.{_≡_, refl, sym, ap, _∙_}
-use mathlib.Core.Bool.{Bool, true, false, cond}
-use mathlib.Core.List.{List, [], _∷_, _++_}
-use mathlib.Core.Option.{Option, none, some, Option·some-injective}
-use lib.ListN.{length, getD, getElem?}
+use mathlib.Core.Path.{_≡_, refl, ap, _∙_}
+use mathlib.Core.Bool.{Bool, true, false}
+use mathlib.Core.List.{List, [], _∷_}
+use mathlib.Core.Option.{some, Option·some-injective}
+use lib.ListN.{length, getD}
 use lib.Seq.{slice, slice-cons, slice-empty, length-slice}
-use lib.Dec.{eqb, ltb}
+use lib.Dec.{eqb}
 use native.Mathlib.Decide.{decLt}
-use borrow.Author.Tests.{lt-ltb, le-leb, eqb-true}
+use borrow.Author.Tests.{lt-ltb, le-leb}
 use Rattle.model.specs.Word.{low}
-use Rattle.model.specs.Instruction.{Function, j, ldlp, ldc, ldl, cj, ajw, eqc, stl, opr, functionCode, functionOf, functions, coded}
+use Rattle.model.specs.Instruction.{Function, j, ldlp, ldc, ldl, cj, ajw, eqc, stl, opr, functionCode, functionOf, coded}
 use Rattle.model.specs.Instruction.{pfixCode, nfixCode, Instruction}
 use Rattle.model.specs.Prefix.{gathered, pfixed, nfixed, Decoded, decode}
-use Rattle.model.specs.Code.{functionIn, operandIn, Realises}
-use Rattle.model.specs.Machine.{World, Result, done, faults, withCpu, goto, gathering, counting, next, testPlace}
+use Rattle.model.specs.Code.{functionIn, operandIn}
+use Rattle.model.specs.Machine.{World, Result, done, withCpu, goto, gathering, counting, next, testPlace}
 use Rattle.model.specs.Execute.{execute}
 use Rattle.model.specs.Run.{fetch, act, land, byte}
 use Rattle.model.specs.declared.Cpu.{Cpu}

@@ -1,37 +1,35 @@
 -- Every list of calls on a program of one process without outside channels.
-use Prim.Native.Nat.{ℕ, zero, suc, _+_, _-_, _*_, _^_, _≤_, _<_, min}
+use Prim.Native.Nat.{ℕ, _≤_}
 use native.Mathlib.Omega.{arith}
-use mathlib.Core.Path.{_≡_, refl, sym, ap, ap₂, _∙_, subst}
-use mathlib.Core.Bool.{Bool, true, false, cond, not, _||_, _&&_}
+use mathlib.Core.Path.{_≡_, refl, sym, ap, _∙_, subst}
+use mathlib.Core.Bool.{true, false, _||_}
 use mathlib.Core.List.{List, [], _∷_, _++_, append-assoc, append-nil}
-use mathlib.Core.Option.{Option, none}
+use mathlib.Core.Option.{Option}
 use lib.ListN as Ls
 use lib.ListN.{length, getD, drop, length-append, length-take, take-append-drop, List·getD-append}
-use lib.Seq.{getD-take, take-all}
-use lib.Dec.{ltb, leb, eqb}
-use borrow.Author.Tests.{ltb-true, ltb-false, lt-ltb, le-ltb}
+use lib.Seq.{take-all}
+use lib.Dec.{ltb}
+use borrow.Author.Tests.{ltb-false, le-ltb}
 use Rattle.model.specs.Syntax.{Site, Program}
 use Rattle.model.specs.Layout.{wordOf}
-use Rattle.model.specs.Machine.{Talk, World, memorySize}
+use Rattle.model.specs.Machine.{World, memorySize}
 use Rattle.model.specs.Run.{After, unchanged, worldOf, shortMemory, runFrom, run}
 use Rattle.model.specs.Outside.{offer, take}
 use Rattle.model.specs.Occam.{Store, Process, State, Event}
-use Rattle.model.specs.Demand.{Segment, reaches}
+use Rattle.model.specs.Demand.{Segment}
 use Rattle.model.specs.History.{Call, callRun, callOffer, callTake, Moment, quietly, bytes, during, call, history, offerEvent}
 use Rattle.model.specs.History.{takeEvent}
 use Rattle.model.specs.declared.Machine.{Machine}
 use Rattle.model.specs.declared.Setup.{Setup}
 use Rattle.model.specs.declared.Kept.the-variants.{Nothing}
-use Rattle.model.specs.declared.OfferAnswer.{OfferAnswer}
 use Rattle.model.specs.declared.OfferAnswer.the-variants.{Short as OfferShort, NoChannel as OfferNoChannel}
-use Rattle.model.specs.declared.TakeAnswer.{TakeAnswer}
 use Rattle.model.specs.declared.TakeAnswer.the-variants.{Short as TakeShort, NoChannel as TakeNoChannel}
 use Rattle.model.proofs.Cases.{never, by-bool}
-use Rattle.model.proofs.Points.{Setting, whole}
+use Rattle.model.proofs.Points.{whole}
 use Rattle.model.proofs.Moves.{m-none}
-use Rattle.model.proofs.Slice.{Loaded, Sane, Inv, S}
+use Rattle.model.proofs.Slice.{Loaded, Inv, S}
 use Rattle.model.proofs.Memory.{world, inv-memory, inv-sane}
-use Rattle.model.proofs.Fold.{Chain, chain-nil, chain-byte, chain-other, chain-append, state, follows, Ran, ran, runs, or-left}
+use Rattle.model.proofs.Fold.{Chain, chain-nil, chain-other, chain-append, state, follows, ran, runs, or-left}
 use Rattle.model.proofs.Fold.{or-right}
 
 module _ (m : Machine) (code memory : List ℕ) (budget : ℕ) where

@@ -1,17 +1,32 @@
 -- Case distinctions that keep the equation, and cases that cannot be. `cc` proves 0 ≡ 1 from an equation of different constructors.
 use Prim.Native.Nat.{ℕ}
 use mathlib.Core.Path.{_≡_, refl}
-use mathlib.Core.Bool.{Bool, true, false}
+use mathlib.Core.Bool.{Bool, true, false, cond}
+use mathlib.Core.List.{List, [], _∷_}
 use mathlib.Core.Option.{Option, none, some}
 use native.Mathlib.Omega.{arith}
+use Rattle.model.specs.Reader.{Parsed, parsed, fails}
 
 pub by-bool : {R : Type 0} (t : Bool) → (t ≡ true → R) → (t ≡ false → R) → R
 by-bool true y n = y refl
 by-bool false y n = n refl
 
+-- what holds of both holds of the one that is chosen
+pub of-cond : {A : Type 0} (P : A → Type 0) (t : Bool) {x y : A} → P x → P y → P (cond t x y)
+of-cond P true h k = h
+of-cond P false h k = k
+
 pub by-option : {A R : Type 0} (o : Option A) → (o ≡ none → R) → ((a : A) → o ≡ some a → R) → R
 by-option none n s = n refl
 by-option (some a) n s = s a refl
+
+-- what became of a reading: failed, at the end of the bytes, or before it
+pub by-parsed : {A R : Type 0} (m : Parsed A) → ((n p : ℕ) → m ≡ fails n p → R)
+    → ((a : A) (to : ℕ) → m ≡ parsed a to [] → R)
+    → ((a : A) (to b : ℕ) (left : List ℕ) → m ≡ parsed a to (b ∷ left) → R) → R
+by-parsed (fails n p) f g h = f n p refl
+by-parsed (parsed a to []) f g h = g a to refl
+by-parsed (parsed a to (b ∷ left)) f g h = h a to b left refl
 
 pub never : {R : Type 0} → _≡_ {A = ℕ} 0 1 → R
 never e = absurd (omega arith)

@@ -1,35 +1,34 @@
 -- From where a part of a program is over, or begins, its code leads to the next significant instruction.
-use Prim.Native.Nat.{ℕ, zero, suc, _+_, _-_, _^_, _≤_, _<_}
+use Prim.Native.Nat.{ℕ, suc, _+_, _-_, _^_, _≤_, _<_}
 use native.Mathlib.Omega.{arith}
 use native.Mathlib.Nat.{add-zero}
 use mathlib.Core.Path.{_≡_, refl, sym, ap, _∙_, subst}
 use mathlib.Core.Logic.{_≢_}
 use mathlib.Core.Bool.{Bool, true, false}
-use mathlib.Core.List.{List, [], _∷_, _++_, List·Memᴰ, Memᴰ·append-right, List·Memᴰ·not-nil}
-use mathlib.Core.Option.{Option, none, some}
-use lib.ListN.{length, getElem?}
+use mathlib.Core.List.{List, [], _∷_, List·Memᴰ, Memᴰ·append-right, List·Memᴰ·not-nil}
+use mathlib.Core.Option.{none}
+use lib.ListN.{length}
 use lib.Dec.{eqb}
 use borrow.Author.Tests.{eqb-true, eqb-false}
 use Rattle.model.specs.Word.{low, less, minus}
-use Rattle.model.specs.Syntax.{Site, declared, Expr, Whole, Stmt, SKIP, STOP, assign, VAR, SEQ, IF, WHILE, Stmts, noStmt, stmt, Pairs}
+use Rattle.model.specs.Syntax.{Site, Whole, Stmt, SKIP, STOP, assign, VAR, SEQ, IF, WHILE, Stmts, noStmt, stmt, Pairs}
 use Rattle.model.specs.Syntax.{noPair, pair}
 use Rattle.model.specs.Syntax as Y
 use Rattle.model.specs.Reader.{names}
-use Rattle.model.specs.Counts.{registers}
-use Rattle.model.specs.Instruction.{Function, ldc, cj, ajw, stl, stopp, Instruction, plain, distance, operation}
+use Rattle.model.specs.Instruction.{cj, stl, plain, distance}
 use Rattle.model.specs.Instruction as I
-use Rattle.model.specs.Scheme.{wholeSize, size, sizePairs, local, exprCode, wholeCode, code, codeAll, codePairs}
-use Rattle.model.specs.Occam.{Store, value, isTrue, Frame, inSeq, inVar, inWhile, Process, before, finished, framesOf, resume, begin}
+use Rattle.model.specs.Scheme.{wholeSize, size, sizePairs, local, wholeCode, code, codeAll, codePairs}
+use Rattle.model.specs.Occam.{Store, value, Frame, inWhile, Process, before, finished, framesOf, resume, begin}
 use Rattle.model.specs.Occam.{enter, enterAll, firstTrue}
 use Rattle.model.specs.Demand.{liveIn}
-use Rattle.model.proofs.Way.{Regs, pushing, moving, Mem, Way, arrived, through, quiet, loads, jumps, falls, quiet-ldc, quiet-ajw}
+use Rattle.model.proofs.Way.{Regs, pushing, moving, Mem, Way, arrived, through, quiet, jumps, falls, quiet-ldc, quiet-ajw}
 use Rattle.model.proofs.Values.{eval-word}
-use Rattle.model.proofs.Expr.{Seg, nil, at, Split, split, apart, cut, seg-length, Evaluated, evaluates, local-word}
+use Rattle.model.proofs.Expr.{Seg, nil, at, cut, seg-length, evaluates, local-word}
 use Rattle.model.proofs.Sizes.{code-length, expr-length, pairs-length}
 use Rattle.model.proofs.Points.{Fine, FineAll, FinePairs, FineWhole, Setting, whole, At, Cont, c-end, c-seq, c-var, c-while, c-hop}
-use Rattle.model.proofs.Points.{Opening, Point, pt-stop, pt-assign, pt-init, pt-taken, pt-none, pt-while, Skips, s-none, s-skip}
+use Rattle.model.proofs.Points.{Point, pt-stop, pt-assign, pt-init, pt-taken, pt-none, pt-while, s-none, s-skip}
 use Rattle.model.proofs.Points.{s-if, Comes, comes}
-use Rattle.model.proofs.Arrive.{inside, up, rises-le, cont-inside, cont-low, live-words, cont-bound, Tested, tested, loop-parts}
+use Rattle.model.proofs.Arrive.{inside, up, rises-le, cont-inside, cont-low, live-words, cont-bound, tested, loop-parts}
 use Rattle.model.proofs.Arrive.{pair-parts, Opened, opened, var-parts}
 
 module _ (S : Setting) (σ : Store) where

@@ -1,21 +1,17 @@
 -- What instructions do to a world in which the words that they touch are in memory.
-use Prim.Native.Nat.{ℕ, zero, suc, _+_, _-_, _^_, _≤_, _<_}
+use Prim.Native.Nat.{ℕ, _+_, _≤_, _<_}
 use native.Mathlib.Omega.{arith}
-use mathlib.Core.Path.{_≡_, refl, sym, ap, _∙_, subst}
-use mathlib.Core.Bool.{Bool, true, false, cond}
-use mathlib.Core.List.{List}
-use mathlib.Core.Option.{some}
-use lib.ListN.{length, getD, set, length-set}
+use mathlib.Core.Path.{_≡_, refl}
+use mathlib.Core.Bool.{true, false}
+use lib.ListN.{length, getD, set}
 use lib.Seq.{getD-set-same}
-use lib.Dec.{ltb, leb, eqb}
 use borrow.Author.Tests.{lt-ltb, le-ltb, le-leb, eq-eqb, ne-eqb}
-use Rattle.model.specs.Word.{low, less}
+use Rattle.model.specs.Word.{low}
 use Rattle.model.specs.Instruction.{ldl, cj, stl, opr, stopp, operationCode, operationOf, coded}
 use Rattle.model.specs.Instruction as I
 use Rattle.model.specs.Machine.{World, done, withCpu, withMemory, memorySize, peek, poke, testPlace, resume, takeFront, release, join}
-use Rattle.model.specs.Machine.{goto, work, running, counting, queueing, next, resumeWord}
+use Rattle.model.specs.Machine.{goto, work, running, counting, queueing, resumeWord}
 use Rattle.model.specs.Execute.{execute, operate, push, pop, jump, loadLocal, storeLocal, conditionalJump, stopProcess}
-use Rattle.model.specs.Run.{land}
 use Rattle.model.specs.declared.Cpu.{Cpu}
 
 abbrev pub cpuOf : World → Cpu

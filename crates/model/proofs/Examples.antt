@@ -20,8 +20,8 @@ use Rattle.model.specs.Occam as Occam
 use Rattle.model.specs.Examples as Examples
 
 pub examples : Examples.Examples
-unfolding Word.signed Number.groups Number.number Reader.readNumber Reader.oneOf Reader.readCount Reader.readName Reader.names
-    Reader.tooDeep Reader.exprOf Reader.readExpr Reader.readWhole Reader.readMany Reader.stmtOf Reader.readStmt Reader.outside
+unfolding Word.signed Number.groups Number.number Reader.readNumber Reader.oneOf Reader.readCount Reader.readName Reader.numbered
+    Reader.tooDeep Reader.exprOf Reader.readExpr Reader.readWhole Reader.readMany Reader.stmtOf Reader.readStmt
     Reader.readProgram Reader.readTable Usage.usage Usage.same Usage.isIn Usage.share Usage.clash Usage.clashesLater Usage.anyClash
     Usage.firstClash Counts.registers Counts.firstDeep Counts.processes Counts.need Accept.checks Accept.accept Instruction.functionCode
     Instruction.operationCode Instruction.coded Instruction.functionOf Instruction.operationOf Prefix.shifted Prefix.firstPrefix

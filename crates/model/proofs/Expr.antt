@@ -1,23 +1,22 @@
 -- Paths with a bound on their bytes, and the path through an expression's code: it leaves the value in A and keeps
 -- 3 - registers of what was below.
-use Prim.Native.Nat.{ℕ, zero, suc, _+_, _-_, _*_, _^_, _≤_, _<_, max}
+use Prim.Native.Nat.{ℕ, suc, _+_, _*_, _^_, _≤_, _<_}
 use native.Mathlib.Omega.{arith}
-use mathlib.Core.Path.{_≡_, refl, sym, ap, ap₂, _∙_, subst}
-use mathlib.Core.Bool.{Bool, true, false}
+use mathlib.Core.Path.{_≡_, refl, ap, ap₂, _∙_, subst}
 use mathlib.Core.List.{List, [], _∷_, _++_, List·Memᴰ}
-use mathlib.Core.Option.{Option, none, some}
+use mathlib.Core.Option.{some}
 use lib.ListN.{length, getElem?}
 use lib.Bits.{bitAnd, bitOr, bitXor}
 use lib.Dec.{eqb}
 use Rattle.model.specs.Word.{low, less, truth}
 use Rattle.model.specs.Syntax.{Site, Operator, PLUS, MINUS, TIMES, GT, EQ, AND, OR, XOR, Expr, constant, variable, NOT, binary}
-use Rattle.model.specs.Instruction.{Function, ldc, ldl, cj, eqc, Instruction, plain, distance, operation, operationCode, opr}
+use Rattle.model.specs.Instruction.{eqc, Instruction, plain, operation, opr}
 use Rattle.model.specs.Instruction as I
 use Rattle.model.specs.Counts.{registers}
 use Rattle.model.specs.Scheme.{operatorCode, exprCode}
 use Rattle.model.specs.Execute.{above}
 use Rattle.model.specs.Occam.{Store, operate, deny, eval}
-use Rattle.model.proofs.Way.{Regs, Quiet, pushing, reducing, testing, Mem, Way, arrived, quiet, loads, jumps, falls, quiet-ldc}
+use Rattle.model.proofs.Way.{Regs, Quiet, pushing, reducing, testing, Mem, Way, quiet, loads, quiet-ldc}
 use Rattle.model.proofs.Way.{quiet-eqc, quiet-sum, quiet-diff, quiet-prod, quiet-gt, quiet-and, quiet-or, quiet-xor}
 use Rattle.model.proofs.Values.{FineExpr, eq-words, gt-words, eval-word}
 

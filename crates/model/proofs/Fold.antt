@@ -1,31 +1,28 @@
 -- From one byte to every list of calls: the run that grows with the list.
-use Prim.Native.Nat.{ℕ, zero, suc, _+_, _-_, _*_, _^_, _≤_, _<_, min}
+use Prim.Native.Nat.{ℕ, zero, suc, _≤_, _<_}
 use native.Mathlib.Omega.{arith}
 use native.Mathlib.Decide.{ℕ-discrete}
 use mathlib.Core.Path.{_≡_, refl, sym, ap, _∙_, subst}
 use mathlib.Core.Logic.{_≢_, _⊎_, inl, inr, ⊎-elim}
-use mathlib.Core.Bool.{Bool, true, false, cond, not, _||_}
-use mathlib.Core.List.{List, [], _∷_, _++_, append-assoc, map}
-use mathlib.Core.Option.{Option, none}
-use lib.ListN as Ls
-use lib.ListN.{length, getD, drop, length-append, length-take, take-append-drop}
-use lib.Seq.{getD-take}
-use lib.Dec.{ltb, eqb}
+use mathlib.Core.Bool.{Bool, true, false, _||_}
+use mathlib.Core.List.{List, [], _∷_, _++_, append-assoc}
+use mathlib.Core.Option.{Option}
+use lib.ListN.{length}
 use Rattle.model.specs.Syntax.{Site, Program}
 use Rattle.model.specs.Layout.{wordOf}
-use Rattle.model.specs.Machine.{Talk, World, Result, done, faults, memorySize}
+use Rattle.model.specs.Machine.{Talk, World, done}
 use Rattle.model.specs.Run.{byte, ended, waits, runFrom, worldOf}
-use Rattle.model.specs.Occam.{Store, Process, State, Event, initial}
-use Rattle.model.specs.Demand.{Move, step, outside, Segment, reaches, steps, Agrees, Follows, Matches, perInstruction, counted, total}
+use Rattle.model.specs.Occam.{Store, Process, State}
+use Rattle.model.specs.Demand.{Segment, reaches, steps, Follows, Matches, perInstruction, total}
 use Rattle.model.specs.Demand.{Progress}
-use Rattle.model.specs.History.{Call, Moment, bytes, executed, quietly}
+use Rattle.model.specs.History.{Moment, bytes, executed, quietly}
 use Rattle.model.specs.declared.Machine.{Machine}
 use Rattle.model.proofs.Cases.{never, by-bool}
-use Rattle.model.proofs.Points.{Setting, whole}
+use Rattle.model.proofs.Points.{whole}
 use Rattle.model.proofs.Moves.{Moves, m-none, m-step, moves-valid, moves-reach, moves-silent, moves-inside}
-use Rattle.model.proofs.Slice.{Loaded, Sane, Inv, Went, went, S}
+use Rattle.model.proofs.Slice.{Loaded, Inv, Went, went, S}
 use Rattle.model.proofs.Turns.{byte-goes}
-use Rattle.model.proofs.Memory.{world, inv-memory, inv-sane, inv-few, inv-agrees}
+use Rattle.model.proofs.Memory.{world, inv-few, inv-agrees}
 
 pub or-left : (a c : Bool) → (a || c) ≡ false → a ≡ false
 or-left true c e = never (cc)

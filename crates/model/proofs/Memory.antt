@@ -1,24 +1,22 @@
 -- The invariant over another stretch of the same memory, and what it says at a moment.
-use Prim.Native.Nat.{ℕ, zero, suc, _+_, _-_, _^_, _≤_, _<_}
+use Prim.Native.Nat.{ℕ, _+_, _≤_, _<_}
 use native.Mathlib.Omega.{arith}
-use mathlib.Core.Path.{_≡_, refl, sym, ap, _∙_, subst}
-use mathlib.Core.Bool.{Bool, true, false}
-use mathlib.Core.List.{List, [], _∷_, _++_, List·Memᴰ}
+use mathlib.Core.Path.{_≡_, refl, sym, _∙_}
+use mathlib.Core.List.{List, _++_}
 use mathlib.Core.Option.{Option}
 use lib.ListN.{length, getD, List·getD-append}
 use Rattle.model.specs.Syntax.{Site, Program}
 use Rattle.model.specs.Layout.{wordOf}
 use Rattle.model.specs.Machine.{Talk, World, memorySize}
-use Rattle.model.specs.Occam.{Store, Process, framesOf, State, Event}
-use Rattle.model.specs.Demand.{Agrees, Live, liveIn}
+use Rattle.model.specs.Occam.{Store, Process, framesOf}
+use Rattle.model.specs.Demand.{Agrees, liveIn}
 use Rattle.model.specs.History.{Moment}
 use Rattle.model.specs.declared.Machine.{Machine}
-use Rattle.model.proofs.Way.{Regs, regsOf, Mem, way-stable}
-use Rattle.model.proofs.Points.{Setting, whole, Point, pt-stop, pt-assign, pt-init, pt-taken, pt-none, pt-while, Cont}
+use Rattle.model.proofs.Way.{Regs, Mem, way-stable}
+use Rattle.model.proofs.Points.{Setting, whole, Point, pt-stop, pt-assign, pt-init, pt-taken, pt-none, pt-while}
 use Rattle.model.proofs.Arrive.{cont-low}
-use Rattle.model.proofs.Effects.{cpuOf}
 use Rattle.model.proofs.Moves.{live-sole, Sole}
-use Rattle.model.proofs.Slice.{Loaded, memOf, Sane, Holds, Inv, going, stopped, S}
+use Rattle.model.proofs.Slice.{Loaded, Sane, Holds, Inv, going, stopped, S}
 use Rattle.model.proofs.Turns.{inv-ended, inv-waits, inv-stuck}
 
 -- a significant instruction looks at words below the top only

@@ -1,14 +1,14 @@
 -- The moves of an Occam run that is one process: steps at the root, steps without code, and what such moves are to demand 3.
-use Prim.Native.Nat.{ℕ, zero, suc, _+_}
-use mathlib.Core.Path.{_≡_, refl, sym, ap, _∙_, subst}
-use mathlib.Core.List.{List, [], _∷_, _++_, List·Memᴰ}
-use mathlib.Core.Option.{Option, none, some}
+use Prim.Native.Nat.{ℕ}
+use mathlib.Core.Path.{_≡_, refl, sym, subst}
+use mathlib.Core.List.{List, [], _∷_, List·Memᴰ}
+use mathlib.Core.Option.{Option, some}
 use Rattle.model.specs.Syntax.{Site, Stmt, SKIP, STOP, assign, input, output, VAR, CHAN, SEQ, PAR, IF, WHILE, ALT, Stmts, noStmt}
-use Rattle.model.specs.Syntax.{stmt, Pairs, noPair}
-use Rattle.model.specs.Occam.{Store, Frame, inSeq, inVar, inWhile, Process, before, atStop, atInput, atOutput, atAlt, inPar, finished}
-use Rattle.model.specs.Occam.{Branches, noBranch, branchAt, branchesOf, framesOf, look, put, go, State, Communication, Step, begins}
-use Rattle.model.specs.Occam.{ends, chooses, communicates, receives, Event, enter, enterAll, resume, firstTrue, Stuck}
-use Rattle.model.specs.Demand.{Move, step, Segment, Valid, reaches, steps, eventsOf, communications, Live, liveIn}
+use Rattle.model.specs.Syntax.{stmt, noPair}
+use Rattle.model.specs.Occam.{Store, Frame, inSeq, inVar, inWhile, Process, before, atStop}
+use Rattle.model.specs.Occam.{noBranch, branchAt, branchesOf, framesOf, look, put, go, State, Communication, Step, begins}
+use Rattle.model.specs.Occam.{ends, chooses, communicates, receives, enter, enterAll, resume, firstTrue, Stuck}
+use Rattle.model.specs.Demand.{step, Segment, Valid, reaches, eventsOf, communications, Live, liveIn}
 use Rattle.model.proofs.Cases.{never}
 use Rattle.model.proofs.Points.{Setting, Skips, s-none, s-skip, s-if}
 

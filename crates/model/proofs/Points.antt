@@ -1,29 +1,25 @@
 -- Where a sequential process stands: what its code goes on with, and its next significant instruction.
 use Prim.Native.Nat.{ℕ, zero, suc, _+_, _-_, _^_, _≤_, _<_}
 use native.Mathlib.Omega.{arith}
-use native.Mathlib.Decide.{ℕ-discrete}
-use mathlib.Core.Path.{_≡_, refl, sym, ap, _∙_, subst}
+use mathlib.Core.Path.{_≡_}
 use mathlib.Core.Logic.{_≢_}
-use mathlib.Core.Bool.{Bool, true, false}
-use mathlib.Core.List.{List, [], _∷_, _++_, List·Memᴰ, length-append}
-use mathlib.Core.Option.{Option, none, some}
+use mathlib.Core.List.{List, [], _∷_, _++_, List·Memᴰ}
+use mathlib.Core.Option.{some}
 use lib.ListN.{length, getElem?}
-use lib.Dec.{eqb}
-use Rattle.model.specs.Word.{low, less, minus}
-use Rattle.model.specs.Syntax.{Site, declared, Expr, Whole, Stmt, SKIP, STOP, assign, input, output, VAR, CHAN, SEQ, PAR, IF, WHILE}
+use Rattle.model.specs.Word.{low}
+use Rattle.model.specs.Syntax.{Site, declared, Whole, Stmt, SKIP, STOP, assign, input, output, VAR, CHAN, SEQ, PAR, IF, WHILE}
 use Rattle.model.specs.Syntax.{ALT, Stmts, noStmt, stmt, Pairs, noPair, pair}
 use Rattle.model.specs.Reader.{names}
 use Rattle.model.specs.Counts.{registers}
-use Rattle.model.specs.Instruction.{Function, ldc, cj, ajw, stl, stopp, Instruction, plain, distance, operation}
+use Rattle.model.specs.Instruction.{ldc, cj, ajw, stl, stopp, Instruction, plain, distance, operation}
 use Rattle.model.specs.Instruction as I
-use Rattle.model.specs.Scheme.{initialise, wholeSize, size, sizePairs, local, exprCode, wholeCode, code, codeAll, codePairs}
-use Rattle.model.specs.Occam.{Store, value, isTrue, Frame, inSeq, inVar, inWhile, Process, before, finished, framesOf, resume, begin}
-use Rattle.model.specs.Occam.{enter, enterAll, firstTrue}
+use Rattle.model.specs.Scheme.{wholeSize, code, codeAll}
+use Rattle.model.specs.Occam.{Store, value, Frame, inSeq, inVar, inWhile, Process, before, finished, framesOf, resume, begin}
+use Rattle.model.specs.Occam.{firstTrue}
 use Rattle.model.specs.Demand.{liveIn}
-use Rattle.model.proofs.Way.{Regs, pushing, moving, Mem, Way, arrived, through, quiet, loads, jumps, falls, quiet-ldc, quiet-ajw}
+use Rattle.model.proofs.Way.{Regs, Mem, Way}
 use Rattle.model.proofs.Values.{FineExpr}
-use Rattle.model.proofs.Expr.{Seg, nil, at, Split, split, apart, seg-length, Evaluated, evaluates, local-word}
-use Rattle.model.proofs.Sizes.{code-length, expr-length, initialise-length}
+use Rattle.model.proofs.Expr.{Seg}
 
 abbrev pub FineWhole : List Site → Whole → Type 0
 FineWhole live e = FineExpr live (e .expr) × (registers (e .expr) ≤ 3)

@@ -17,7 +17,7 @@ use Rattle.model.specs.Reader.{isStop, isAssign, isInput, isOutput, isVa
 use Rattle.model.specs.Reader.{GuardKind, isInputGuard, isSkipGuard, guardKinds, Inner, readPair, guardOf, readGuard, stmtOf}
 use Rattle.model.specs.Reader.{readStmt, readProgram, program, readTable}
 use Rattle.model.specs.Scheme.{howMany}
-use Rattle.model.proofs.Cases.{by-bool, by-option, never, is-true}
+use Rattle.model.proofs.Cases.{by-bool, by-option, by-parsed, never, is-true}
 use Rattle.model.proofs.Well.{WellExpr, WellWhole, Well, WellAll, WellPairs, WellGuards, WellProgram, Placed, PlacedAll, PlacedPairs}
 use Rattle.model.proofs.Well.{PlacedGuards}
 
@@ -263,14 +263,6 @@ unfolding readProgram
 program-reads end =
     next (count-reads 0 8 0) λ at₁ ins le₁ gi. next (count-reads 0 8 at₁) λ at₂ outs le₂ go.
     next (stmt-reads 32 _ at₂) λ to s le₃ gs. done ((gi .1, go .1, gs .0), gs .1 0 (omega arith))
-
--- what became of a reading: failed, at the end of the bytes, or before it
-by-parsed : {A R : Type 0} (m : Parsed A) → ((n p : ℕ) → m ≡ fails n p → R)
-    → ((a : A) (to : ℕ) → m ≡ parsed a to [] → R)
-    → ((a : A) (to b : ℕ) (left : List ℕ) → m ≡ parsed a to (b ∷ left) → R) → R
-by-parsed (fails n p) f g h = f n p refl
-by-parsed (parsed a to []) f g h = g a to refl
-by-parsed (parsed a to (b ∷ left)) f g h = h a to b left refl
 
 -- a program that was read is well formed, and its declarations stand at places of the table
 pub read-well : (table : List ℕ) (p : Program) → readTable table ≡ program p → WellProgram p × Placed 0 (length table) (p .body)

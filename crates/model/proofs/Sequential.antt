@@ -1,50 +1,49 @@
 -- Demand 3 for programs of one process without channels: SKIP, STOP, assignment, VAR, SEQ, IF and WHILE.
-use Prim.Native.Nat.{ℕ, zero, suc, _+_, _-_, _*_, _^_, _≤_, _<_, max}
+use Prim.Native.Nat.{ℕ, zero, suc, _+_, _-_, _*_, _^_, _≤_, _<_}
 use native.Mathlib.Omega.{arith}
 use native.Mathlib.Nat.{add-zero, zero-add}
-use mathlib.Core.Path.{_≡_, refl, sym, ap, ap₂, _∙_, subst}
+use mathlib.Core.Path.{_≡_, refl, sym, ap}
 use mathlib.Core.Logic.{⊎-elim}
-use mathlib.Core.Bool.{Bool, true, false, _&&_}
+use mathlib.Core.Bool.{_&&_}
 use mathlib.Core.List.{List, [], _∷_, _++_, List·Memᴰ, List·Memᴰ·append-cases, Memᴰ·append-left, Memᴰ·append-right, List·Memᴰ·not-nil}
 use mathlib.Core.List.{append-nil}
 use mathlib.Core.Option.{Option, none, some}
-use lib.ListN.{length, drop, replicate, getElem?, length-append, length-replicate, length-drop}
+use lib.ListN.{length, getElem?, length-append, length-replicate, length-drop}
 use lib.Dec.{leb}
-use borrow.Author.Tests.{leb-true, leb-false}
-use Rattle.model.specs.Syntax.{Site, declared, Expr, constant, variable, NOT, binary, Whole, Stmt, SKIP, STOP, assign, input, output}
+use borrow.Author.Tests.{leb-true}
+use Rattle.model.specs.Syntax.{Site, Expr, constant, variable, NOT, binary, Stmt, SKIP, STOP, assign, input, output}
 use Rattle.model.specs.Syntax.{VAR, CHAN, SEQ, PAR, IF, WHILE, ALT, Stmts, noStmt, stmt, Pairs, noPair, pair, Program}
 use Rattle.model.specs.Reader.{Scope, names, withVariables}
-use Rattle.model.specs.Counts.{registers, need, mostNeed, pairNeed, firstDeep, firstDeepAll, firstDeepPairs}
+use Rattle.model.specs.Counts.{need, mostNeed, pairNeed, firstDeep, firstDeepAll, firstDeepPairs}
 use Rattle.model.specs.Accept.{limit, memoryWords}
 use Rattle.model.specs.Layout.{base, wordOf, workspaceOf, layout}
 use Rattle.model.specs.Instruction.{Instruction}
 use Rattle.model.specs.Scheme.{scheme, code}
-use Rattle.model.specs.Code.{Compilation, compiled, compile, placeOf, codeOf, Realises}
-use Rattle.model.specs.Machine.{World, memorySize}
-use Rattle.model.specs.Run.{After, start, fresh, cleared, worldOf, blank}
-use Rattle.model.specs.Occam.{Store, Process, initial, begin, resume, enter}
-use Rattle.model.specs.Demand.{Segment, Faithful, Demand3, liveIn}
-use Rattle.model.specs.History.{Call, quietly, history}
-use Rattle.model.specs.declared.Machine.{Machine}
+use Rattle.model.specs.Code.{compiled, compile, placeOf, codeOf}
+use Rattle.model.specs.Machine.{memorySize}
+use Rattle.model.specs.Run.{After, start, fresh, cleared, worldOf}
+use Rattle.model.specs.Occam.{Store, initial, begin, resume}
+use Rattle.model.specs.Demand.{Faithful, Demand3}
+use Rattle.model.specs.History.{quietly}
 use Rattle.model.specs.declared.Setup.{Setup}
 use Rattle.model.specs.declared.StartAnswer.{StartAnswer}
 use Rattle.model.specs.declared.StartAnswer.the-variants.{Started}
 use Rattle.model.proofs.Cases.{never, by-bool}
-use Rattle.model.proofs.Well.{Well, WellAll, WellPairs, WellExpr, WellWhole, WellProgram, outermost, Placed, Laid, LaidAll}
+use Rattle.model.proofs.Well.{Well, WellAll, WellPairs, WellExpr, WellProgram, outermost, Laid, LaidAll}
 use Rattle.model.proofs.Well.{LaidPairs}
 use Rattle.model.proofs.Readers.{read-well}
 use Rattle.model.proofs.Accepts.{accept-reads, accept-passed, compile-accepts, deep-assign, deep-while, deep-stmt, deep-pair}
 use Rattle.model.proofs.Lays.{program-laid}
-use Rattle.model.proofs.Realise.{placeOf-step, placeOf-mono, placeOf-end, code-realises}
+use Rattle.model.proofs.Realise.{placeOf-step, placeOf-mono, code-realises}
 use Rattle.model.proofs.Values.{FineExpr}
 use Rattle.model.proofs.Expr.{Seg, nil, at}
-use Rattle.model.proofs.Points.{Fine, FineAll, FinePairs, FineWhole, Setting, whole, Cont, c-end, getElem-inside}
+use Rattle.model.proofs.Points.{Fine, FineAll, FinePairs, Setting, whole, c-end}
 use Rattle.model.proofs.Comes.{enters, arrives}
 use Rattle.model.proofs.Moves.{sole-enter, sole-resume, moves-reach}
-use Rattle.model.proofs.Slice.{Loaded, Sane, Holds, Inv, Settled, settled, settle}
+use Rattle.model.proofs.Slice.{Loaded, Settled, settled, settle}
 use Rattle.model.proofs.Memory.{inv-few}
-use Rattle.model.proofs.Fold.{Chain, chain-other, chain-matches, chain-falls, falls-progress, follows}
-use Rattle.model.proofs.Calls.{Sim, sim, run-from, run-grows, Linked, linked, run-matches}
+use Rattle.model.proofs.Fold.{chain-other, chain-matches, chain-falls, falls-progress, follows}
+use Rattle.model.proofs.Calls.{Sim, sim, run-from, run-grows, linked, run-matches}
 
 -- one process, no channels
 abbrev mutual

@@ -2,37 +2,34 @@
 use Prim.Native.Nat.{ℕ, zero, suc, _+_, _-_, _^_, _≤_, _<_}
 use native.Mathlib.Omega.{arith}
 use native.Mathlib.Decide.{decLt}
-use mathlib.Core.Path.{_≡_, refl, sym, ap, _∙_, subst}
-use mathlib.Core.Logic.{_≢_, _⊎_, inl, inr}
-use mathlib.Core.Bool.{Bool, true, false, cond}
-use mathlib.Core.List.{List, [], _∷_, _++_, List·Memᴰ}
-use mathlib.Core.Option.{Option, none, some, Option·some-injective}
-use lib.ListN.{length, getD, set, length-set, getElem?}
-use lib.Seq.{slice, getD-set-same, getD-set-other}
-use lib.Dec.{eqb, ltb}
+use mathlib.Core.Path.{_≡_, refl, sym, ap, _∙_}
+use mathlib.Core.Logic.{_≢_, _⊎_, inl}
+use mathlib.Core.Bool.{true, false}
+use mathlib.Core.List.{List, [], _∷_, List·Memᴰ}
+use mathlib.Core.Option.{Option, some, Option·some-injective}
+use lib.ListN.{length, getD, length-set, getElem?}
+use lib.Seq.{slice, getD-set-other}
 use Rattle.model.specs.Word.{low, less}
-use Rattle.model.specs.Syntax.{Site, Stmt, Whole}
+use Rattle.model.specs.Syntax.{Site}
 use Rattle.model.specs.Instruction.{Function, Instruction, plain, distance}
 use Rattle.model.specs.Instruction as I
 use Rattle.model.specs.Code.{Realises, functionIn, operandIn}
 use Rattle.model.specs.Machine.{World, done, withCpu, gathering, goto, next, memorySize}
-use Rattle.model.specs.Execute.{execute, push, pop}
-use Rattle.model.specs.Run.{byte, land, ended, waits}
-use Rattle.model.specs.Occam.{Store, value, Frame, inVar, Process, before, atStop, finished, framesOf, State, resume, begin, go}
-use Rattle.model.specs.Occam.{store, zeros}
+use Rattle.model.specs.Execute.{execute, push}
+use Rattle.model.specs.Run.{byte, land}
+use Rattle.model.specs.Occam.{Store, Frame, Process, atStop, finished, framesOf}
+use Rattle.model.specs.Occam.{store}
 use Rattle.model.specs.Demand.{Segment, liveIn}
 use Rattle.model.specs.declared.Cpu.{Cpu}
 use Rattle.model.specs.declared.Setup.{Setup}
 use Rattle.model.specs.declared.Kept.the-variants.{Nothing}
-use Rattle.model.proofs.Cases.{never}
-use Rattle.model.proofs.Bytes.{Standing, advance, Turn, prefixed, last, turn, next-land}
-use Rattle.model.proofs.Way.{Regs, regsOf, load, Quiet, pushing, Mem, Way, arrived, through, quiet, loads, jumps, falls, way-stable}
-use Rattle.model.proofs.Points.{Setting, whole, At, Cont, Point, Skips, Comes, comes, getElem-inside}
-use Rattle.model.proofs.Arrive.{inside, up, rises-le, live-words}
-use Rattle.model.proofs.Comes.{arrives, enters}
-use Rattle.model.proofs.Effects.{cpuOf, sizeOf, stored, again, exec-ldl, exec-stl, exec-cj-jumps, exec-cj-goes-on, exec-stopp}
+use Rattle.model.proofs.Bytes.{Standing, advance, next-land}
+use Rattle.model.proofs.Way.{Regs, regsOf, load, Quiet, pushing, Mem, Way}
+use Rattle.model.proofs.Points.{Setting, whole, At, Point, Comes, comes}
+use Rattle.model.proofs.Arrive.{inside, up, rises-le}
+use Rattle.model.proofs.Effects.{cpuOf, sizeOf, stored, again, exec-ldl, exec-cj-jumps}
 use Rattle.model.proofs.Effects.{exec-j, exec-j-sliced}
-use Rattle.model.proofs.Moves.{Moves, m-none, m-step, root-step, Skipped, skipped, skip-moves, Sole, sole-skips}
+use Rattle.model.proofs.Moves.{Moves, m-none, skipped, skip-moves, Sole, sole-skips}
 
 -- a program's code in a machine: it realises the scheme, the machine uses it whole, and the words are in the machine's memory
 pub record Loaded : Type 0 where

@@ -1,42 +1,41 @@
 -- The significant instructions of one process: each is the Occam step that its place stands for, or brings it nearer.
-use Prim.Native.Nat.{ℕ, zero, suc, _+_, _-_, _^_, _≤_, _<_}
+use Prim.Native.Nat.{ℕ, suc, _+_, _-_, _^_, _≤_, _<_}
 use native.Mathlib.Omega.{arith}
 use native.Mathlib.Decide.{ℕ-discrete, decLt}
-use mathlib.Core.Path.{_≡_, refl, sym, ap, _∙_, subst}
-use mathlib.Core.Logic.{_≢_, _⊎_, inl, inr, ⊎-elim}
-use mathlib.Core.Bool.{Bool, true, false, cond}
+use mathlib.Core.Path.{_≡_, refl, sym, ap, _∙_}
+use mathlib.Core.Logic.{_≢_, inr, ⊎-elim}
+use mathlib.Core.Bool.{true, false}
 use mathlib.Core.List.{List, [], _∷_, _++_, List·Memᴰ, List·Memᴰ·append-cases}
-use mathlib.Core.Option.{Option, none, some}
-use lib.ListN.{length, getD, set, length-set, getElem?}
+use mathlib.Core.Option.{Option}
+use lib.ListN.{length, getD, set}
 use lib.Seq.{getD-set-same, getD-set-other}
 use lib.Dec.{eqb}
 use borrow.Author.Tests.{eqb-true, eqb-false}
 use Rattle.model.specs.Word.{low, less}
-use Rattle.model.specs.Syntax.{Site, declared, Stmt, STOP, assign, VAR, IF, WHILE, Whole, Pairs}
+use Rattle.model.specs.Syntax.{Site, Stmt, STOP, assign, VAR, IF, WHILE, Whole, Pairs}
 use Rattle.model.specs.Reader.{names}
 use Rattle.model.specs.Usage.{same, isIn}
-use Rattle.model.specs.Instruction.{Instruction, plain, distance, operation, operationCode}
+use Rattle.model.specs.Instruction.{Instruction, plain, distance, operation}
 use Rattle.model.specs.Instruction as I
 use Rattle.model.specs.Scheme.{code}
 use Rattle.model.specs.Code.{functionIn, operandIn}
-use Rattle.model.specs.Machine.{World, done, withCpu, goto, running, next, memorySize}
+use Rattle.model.specs.Machine.{World, done, withCpu, goto, running}
 use Rattle.model.specs.Execute.{execute, pop}
-use Rattle.model.specs.Run.{byte, land}
-use Rattle.model.specs.Occam.{Store, value, isTrue, store, zeros, Frame, inVar, inWhile, Process, before, atStop, framesOf, State}
-use Rattle.model.specs.Occam.{resume, begin, enter, go, firstTrue}
-use Rattle.model.specs.Demand.{Segment, step, liveIn}
-use Rattle.model.specs.declared.Cpu.{Cpu}
+use Rattle.model.specs.Run.{land}
+use Rattle.model.specs.Occam.{Store, value, store, zeros, Frame, inVar, inWhile, Process, before}
+use Rattle.model.specs.Occam.{resume, begin, go, firstTrue}
+use Rattle.model.specs.Demand.{step, liveIn}
 use Rattle.model.proofs.Cases.{never, by-bool}
 use Rattle.model.proofs.Sites.{same-refl, same-eq, isIn-mem, mem-isIn}
-use Rattle.model.proofs.Way.{Regs, regsOf, pushing, Mem, Way, arrived, quiet, quiet-ldc}
+use Rattle.model.proofs.Way.{pushing, arrived, quiet, quiet-ldc}
 use Rattle.model.proofs.Expr.{Seg, seg-length}
-use Rattle.model.proofs.Points.{Setting, whole, At, Fine, Cont, c-var, Opening, Point, pt-init, Comes}
-use Rattle.model.proofs.Arrive.{inside, up, rises-le, live-words, live-distinct, cont-inside, cont-low, cont-bound, Named, named}
+use Rattle.model.proofs.Points.{Setting, whole, At, Fine, Cont, c-var, Opening, pt-init, Comes}
+use Rattle.model.proofs.Arrive.{inside, up, rises-le, live-words, live-distinct, cont-inside, cont-low, cont-bound, named}
 use Rattle.model.proofs.Arrive.{named-in}
 use Rattle.model.proofs.Comes.{arrives, enters, Valued}
-use Rattle.model.proofs.Effects.{cpuOf, sizeOf, stored, exec-stl, exec-cj-jumps, exec-cj-goes-on, exec-stopp}
-use Rattle.model.proofs.Moves.{Moves, m-none, m-step, root-step, Sole, sole-resume, sole-enter}
-use Rattle.model.proofs.Slice.{Loaded, memOf, Sane, Holds, Inv, going, stopped, Went, went, Settled, settled, settle, ready, Final}
+use Rattle.model.proofs.Effects.{cpuOf, stored, exec-stl, exec-cj-jumps, exec-cj-goes-on, exec-stopp}
+use Rattle.model.proofs.Moves.{m-none, m-step, root-step, Sole, sole-resume, sole-enter}
+use Rattle.model.proofs.Slice.{Loaded, memOf, Holds, stopped, Went, went, Settled, settled, settle, ready, Final}
 use Rattle.model.proofs.Slice.{sane-same, holds-same, landed, ahead, in-memory, target, sane-stored, holds-other, pass, off-small}
 use Rattle.model.proofs.Slice.{instruction-is}
 

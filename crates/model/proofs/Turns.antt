@@ -1,30 +1,29 @@
 -- One byte, wherever one process stands.
-use Prim.Native.Nat.{ℕ, zero, suc, _+_, _-_, _^_, _≤_, _<_}
+use Prim.Native.Nat.{ℕ, suc, _+_, _-_, _≤_, _<_}
 use native.Mathlib.Omega.{arith}
-use mathlib.Core.Path.{_≡_, refl, sym, ap, ap₂, _∙_, subst}
-use mathlib.Core.Logic.{_≢_, _⊎_, inl, inr}
+use mathlib.Core.Path.{_≡_, refl, sym, ap, ap₂, _∙_}
+use mathlib.Core.Logic.{_⊎_, inl, inr}
 use mathlib.Core.Bool.{Bool, true, false, _&&_}
-use mathlib.Core.List.{List, [], _∷_, List·Memᴰ}
-use mathlib.Core.Option.{Option, none, some}
-use lib.ListN.{length, getElem?}
-use lib.Dec.{eqb}
-use borrow.Author.Tests.{eqb-true, eqb-false, eq-eqb}
+use mathlib.Core.List.{List, []}
+use mathlib.Core.Option.{Option}
+use lib.ListN.{length}
+use borrow.Author.Tests.{eqb-true, eq-eqb}
 use Rattle.model.specs.Word.{low}
 use Rattle.model.specs.Syntax.{Site, Stmt}
 use Rattle.model.specs.Instruction.{Instruction}
-use Rattle.model.specs.Machine.{World, done, withCpu, gathering}
-use Rattle.model.specs.Run.{byte, ended, waits}
-use Rattle.model.specs.Occam.{Store, Frame, Process, before, atStop, finished, framesOf, State, Stuck}
-use Rattle.model.specs.Demand.{Segment, liveIn}
+use Rattle.model.specs.Machine.{World, withCpu, gathering}
+use Rattle.model.specs.Run.{ended, waits}
+use Rattle.model.specs.Occam.{Store, Frame, Process, before, finished, framesOf, Stuck}
+use Rattle.model.specs.Demand.{liveIn}
 use Rattle.model.specs.declared.Setup.{Setup}
-use Rattle.model.proofs.Cases.{never, by-bool}
-use Rattle.model.proofs.Bytes.{Standing, advance, Turn, prefixed, last, turn}
+use Rattle.model.proofs.Cases.{never}
+use Rattle.model.proofs.Bytes.{advance, Turn, prefixed, last, turn}
 use Rattle.model.proofs.Way.{Regs, regsOf, Mem, Way, arrived, through, quiet, loads, jumps, falls}
-use Rattle.model.proofs.Points.{Setting, whole, At, Point, pt-stop, pt-assign, pt-init, pt-taken, pt-none, pt-while}
-use Rattle.model.proofs.Arrive.{inside, up, rises-le}
+use Rattle.model.proofs.Points.{whole, Point, pt-stop, pt-assign, pt-init, pt-taken, pt-none, pt-while}
+use Rattle.model.proofs.Arrive.{inside, up}
 use Rattle.model.proofs.Effects.{cpuOf}
 use Rattle.model.proofs.Moves.{m-none, stop-stuck, before-goes}
-use Rattle.model.proofs.Slice.{Loaded, memOf, Sane, Here, within, at-end, Holds, Inv, going, stopped, Went, went, ready, Final}
+use Rattle.model.proofs.Slice.{Loaded, memOf, Sane, within, at-end, Inv, going, stopped, Went, went, Final}
 use Rattle.model.proofs.Slice.{sane-same, holds-same, pass-quiet, pass-loads, pass-falls, pass-jumps, off-small, code-end, S}
 use Rattle.model.proofs.Steps.{step-assign, step-taken, step-none, step-while, step-stop, step-init}
 

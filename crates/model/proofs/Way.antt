@@ -1,19 +1,17 @@
 -- Quiet paths. Between two significant instructions a process only loads, computes in its registers, moves its workspace and jumps.
 -- A path says that from an instruction, with some registers, the next significant instruction is reached, and in how many bytes.
 -- It reads the variables in scope and no other word, so it stays as it is under whatever happens elsewhere.
-use Prim.Native.Nat.{ℕ, zero, suc, _+_, _-_, _*_, _^_, _≤_, _<_}
-use native.Mathlib.Omega.{arith}
-use mathlib.Core.Path.{_≡_, refl, sym, ap, _∙_, subst}
-use mathlib.Core.Bool.{Bool, true, false}
-use mathlib.Core.List.{List, [], _∷_, _++_, List·Memᴰ}
-use mathlib.Core.Option.{Option, none, some}
+use Prim.Native.Nat.{ℕ, suc, _+_, _*_, _≤_}
+use mathlib.Core.Path.{_≡_, refl}
+use mathlib.Core.List.{List, List·Memᴰ}
+use mathlib.Core.Option.{some}
 use lib.ListN.{length, getElem?}
 use lib.Bits.{bitAnd, bitOr, bitXor}
 use lib.Dec.{eqb}
 use Rattle.model.specs.Word.{low, less, truth}
 use Rattle.model.specs.Syntax.{Site}
-use Rattle.model.specs.Instruction.{Function, ldlp, ldc, ldl, cj, ajw, eqc, opr, Operation, functionCode, Instruction, plain}
-use Rattle.model.specs.Instruction.{distance, operation, operationOf, operationCode, coded}
+use Rattle.model.specs.Instruction.{Function, ldc, ldl, cj, ajw, eqc, opr, Instruction, plain}
+use Rattle.model.specs.Instruction.{distance, operationOf, operationCode, coded}
 use Rattle.model.specs.Instruction as I
 use Rattle.model.specs.Machine.{World, done, withCpu, stack, work}
 use Rattle.model.specs.Execute.{execute, operate, above}

@@ -1,12 +1,12 @@
 -- What reading gives: names in scope, counts in range, constants that are words, and places that tell declarations apart.
-use Prim.Native.Nat.{ℕ, suc, _+_, _-_, _^_, _≤_, _<_}
+use Prim.Native.Nat.{ℕ, suc, _-_, _^_, _≤_, _<_}
 use mathlib.Core.Path.{_≡_}
 use mathlib.Core.Bool.{true}
-use mathlib.Core.List.{List, [], _++_, List·Memᴰ}
+use mathlib.Core.List.{[], _++_, List·Memᴰ}
 use Rattle.model.specs.Syntax.{Site, inputOf, outputOf, Expr, constant, variable, NOT, binary, Whole, Stmt, SKIP, STOP, assign, input}
 use Rattle.model.specs.Syntax.{output, VAR, CHAN, SEQ, PAR, IF, WHILE, ALT, Stmts, noStmt, stmt, Pairs, noPair, pair, Guards, noGuard}
 use Rattle.model.specs.Syntax.{inputGuard, skipGuard, Program}
-use Rattle.model.specs.Reader.{Scope, canInput, canOutput, withVariables, withChannels, outside}
+use Rattle.model.specs.Reader.{Scope, canInput, canOutput, withVariables, withChannels, numbered}
 use Rattle.model.specs.Counts.{need}
 use Rattle.model.specs.Scheme.{howMany}
 
@@ -55,7 +55,7 @@ abbrev mutual
 
 -- the names in scope of a whole program
 abbrev pub outermost : Program → Scope
-outermost p = record { variables = []; channels = outside inputOf (p .inputs) ++ outside outputOf (p .outputs) }
+outermost p = record { variables = []; channels = numbered inputOf (p .inputs) ++ numbered outputOf (p .outputs) }
 
 abbrev pub WellProgram : Program → Type 0
 WellProgram p = (p .inputs ≤ 8) × (p .outputs ≤ 8) × Well (outermost p) (p .body)

@@ -1,10 +1,10 @@
 -- Which tables are accepted: refusals 1 to 9, lowest first after reading (01, "When a call is turned down").
 use Prim.Native.Nat.{ℕ, _+_}
-use mathlib.Core.Bool.{Bool, true, false, cond}
+use mathlib.Core.Bool.{cond}
 use mathlib.Core.List.{List}
 use mathlib.Core.Option.{Option, none, some}
 use lib.Dec.{leb}
-use Rattle.model.specs.Syntax.{Stmt, Program}
+use Rattle.model.specs.Syntax.{Program}
 use Rattle.model.specs.Reader.{Read, program, refused, readTable}
 use Rattle.model.specs.Usage.{firstClash}
 use Rattle.model.specs.Counts.{firstDeep, processes, need}

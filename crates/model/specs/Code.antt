@@ -1,9 +1,9 @@
 -- The code bytes of a table, and what it is for code to realise the scheme (01, "Workspace and code"; demand 2).
-use Prim.Native.Nat.{ℕ, zero, suc, _+_, _<_}
+use Prim.Native.Nat.{ℕ, suc, _+_}
 use mathlib.Core.Path.{_≡_}
-use mathlib.Core.Bool.{Bool, true, false, cond, _&&_}
+use mathlib.Core.Bool.{cond, _&&_}
 use mathlib.Core.List.{List, [], _∷_, _++_}
-use mathlib.Core.Option.{Option, none, some}
+use mathlib.Core.Option.{some}
 use lib.ListN.{length, take, drop, getElem?}
 use lib.Seq.{slice}
 use lib.Dec.{leb}
@@ -12,7 +12,7 @@ use Rattle.model.specs.Syntax.{Program}
 use Rattle.model.specs.Reader.{Read, program, refused as unread}
 use Rattle.model.specs.Accept.{accept, memoryWords}
 use Rattle.model.specs.Instruction.{Function, functionCode, Instruction, plain, distance}
-use Rattle.model.specs.Prefix.{withPrefixes, fewest, distancePrefixes, Decoded, decode}
+use Rattle.model.specs.Prefix.{withPrefixes, fewest, distancePrefixes, decode}
 use Rattle.model.specs.Scheme.{scheme}
 use Rattle.model.specs.declared.Compiled.{Compiled}
 use Rattle.model.specs.declared.Compiled.the-variants.{Code, Refused}

@@ -1,9 +1,9 @@
 -- What is counted of a program: registers (refusal 8), live processes (refusal 9), words (01, "Workspace and code").
-use Prim.Native.Nat.{ℕ, suc, _+_, max}
-use mathlib.Core.Bool.{Bool, true, false, cond}
+use Prim.Native.Nat.{ℕ, _+_, max}
+use mathlib.Core.Bool.{cond}
 use mathlib.Core.Option.{Option, none, some}
 use lib.Dec.{leb}
-use Rattle.model.specs.Syntax.{Site, Operator, Expr, constant, variable, NOT, binary, Whole, Stmt, SKIP, STOP, assign, input, output}
+use Rattle.model.specs.Syntax.{Expr, constant, variable, NOT, binary, Whole, Stmt, SKIP, STOP, assign, input, output}
 use Rattle.model.specs.Syntax.{VAR, CHAN, SEQ, PAR, IF, WHILE, ALT, Stmts, noStmt, stmt, Pairs, noPair, pair, Guards, noGuard}
 use Rattle.model.specs.Syntax.{inputGuard, skipGuard}
 use Rattle.model.specs.Usage.{orElse}

@@ -1,14 +1,14 @@
 -- Demand 3 as one statement.
-use Prim.Native.Nat.{ℕ, zero, suc, _+_, _*_, _<_}
+use Prim.Native.Nat.{ℕ, suc, _+_, _*_, _<_}
 use mathlib.Core.Path.{_≡_}
 use mathlib.Core.Bool.{Bool, true, false}
 use mathlib.Core.List.{List, [], _∷_, _++_, map, List·Memᴰ}
-use mathlib.Core.Option.{Option, some}
+use mathlib.Core.Option.{some}
 use lib.ListN.{length, getD}
 use Rattle.model.specs.Syntax.{Site, Program}
 use Rattle.model.specs.Accept.{limit}
 use Rattle.model.specs.Layout.{base, wordOf}
-use Rattle.model.specs.Code.{Compilation, compiled, compile}
+use Rattle.model.specs.Code.{compiled, compile}
 use Rattle.model.specs.Machine.{Talk}
 use Rattle.model.specs.Run.{After, start, ended, waits}
 use Rattle.model.specs.Occam.{Frame, inSeq, inVar, inWhile, Process, finished, framesOf, look, State, Communication, Step, Event}

@@ -1,8 +1,7 @@
 -- What each instruction does, as INMOS's guide says (01, "The machine"; for held offers 01's own rules).
 -- Words are touched in the order written, and each touch sees those before it.
-use Prim.Native.Nat.{ℕ, suc, _+_, _-_, _*_, _^_, min}
-use mathlib.Core.Bool.{Bool, true, false, cond, not, _&&_, _||_}
-use mathlib.Core.List.{List}
+use Prim.Native.Nat.{ℕ, _+_, _-_, _*_, _^_}
+use mathlib.Core.Bool.{Bool, false, cond, _||_}
 use mathlib.Core.Option.{Option, none, some}
 use lib.ListN.{getD, set}
 use lib.Bits.{bitAnd, bitOr, bitXor}
@@ -11,8 +10,8 @@ use Rattle.model.specs.Word.{low, less, truth, notProcess}
 use Rattle.model.specs.Instruction.{Function, j, ldlp, ldc, ldl, cj, ajw, eqc, stl, opr, Operation, rev, endp, diff, «in», prod, gt}
 use Rattle.model.specs.Instruction.{startp, outword, stopp, ldpi, disc, diss, xor, mint, alt, altwt, altend, and, enbc, enbs, or, sum}
 use Rattle.model.specs.Instruction.{operationOf}
-use Rattle.model.specs.Machine.{World, Act, _>>=_, _>>_, return, fault, withOffers, registers, setRegisters, setup, communicate}
-use Rattle.model.specs.Machine.{stack, goto, work, running, peek, poke, testPlace, resumeWord, stateWord, release, join, isHeld, done}
+use Rattle.model.specs.Machine.{Act, _>>=_, _>>_, return, fault, withOffers, registers, setRegisters, setup, communicate}
+use Rattle.model.specs.Machine.{stack, goto, work, peek, poke, testPlace, resumeWord, stateWord, release, join, isHeld, done}
 use Rattle.model.specs.declared.Cpu.{Cpu}
 use Rattle.model.specs.declared.FaultKind.the-variants.{Operation as BadOperation, Count}
 

@@ -1,9 +1,9 @@
 -- Where names stand in memory: AJWs and PAR distances place them (01, "Workspace and code").
 use Prim.Native.Nat.{ℕ, _+_, _-_}
-use mathlib.Core.Bool.{Bool, true, false}
+use mathlib.Core.Bool.{true, false}
 use mathlib.Core.List.{List, [], _∷_, _++_}
 use lib.Dec.{eqb}
-use Rattle.model.specs.Syntax.{Site, inputOf, outputOf, declared, Whole, Stmt, SKIP, STOP, assign, input, output, VAR, CHAN, SEQ, PAR}
+use Rattle.model.specs.Syntax.{Site, inputOf, outputOf, declared, Stmt, SKIP, STOP, assign, input, output, VAR, CHAN, SEQ, PAR}
 use Rattle.model.specs.Syntax.{IF, WHILE, ALT, Stmts, noStmt, stmt, Pairs, noPair, pair, Guards, noGuard, inputGuard, skipGuard}
 use Rattle.model.specs.Syntax.{Program}
 use Rattle.model.specs.Counts.{need}

@@ -3,6 +3,7 @@ pub mod Number
 pub mod Syntax
 pub mod Reader
 pub mod Usage
+pub mod Occam
 pub mod Counts
 pub mod Accept
 pub mod Instruction
@@ -16,7 +17,6 @@ pub mod Execute
 pub mod Run
 pub mod Outside
 pub mod Bench
-pub mod Occam
 pub mod History
 pub mod Demand
 pub mod Examples

@@ -1,10 +1,10 @@
 -- The machine's state, its memory and its queue (01, "The machine"; the guide's definitions, with words numbered and one priority).
-use Prim.Native.Nat.{ℕ, suc, _+_, _-_, min}
+use Prim.Native.Nat.{ℕ, _+_, _-_}
 use mathlib.Core.Bool.{Bool, true, false, cond, _&&_}
 use mathlib.Core.List.{List, [], _∷_, _++_}
 use lib.ListN.{getD, set}
 use lib.Dec.{ltb, leb, eqb}
-use Rattle.model.specs.Word.{low, less}
+use Rattle.model.specs.Word.{less}
 use Rattle.model.specs.declared.Cpu.{Cpu}
 use Rattle.model.specs.declared.Setup.{Setup}
 use Rattle.model.specs.declared.Machine.{Machine}

@@ -1,8 +1,8 @@
 -- Occam's own rules (01, "Occam's steps"). They know sites and no words: channels and variables are not laid out here.
 use Prim.Native.Nat.{ℕ, zero, suc, _+_, _*_}
 use mathlib.Core.Path.{_≡_}
-use mathlib.Core.Bool.{Bool, true, false, cond, not, _&&_}
-use mathlib.Core.List.{List, [], _∷_, _++_}
+use mathlib.Core.Bool.{Bool, true, false, cond, not}
+use mathlib.Core.List.{List, [], _∷_}
 use mathlib.Core.Option.{Option, none, some}
 use lib.Bits.{bitAnd, bitOr, bitXor}
 use lib.Dec.{eqb}
@@ -10,7 +10,7 @@ use lib.Signed.{ltZ}
 use Rattle.model.specs.Word.{low, less, signed, truth}
 use Rattle.model.specs.Syntax.{Site, inputOf, outputOf, Operator, PLUS, MINUS, TIMES, GT, EQ, AND, OR, XOR, Expr, constant, variable}
 use Rattle.model.specs.Syntax.{NOT, binary, Whole, Stmt, SKIP, STOP, assign, input, output, VAR, CHAN, SEQ, PAR, IF, WHILE, ALT}
-use Rattle.model.specs.Syntax.{Stmts, noStmt, stmt, Pairs, noPair, pair, Guards, noGuard, inputGuard, skipGuard, Program}
+use Rattle.model.specs.Syntax.{Stmts, noStmt, stmt, Pairs, noPair, pair, Guards, inputGuard, skipGuard, Program}
 use Rattle.model.specs.Reader.{names}
 use Rattle.model.specs.Usage.{same, isIn}
 use Rattle.model.specs.declared.OfferAnswer.{OfferAnswer}

@@ -1,12 +1,12 @@
 -- Offers and takes from outside (01, "The machine", "When a call is turned down").
-use Prim.Native.Nat.{ℕ, _+_, _-_}
-use mathlib.Core.Bool.{Bool, true, false, cond, not, _&&_, _||_}
+use Prim.Native.Nat.{ℕ, _+_}
+use mathlib.Core.Bool.{true, false, cond, _&&_}
 use mathlib.Core.List.{List, []}
 use mathlib.Core.Option.{Option, none, some}
 use lib.ListN.{getD, set}
-use lib.Dec.{ltb, leb, eqb}
+use lib.Dec.{ltb, eqb}
 use Rattle.model.specs.Word.{notProcess}
-use Rattle.model.specs.Machine.{registers, World, Result, done, faults, Act, _>>=_, _>>_, return, withOffers, setup, peek, stateWord}
+use Rattle.model.specs.Machine.{registers, Result, done, faults, Act, _>>=_, _>>_, return, withOffers, setup, peek, stateWord}
 use Rattle.model.specs.Machine.{memorySize}
 use Rattle.model.specs.Execute.{isAltState, notify, deliver, receive, received}
 use Rattle.model.specs.Run.{land, keep, shortMemory, After, unchanged, worldOf}

@@ -5,11 +5,11 @@ use mathlib.Core.Bool.{Bool, true, false, cond, _&&_}
 use mathlib.Core.List.{List, [], _∷_, _++_}
 use mathlib.Core.Option.{Option, none, some}
 use lib.ListN.{length, drop, getElem?}
-use lib.Dec.{leb, eqb}
+use lib.Dec.{leb}
 use Rattle.model.specs.Number.{Number, number}
 use Rattle.model.specs.Syntax.{Site, inputOf, outputOf, declared, Operator, PLUS, MINUS, TIMES, GT, EQ, AND, OR, XOR, Expr, constant}
 use Rattle.model.specs.Syntax.{variable, NOT, binary, Whole, Stmt, SKIP, STOP, assign, input, output, VAR, CHAN, SEQ, PAR, IF, WHILE}
-use Rattle.model.specs.Syntax.{ALT, Stmts, noStmt, stmt, Pairs, noPair, pair, Guards, noGuard, inputGuard, skipGuard, Program}
+use Rattle.model.specs.Syntax.{ALT, noStmt, stmt, Pairs, noPair, pair, Guards, noGuard, inputGuard, skipGuard, Program}
 
 -- what was read, the place of the next byte and the bytes from there on; or a refusal's number and place
 pub data Parsed (A : Type 0) : Type 0 where
@@ -81,10 +81,10 @@ nameOr5 fits (some s) at = cond (fits s) (pure s) (refuse 5 at)
 
 -- a variable's or channel's number; refusal 5: a name not in scope, or an outside channel used the wrong way
 unfoldable pub readName : (Site → Bool) → List Site → Reader Site
-readName fits names = do
+readName fits inScope = do
   at ← here
   n ← readNumber
-  nameOr5 fits (getElem? names n) at
+  nameOr5 fits (getElem? inScope n) at
 
 -- a variable may be used in any way
 abbrev pub anySite : Site → Bool
@@ -104,20 +104,24 @@ canOutput (declared p j) = true
 
 -- the number of a variable
 abbrev pub readVariable : Scope → Reader Site
-readVariable names = readName anySite (names .variables)
+readVariable scope = readName anySite (scope .variables)
 
 -- the number of a channel to input from
 abbrev pub readInput : Scope → Reader Site
-readInput names = readName canInput (names .channels)
+readInput scope = readName canInput (scope .channels)
 
 -- the number of a channel to output to
 abbrev pub readOutput : Scope → Reader Site
-readOutput names = readName canOutput (names .channels)
+readOutput scope = readName canOutput (scope .channels)
+
+-- so many names of one kind, in the order of their numbers
+unfoldable pub numbered : (ℕ → Site) → (count : ℕ) → List Site
+numbered of zero = []
+numbered of (suc n) = numbered of n ++ of n ∷ []
 
 -- the names of a VAR or CHAN at a place
-unfoldable pub names : (place count : ℕ) → List Site
-names p zero = []
-names p (suc n) = names p n ++ declared p n ∷ []
+abbrev pub names : (place count : ℕ) → List Site
+names p n = numbered (declared p) n
 
 -- the names inside a VAR: its own come after those in scope, so the outermost is 0
 abbrev pub withVariables : ℕ → ℕ → Scope → Scope
@@ -148,10 +152,10 @@ tooDeep = do
 
 -- what follows an expression's kind, with a reader of the expressions inside it
 unfoldable pub exprOf : Scope → Reader Expr → ExprKind → Reader Expr
-exprOf names inner isConstant = do n ← readNumber; pure (constant n)
-exprOf names inner isVariable = do x ← readVariable names; pure (variable x)
-exprOf names inner isNot = do e ← inner; pure (NOT e)
-exprOf names inner isBinary = do
+exprOf scope inner isConstant = do n ← readNumber; pure (constant n)
+exprOf scope inner isVariable = do x ← readVariable scope; pure (variable x)
+exprOf scope inner isNot = do e ← inner; pure (NOT e)
+exprOf scope inner isBinary = do
   op ← oneOf operators
   left ← inner
   right ← inner
@@ -159,16 +163,16 @@ exprOf names inner isBinary = do
 
 -- an expression, with the depths left from it on: the number falls by 1 for each expression inside
 unfoldable pub readExpr : ℕ → Scope → Reader Expr
-readExpr zero names = tooDeep
-readExpr (suc d) names = do
+readExpr zero scope = tooDeep
+readExpr (suc d) scope = do
   k ← oneOf exprKinds
-  exprOf names (readExpr d names) k
+  exprOf scope (readExpr d scope) k
 
 -- an expression that stands in no other, with the place that refusal 8 returns
 unfoldable pub readWhole : ℕ → Scope → Reader Whole
-readWhole d names = do
+readWhole d scope = do
   at ← here
-  e ← readExpr d names
+  e ← readExpr d scope
   pure (record { place = at; expr = e })
 
 -- so many parts, one after the other
@@ -202,29 +206,29 @@ pub record Inner : Type 0 where
 
 -- a pair of an IF: expression, statement
 unfoldable pub readPair : Scope → Inner → Reader (Pairs → Pairs)
-readPair names inner = do
+readPair scope inner = do
   e ← inner .expr
-  s ← inner .stmt names
+  s ← inner .stmt scope
   pure (pair e s)
 
 -- 01: condition, channel, variable, statement (waits for input), or condition, statement (SKIP guard)
 unfoldable pub guardOf : Scope → Inner → GuardKind → Reader (Guards → Guards)
-guardOf names inner isInputGuard = do
+guardOf scope inner isInputGuard = do
   e ← inner .expr
-  c ← readInput names
-  x ← readVariable names
-  s ← inner .stmt names
+  c ← readInput scope
+  x ← readVariable scope
+  s ← inner .stmt scope
   pure (inputGuard e c x s)
-guardOf names inner isSkipGuard = do
+guardOf scope inner isSkipGuard = do
   e ← inner .expr
-  s ← inner .stmt names
+  s ← inner .stmt scope
   pure (skipGuard e s)
 
 -- a guard is no level of depth: its number is read at the ALT's level
 unfoldable pub readGuard : Scope → Inner → Reader (Guards → Guards)
-readGuard names inner = do
+readGuard scope inner = do
   k ← oneOf guardKinds
-  guardOf names inner k
+  guardOf scope inner k
 
 -- a pair or guard in front of the ones after it
 abbrev pub applied : {L : Type 0} → (L → L) → L → L
@@ -232,38 +236,33 @@ applied f l = f l
 
 -- what follows a statement's kind, for a statement at a place: the column "then" of 01's table
 unfoldable pub stmtOf : (place : ℕ) → Scope → Inner → StmtKind → Reader Stmt
-stmtOf p names inner isSkip = pure SKIP
-stmtOf p names inner isStop = pure STOP
-stmtOf p names inner isAssign = do x ← readVariable names; e ← inner .expr; pure (assign x e)
-stmtOf p names inner isInput = do c ← readInput names; x ← readVariable names; pure (input c x)
-stmtOf p names inner isOutput = do c ← readOutput names; e ← inner .expr; pure (output c e)
-stmtOf p names inner isVar = do n ← readCount 1 32; s ← inner .stmt (withVariables p n names); pure (VAR p n s)
-stmtOf p names inner isChan = do n ← readCount 1 32; s ← inner .stmt (withChannels p n names); pure (CHAN p n s)
-stmtOf p names inner isSeq = do n ← readCount 0 32; ss ← readMany noStmt stmt (inner .stmt names) n; pure (SEQ ss)
-stmtOf p names inner isPar = do n ← readCount 0 16; ss ← readMany noStmt stmt (inner .stmt names) n; pure (PAR p ss)
-stmtOf p names inner isIf = do n ← readCount 0 32; ps ← readMany noPair applied (readPair names inner) n; pure (IF ps)
-stmtOf p names inner isWhile = do e ← inner .expr; s ← inner .stmt names; pure (WHILE e s)
-stmtOf p names inner isAlt = do n ← readCount 0 32; gs ← readMany noGuard applied (readGuard names inner) n; pure (ALT gs)
+stmtOf p scope inner isSkip = pure SKIP
+stmtOf p scope inner isStop = pure STOP
+stmtOf p scope inner isAssign = do x ← readVariable scope; e ← inner .expr; pure (assign x e)
+stmtOf p scope inner isInput = do c ← readInput scope; x ← readVariable scope; pure (input c x)
+stmtOf p scope inner isOutput = do c ← readOutput scope; e ← inner .expr; pure (output c e)
+stmtOf p scope inner isVar = do n ← readCount 1 32; s ← inner .stmt (withVariables p n scope); pure (VAR p n s)
+stmtOf p scope inner isChan = do n ← readCount 1 32; s ← inner .stmt (withChannels p n scope); pure (CHAN p n s)
+stmtOf p scope inner isSeq = do n ← readCount 0 32; ss ← readMany noStmt stmt (inner .stmt scope) n; pure (SEQ ss)
+stmtOf p scope inner isPar = do n ← readCount 0 16; ss ← readMany noStmt stmt (inner .stmt scope) n; pure (PAR p ss)
+stmtOf p scope inner isIf = do n ← readCount 0 32; ps ← readMany noPair applied (readPair scope inner) n; pure (IF ps)
+stmtOf p scope inner isWhile = do e ← inner .expr; s ← inner .stmt scope; pure (WHILE e s)
+stmtOf p scope inner isAlt = do n ← readCount 0 32; gs ← readMany noGuard applied (readGuard scope inner) n; pure (ALT gs)
 
 -- a statement, with the depths left from it on; each statement or expression inside it is one deeper
 unfoldable pub readStmt : ℕ → Scope → Reader Stmt
-readStmt zero names = tooDeep
-readStmt (suc d) names = do
+readStmt zero scope = tooDeep
+readStmt (suc d) scope = do
   at ← here
   k ← oneOf stmtKinds
-  stmtOf at names (record { expr = readWhole d names; stmt = readStmt d }) k
-
--- so many outside channels of one kind, in the order of their numbers
-unfoldable pub outside : (ℕ → Site) → ℕ → List Site
-outside of zero = []
-outside of (suc n) = outside of n ++ of n ∷ []
+  stmtOf at scope (record { expr = readWhole d scope; stmt = readStmt d }) k
 
 -- 01: first two numbers, 0 to 8 each: outside inputs, then outside outputs, numbered so. Then one statement, at depth 1; 32 is the deepest
 unfoldable pub readProgram : Reader Program
 readProgram = do
   ins ← readCount 0 8
   outs ← readCount 0 8
-  s ← readStmt 32 (record { variables = []; channels = outside inputOf ins ++ outside outputOf outs })
+  s ← readStmt 32 (record { variables = []; channels = numbered inputOf ins ++ numbered outputOf outs })
   pure (record { inputs = ins; outputs = outs; body = s })
 
 -- a program, or a refusal's number and place

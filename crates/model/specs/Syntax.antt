@@ -1,7 +1,6 @@
 -- Programs as a table has them (01, "The program table"), with each name resolved to its declaration.
 -- Places are bytes of the table.
 use Prim.Native.Nat.{ℕ}
-use mathlib.Core.List.{List}
 
 -- what a name stands for: an outside input or output channel, each counted from 0, or the j-th name of the VAR or CHAN
 -- whose first byte is at a place

@@ -1,11 +1,11 @@
 -- What the branches of a PAR use (01: "In a PAR, a variable that one branch assigns or inputs is not used by another, and no two
 -- branches input from, or output to, one channel"), refusal 7.
 use Prim.Native.Nat.{ℕ}
-use mathlib.Core.Bool.{Bool, true, false, cond, _&&_, _||_}
+use mathlib.Core.Bool.{Bool, false, cond, _&&_, _||_}
 use mathlib.Core.List.{List, [], _∷_, _++_}
 use mathlib.Core.Option.{Option, none, some}
 use lib.Dec.{eqb}
-use Rattle.model.specs.Syntax.{Site, inputOf, outputOf, declared, Operator, Expr, constant, variable, NOT, binary, Whole, Stmt, SKIP}
+use Rattle.model.specs.Syntax.{Site, inputOf, outputOf, declared, Expr, constant, variable, NOT, binary, Whole, Stmt, SKIP}
 use Rattle.model.specs.Syntax.{STOP, assign, input, output, VAR, CHAN, SEQ, PAR, IF, WHILE, ALT, Stmts, noStmt, stmt, Pairs, noPair}
 use Rattle.model.specs.Syntax.{pair, Guards, noGuard, inputGuard, skipGuard}
 

@@ -1,7 +1,6 @@
 // The numbers of a table, counts, kinds and names.
 ghost use mathlib.Core.Path.{_≡_};
-ghost use Prim.Native.Nat.{ℕ, _+_, _<_, _≤_};
-ghost use lib.ListN.{length};
+ghost use Prim.Native.Nat.{_+_, _<_};
 ghost use Rattle.numbers.specs.Items.{groupsAt, betweenAt, nameAt, deepAt};
 
 // A number and the place after it; Bad: cut short, too long or too large.

@@ -3,9 +3,8 @@ use Prim.Native.Nat.{ℕ, zero, suc, _+_, _≤_, _<_}
 use native.Mathlib.Omega.{arith}
 use mathlib.Core.Path.{_≡_, refl, sym, ap, _∙_}
 use mathlib.Core.Logic.{_≢_}
-use mathlib.Core.Bool.{Bool, true, false, _&&_, _||_}
+use mathlib.Core.Bool.{Bool, true, false, _&&_, _||_, or-false, or-true, or-assoc, and-eq-true-iff}
 use mathlib.Core.List.{List, [], _∷_, _++_}
-use mathlib.Core.Option.{some}
 use lib.ListN.{length, getD, getElem?, set, replicate, length-set, length-replicate, getD-replicate}
 use lib.Seq.{getD-set-same, getD-set-other}
 use lib.Dec.{ltb, eqb}
@@ -16,9 +15,8 @@ use Rattle.model.specs.Syntax.{Site, Stmts, noStmt, stmt}
 use Rattle.model.specs.Usage.{Usage, nothing, _⊕_, usage, same, isIn, share, clash, clashesLater, anyClash}
 use Rattle.table.specs.Uses.{met, merged}
 use Rattle.model.proofs.Points.{getElem-inside as inside}
-use Rattle.table.proofs.SameItems.{}
-use Rattle.table.proofs.Marks.{Field, changed, used-there, inputs-of, outputs-of, base, field, names-of, hit, Marked, or-false}
-use Rattle.table.proofs.Marks.{or-assoc, or-true, hit-append, hit-none, field-both, field-nothing, base-low, isIn-append}
+use Rattle.table.proofs.Marks.{Field, changed, used-there, inputs-of, outputs-of, base, field, names-of, hit, Marked}
+use Rattle.table.proofs.Marks.{hit-append, hit-none, field-both, field-nothing, base-low, isIn-append, InScope}
 
 -- the sets of a usage: of the names in scope, those that it has
 pub record Sets (vs cs : List Site) (u : Usage) (marks : List ℕ) : Type 0 where
@@ -106,10 +104,6 @@ together true b f g = sym (f refl)
 together false true f g = g refl
 together false false f g = refl
 
-and-true : (a b : Bool) → (a && b) ≡ true → (a ≡ true) × (b ≡ true)
-and-true true b e = (refl, e)
-and-true false b e = never (cc)
-
 -- a name that both lists have
 share-has : (xs ys : List Site) → share xs ys ≡ true → (x : Site) × (isIn x xs ≡ true) × (isIn x ys ≡ true)
 unfolding share isIn
@@ -151,7 +145,7 @@ both names xs ys k = hit names k xs && hit names k ys
 
 -- a name that both have has a number, so to look through the numbers is to look through the lists
 any-share : (names xs ys : List Site) (n : ℕ) → length names ≤ n
-    → ((x : Site) → isIn x xs ≡ true → isIn x ys ≡ true → (k : ℕ) × (getElem? names k ≡ some x)) → any (both names xs ys) n ≡ share xs ys
+    → ((x : Site) → isIn x xs ≡ true → isIn x ys ≡ true → InScope names x) → any (both names xs ys) n ≡ share xs ys
 any-share names xs ys n l scope =
     together (any (both names xs ys) n) (share xs ys)
     (λ e. let t = any-has (both names xs ys) n e in found (t .0) (t .1))
@@ -163,7 +157,7 @@ any-share names xs ys n l scope =
     found k e =
         by-option (getElem? names k)
         (λ f. never (cc (rw f at e)))
-        (λ x f. let t = and-true (isIn x xs) (isIn x ys) (rw f at e) in share-of xs ys x (t .0) (t .1))
+        (λ x f. let t = and-eq-true-iff (isIn x xs) (isIn x ys) .0 (rw f at e) in share-of xs ys x (t .0) (t .1))
 
 -- four tests of one thing, before four of another
 four : (a b c d e f g h : Bool) → ((a || b || c || d) || (e || f || g || h)) ≡ ((a || e) || (b || f) || (c || g) || (d || h))
@@ -202,10 +196,10 @@ met-any vs cs u v b m p q (suc k) l =
     first c w r = let at : 0 + k ≡ k = omega arith in rw at at (r .sets changed k l)
 
 pub met-clash : (vs cs : List Site) (u v : Usage) (b m : List ℕ) → Sets vs cs u b → Sets vs cs v m → length vs ≤ 1024 → length cs ≤ 1024
-    → ((x : Site) → isIn x (u .changes) ≡ true → isIn x (v .uses) ≡ true → (k : ℕ) × (getElem? vs k ≡ some x))
-    → ((x : Site) → isIn x (v .changes) ≡ true → isIn x (u .uses) ≡ true → (k : ℕ) × (getElem? vs k ≡ some x))
-    → ((x : Site) → isIn x (u .inputs) ≡ true → isIn x (v .inputs) ≡ true → (k : ℕ) × (getElem? cs k ≡ some x))
-    → ((x : Site) → isIn x (u .outputs) ≡ true → isIn x (v .outputs) ≡ true → (k : ℕ) × (getElem? cs k ≡ some x))
+    → ((x : Site) → isIn x (u .changes) ≡ true → isIn x (v .uses) ≡ true → InScope vs x)
+    → ((x : Site) → isIn x (v .changes) ≡ true → isIn x (u .uses) ≡ true → InScope vs x)
+    → ((x : Site) → isIn x (u .inputs) ≡ true → isIn x (v .inputs) ≡ true → InScope cs x)
+    → ((x : Site) → isIn x (u .outputs) ≡ true → isIn x (v .outputs) ≡ true → InScope cs x)
     → met 1024 b m ≡ clash u v
 unfolding clash
 met-clash vs cs u v b m p q few-vs few-cs first second third fourth =
@@ -234,7 +228,7 @@ share-right [] ys zs = refl
 share-right (x ∷ xs) ys zs =
     rw (share-right xs ys zs, isIn-append x ys zs) (two (isIn x ys) (isIn x zs) (share xs ys) (share xs zs))
 
-pub clash-both : (u v w : Usage) → clash (u ⊕ v) w ≡ (clash u w || clash v w)
+clash-both : (u v w : Usage) → clash (u ⊕ v) w ≡ (clash u w || clash v w)
 unfolding clash
 clash-both u v w =
     rw (
@@ -260,7 +254,7 @@ later-both u v (stmt s ss) =
     (two (clash u (usage s)) (clash v (usage s)) (clashesLater u ss) (clashesLater v ss))
 
 -- the branches before are taken together here, and one by one in the model
-pub before-later : (u : Usage) (ss : Stmts) → clashesBefore u ss ≡ (clashesLater u ss || anyClash ss)
+before-later : (u : Usage) (ss : Stmts) → clashesBefore u ss ≡ (clashesLater u ss || anyClash ss)
 unfolding clashesBefore clashesLater anyClash
 before-later u noStmt = refl
 before-later u (stmt s ss) =

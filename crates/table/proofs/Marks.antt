@@ -3,7 +3,7 @@ use Prim.Native.Nat.{ℕ, zero, suc, _+_, _-_, _*_, _≤_, _<_}
 use native.Mathlib.Omega.{arith}
 use mathlib.Core.Path.{_≡_, refl, sym, _∙_}
 use mathlib.Core.Logic.{_≢_}
-use mathlib.Core.Bool.{Bool, true, false, _&&_, _||_}
+use mathlib.Core.Bool.{Bool, true, false, _&&_, _||_, or-false, or-true, or-assoc, and-false}
 use mathlib.Core.List.{List, [], _∷_, _++_}
 use mathlib.Core.Option.{Option, none, some}
 use lib.ListN.{length, getD, getElem?, set, take, length-set}
@@ -16,15 +16,11 @@ use Rattle.model.specs.Syntax.{Site}
 use Rattle.model.specs.Usage.{Usage, nothing, _⊕_, changing, same, isIn}
 use Rattle.model.proofs.Sites.{same-eq}
 use Rattle.numbers.specs.Items.{groupsAt, grouped}
-use Rattle.table.specs.Uses.{Used, after, skipAt, markAt, nameUsed, variableUsed}
+use Rattle.table.specs.Uses.{Used, skipAt, markAt, nameUsed, variableUsed}
 use Rattle.numbers.specs.declared.Item.{Item}
 use Rattle.numbers.specs.declared.NumberRead.{NumberRead}
 use Rattle.numbers.specs.declared.NumberRead.the-variants.{Number, Bad}
 use Rattle.table.proofs.SameItems.{NumberAt, Listed, outside-of}
-
-by-number : {R : Type 0} (x : NumberRead) → (x ≡ Bad → R) → ((v n : ℕ) → x ≡ Number v n → R) → R
-by-number Bad b f = b refl
-by-number (Number v n) b f = f v n refl
 
 -- what a number at a place says of its groups
 grouped-number : (b : ℕ) (x : NumberRead) (v n : ℕ) → grouped b x ≡ Number v n
@@ -40,7 +36,7 @@ grouped-number b (Number w m) v n e =
     (λ g. never (cc (rw (f, g) at e))))
 
 -- a number lies in every stretch of the table that has its bytes
-pub slice-groups : (k : ℕ) (s : List ℕ) (from to at v n : ℕ) → to ≤ length s → from ≤ at → n ≤ to → groupsAt k s at ≡ Number v n
+slice-groups : (k : ℕ) (s : List ℕ) (from to at v n : ℕ) → to ≤ length s → from ≤ at → n ≤ to → groupsAt k s at ≡ Number v n
     → (groupsAt k (slice from to s) (at - from) ≡ Number v (n - from)) × (at < n)
 unfolding groupsAt
 slice-groups zero s from to at v n u l m e = never (cc)
@@ -121,22 +117,6 @@ pub record Marked (vs cs : List Site) (before : List ℕ) (u : Usage) (marks : L
   pub long : length marks ≡ length before
   pub marked : (f : Field) (k : ℕ) → k < 1024
       → eqb (getD marks (base f + k) 0) 1 ≡ (eqb (getD before (base f + k) 0) 1 || hit (names-of f vs cs) k (field f u))
-
-pub or-false : (t : Bool) → (t || false) ≡ t
-or-false true = refl
-or-false false = refl
-
-pub or-assoc : (a b c : Bool) → ((a || b) || c) ≡ (a || (b || c))
-or-assoc true b c = refl
-or-assoc false b c = refl
-
-pub and-false : (t : Bool) → (t && false) ≡ false
-and-false true = refl
-and-false false = refl
-
-pub or-true : (t : Bool) → (t || true) ≡ true
-or-true true = refl
-or-true false = refl
 
 pub isIn-append : (x : Site) (ys zs : List Site) → isIn x (ys ++ zs) ≡ (isIn x ys || isIn x zs)
 unfolding isIn

@@ -1,20 +1,19 @@
 -- ALT.
-use Prim.Native.Nat.{ℕ, _-_, _≤_, max}
+use Prim.Native.Nat.{ℕ, _-_, _≤_}
 use native.Mathlib.Omega.{arith}
 use mathlib.Core.Path.{_≡_, refl, sym, ap, _∙_}
 use mathlib.Core.Bool.{cond}
 use mathlib.Core.List.{List}
-use mathlib.Core.Option.{Option, none, some}
 use lib.ListN.{length, drop}
 use lib.Seq.{slice}
-use lib.Dec.{leb, eqb}
+use lib.Dec.{eqb}
 use Rattle.model.specs.Syntax.{Site, Whole, stmt, Guards, noGuard, inputGuard, skipGuard}
 use Rattle.model.specs.Syntax as M
 use Rattle.model.specs.Reader.{onward, pure, Scope, readWhole, Inner, stmtOf, applied, readGuard, guardOf, isAlt, isInputGuard, isSkipGuard}
 use Rattle.model.specs.Reader.{guardKinds, readStmt}
-use Rattle.model.specs.Usage.{Usage, _⊕_, reading, changing, inputting, usage, orElse, firstClash, usageGuards, firstClashGuards}
-use Rattle.model.specs.Counts.{registers, firstDeep, processes, need, guardNeed, guardProcesses, firstDeepGuards}
-use Rattle.table.specs.Stmts.{firstOf, itemS, itemH, headS, headH, wholeAt, takenAt, Fits, stmtAt, pickH, stmtS, sumS, headAt}
+use Rattle.model.specs.Usage.{Usage, _⊕_, reading, changing, inputting, usage, firstClash, usageGuards, firstClashGuards}
+use Rattle.model.specs.Counts.{firstDeep, processes, need, guardNeed, guardProcesses, firstDeepGuards}
+use Rattle.table.specs.Stmts.{firstOf, wholeAt, takenAt, Fits, stmtAt, headAt, withHead, withStmt}
 use Rattle.table.specs.Stmts.{guardAt, behind, nothing as no-part, partAt, mostFrom, gathered}
 use Rattle.table.specs.Uses.{thenUsed, nameUsed, variableUsed, exprUsed, stmtUsed, headUsed, guardUsed}
 use Rattle.numbers.specs.declared.Item.{Item}
@@ -22,16 +21,16 @@ use Rattle.table.specs.declared.stmt.Names.{Names}
 use Rattle.table.specs.declared.stmt.StmtRead.{StmtRead}
 use Rattle.table.specs.declared.stmt.StmtRead.the-variants.{Stmt, Refused as NoStmt}
 use Rattle.table.specs.declared.stmt.HeadRead.{HeadRead}
-use Rattle.table.specs.declared.stmt.HeadRead.the-variants.{Head}
+use Rattle.table.specs.declared.stmt.HeadRead.the-variants.{Head, Refused as NoHead}
 use Rattle.table.proofs.SameItems.{Bytes, NumberAt, Same, gives, onwards, Listed, one-same, each}
 use Rattle.table.proofs.Marks.{Stretch, number-in, later}
-use Rattle.table.specs.declared.stmt.Sum.{Sum}
 use Rattle.table.proofs.SameSimple.{first, partOf, Within, Scoped, UsesFrom, RestIs, StmtIs, wider, within-both, use-both, noted}
-use Rattle.table.proofs.SameSimple.{WholeIs, first-noted, taken-onward, input-used, within-input}
+use Rattle.table.proofs.SameSimple.{WholeIs, taken-onward, input-used, within-input}
 use Rattle.table.proofs.SameDeclare.{InnerIs}
-use Rattle.numbers.specs.Items.{betweenAt}
-use Rattle.table.proofs.SameMany.{first-orElse, firstOf-assoc, Counting, partWay, PartIs}
-use Rattle.table.proofs.SameParts.{outer-later, scoped-later, plus-assoc, whole-scoped, countedWay, counted-same}
+use Rattle.numbers.specs.Items.{betweenAt, withItem}
+use Rattle.table.proofs.SameMany.{first-orElse, Counting, partWay, PartIs}
+use Rattle.table.proofs.SameParts.{outer-later, scoped-later, plus-assoc, deeper, condition-same, whole-scoped, countedWay}
+use Rattle.table.proofs.SameParts.{counted-same}
 
 abbrev guarded : Counting Guards
 unfolding guardNeed guardProcesses firstDeepGuards firstClashGuards usageGuards
@@ -52,53 +51,42 @@ guarded =
 
 -- the statement behind a guard's head
 abbrev behindHead : (d : ℕ) → Names → List ℕ → HeadRead → StmtRead
-behindHead d w s x = headS x (λ n e. stmtS (stmtAt d w s n) (λ p. Stmt (behind e p)))
-
-deeper : (e : Whole) (a b : Option ℕ) → first (orElse (cond (leb (registers (e .expr)) 3) none (some (e .place))) (orElse a b))
-    ≡ firstOf (firstOf (noted e) (first a)) (first b)
-deeper e a b =
-    first-orElse (cond (leb (registers (e .expr)) 3) none (some (e .place))) (orElse a b)
-    ∙ rw (first-noted e, first-orElse a b) (sym (firstOf-assoc (noted e) (first a) (first b)))
+behindHead d w s x = withHead NoStmt x (λ n e. withStmt NoStmt (stmtAt d w s n) (λ p. Stmt (behind e p)))
 
 skip-guard : (s : List ℕ) (d : ℕ) (w : Names) (sc : Scope) (place : ℕ) (inner : Inner) → Bytes s → Scoped w sc place → Fits w d
     → InnerIs s d
     → inner .expr ≡ readWhole d sc → inner .stmt ≡ readStmt d → (at n : ℕ) → place ≤ at → NumberAt s at 1 n
     → Same s (λ a m x. PartIs guarded s d sc 11 place at (applied a) m x) NoStmt
-    (behindHead d w s (headH (wholeAt d (w .variables) s n) (λ m e. Head m e))) (guardOf sc inner isSkipGuard n (drop n s))
+    (behindHead d w s (withHead NoHead (wholeAt d (w .variables) s n) (λ m e. Head m e))) (guardOf sc inner isSkipGuard n (drop n s))
 unfolding headUsed guardUsed guardOf guardNeed guardProcesses firstDeepGuards firstClashGuards usageGuards
 skip-guard s d w sc place inner b h f i ee es at n l t =
-    rw (ee, es) (
-    onwards (λ x. behindHead d w s (headH x (λ m e. Head m e))) _ (whole-scoped d w sc s place n b h)
-    (λ e m y r q. rw (r .is) (
-    onwards (λ x. stmtS x (λ p. Stmt (behind (noted e) p))) (λ st. pure (skipGuard e st))
-    (i w sc m (scoped-later m (omega (arith, l, t .ahead, r .ahead)) h) f)
-    (λ st o z k p. rw (k .is) (gives (skipGuard e st) o (Stmt (behind (noted e) (partOf st o)))
-    (record {
+    rw (ee, es, same-head (wholeAt d (w .variables) s n)) (
+    condition-same (λ a m x. PartIs guarded s d sc 11 place at (applied a) m x) s d w sc place n (λ e st. skipGuard e st) b
+    (omega (arith, l, t .ahead)) h f i
+    (λ e st o k.
+    record {
       words = need st;
       processes = processes st;
       deep = firstOf (noted e) (first (firstDeep st));
       clash = first (firstClash st);
       use-of = reading e ⊕ usage st;
       is = refl;
-      ahead = omega (arith, t .ahead, r .ahead, k .ahead);
+      ahead = omega (arith, t .ahead, k .ahead);
       needs = λ gs. refl;
       lives = λ gs. refl;
       deeps = λ gs. deeper e (firstDeep st) (firstDeepGuards gs);
       clashes = λ gs. first-orElse (firstClash st) (firstClashGuards gs);
       usages = λ gs. sym (plus-assoc (reading e) (usage st) (usageGuards gs));
-      uses = λ vs cs from to j out z2.
-          let kind : Stretch s vs cs at n from to j = later z2 (omega arith) (omega (arith, r .ahead, k .ahead)) refl in
-          let here : Stretch s vs cs n m from to j = later z2 (omega (arith, t .ahead)) (omega (arith, k .ahead)) refl in
-          let one = r .uses vs cs from to j (out .variables) (out .channels) here in
-          let rest : Stretch s vs cs m o from to (exprUsed d (length vs) (slice from to s) (n - from) j .marks) =
-          later z2 (omega (arith, t .ahead, r .ahead)) (omega arith) (one .marks .long) in
-          rw (number-in t kind) (
-          use-both _ (λ i2 j2. stmtUsed d (length vs) (length cs) (slice from to s) i2 j2) one
-          (k .uses vs cs from to _ (outer-later m (omega (arith, l, t .ahead, r .ahead)) out) rest));
-      within = within-both (r .within place o) (wider (omega (arith, l, t .ahead, r .ahead)) (omega arith) (k .within));
-    })))
-    (λ j p. refl)))
-    (λ j p. refl))
+      uses = λ vs cs from to j out z.
+          let kind : Stretch s vs cs at n from to j = later z (omega arith) (omega (arith, k .ahead)) refl in
+          let rest : Stretch s vs cs n o from to j = later z (omega (arith, t .ahead)) (omega arith) refl in
+          rw (number-in t kind) (k .uses vs cs from to j out rest);
+      within = k .within;
+    }))
+  where
+    same-head : (x : HeadRead) → withHead NoHead x (λ m e. Head m e) ≡ x
+    same-head (Head m e) = refl
+    same-head (NoHead k p) = refl
 
 -- an input guard's head and its statement together
 record InputGuardIs (s : List ℕ) (d : ℕ) (sc : Scope) (place at : ℕ) (e : Whole) (ch x : Site) (st : M.Stmt) (n : ℕ) : Type 0 where
@@ -146,16 +134,17 @@ input-guard : (s : List ℕ) (d : ℕ) (w : Names) (sc : Scope) (place : ℕ) (i
     → InnerIs s d
     → inner .expr ≡ readWhole d sc → inner .stmt ≡ readStmt d → (at n : ℕ) → place ≤ at → NumberAt s at 0 n
     → Same s (λ a m x. PartIs guarded s d sc 11 place at (applied a) m x) NoStmt
-    (behindHead d w s (headH (wholeAt d (w .variables) s n) (λ m e. takenAt w s m e))) (guardOf sc inner isInputGuard n (drop n s))
+    (behindHead d w s (withHead NoHead (wholeAt d (w .variables) s n) (λ m e. takenAt w s m e)))
+    (guardOf sc inner isInputGuard n (drop n s))
 unfolding guardOf guardNeed guardProcesses firstDeepGuards firstClashGuards usageGuards
 input-guard s d w sc place inner b h f i ee es at n l t =
     rw (ee, es) (
-    onwards (λ x. behindHead d w s (headH x (λ m e. takenAt w s m e))) _ (whole-scoped d w sc s place n b h)
+    onwards (λ x. behindHead d w s (withHead NoHead x (λ m e. takenAt w s m e))) _ (whole-scoped d w sc s place n b h)
     (λ e m y r q. rw (r .is) (
     taken-onward w sc s place m (noted e) (λ x. behindHead d w s x)
     (λ ch x. λ a bytes. onward (readStmt d sc a bytes) (λ st. pure (inputGuard e ch x st))) b h
     (λ ch x c v i2 j2 kc kx.
-    onwards (λ z. stmtS z (λ p. Stmt (behind (noted e) p))) (λ st. pure (inputGuard e ch x st))
+    onwards (λ z. withStmt NoStmt z (λ p. Stmt (behind (noted e) p))) (λ st. pure (inputGuard e ch x st))
     (i w sc v (scoped-later v (omega (arith, l, t .ahead, r .ahead, kc .there .ahead, kx .there .ahead)) h) f)
     (λ st o z k p.
     let g = input-guard-is l t r kc kx k in
@@ -198,11 +187,11 @@ unfolding partAt headAt guardAt readGuard
 guard-part s d w sc place inner b h f i ee es at l =
     onwards
     (λ x. behindHead d w s
-    (itemH x (λ g n. headH (wholeAt d (w .variables) s n) (λ m e. pickH (eqb g 0) (takenAt w s m e) (Head m e))))) _
+    (withItem NoHead x (λ g n. withHead NoHead (wholeAt d (w .variables) s n) (λ m e. cond (eqb g 0) (takenAt w s m e) (Head m e))))) _
     (one-same guardKinds 1 s at b refl)
     (λ kind n y k q. rw (k .found) (
     each (λ v kind. NumberAt s at v n → Same s (λ a m x. PartIs guarded s d sc 11 place at (applied a) m x) NoStmt
-    (behindHead d w s (headH (wholeAt d (w .variables) s n) (λ m e. pickH (eqb v 0) (takenAt w s m e) (Head m e))))
+    (behindHead d w s (withHead NoHead (wholeAt d (w .variables) s n) (λ m e. cond (eqb v 0) (takenAt w s m e) (Head m e))))
     (guardOf sc inner kind n (drop n s))) guardKinds (k .value)
     (input-guard s d w sc place inner b h f i ee es at n l, (skip-guard s d w sc place inner b h f i ee es at n l, tt)) (k .listed)
     (k .there)))
@@ -211,18 +200,10 @@ guard-part s d w sc place inner b h f i ee es at l =
 pub alternative-same : (s : List ℕ) (d : ℕ) (w : Names) (sc : Scope) (place at : ℕ) (inner : Inner) → Bytes s → place ≤ at
     → Scoped w sc place
     → Fits w d → InnerIs s d → inner .expr ≡ readWhole d sc → inner .stmt ≡ readStmt d
-    → Same s (RestIs s d sc place at (countedWay 11 d)) NoStmt
-    (itemS (betweenAt 0 32 s at) (λ c m. sumS (mostFrom c 11 d w (λ i. stmtAt d w s i) s (no-part m)) (λ t. gathered 11 t)))
+    → Same s (RestIs s sc place at (countedWay 11 d)) NoStmt
+    (withItem NoStmt (betweenAt 0 32 s at) (λ c m. gathered 11 (mostFrom c 11 d w (λ i. stmtAt d w s i) s (no-part m))))
     (stmtOf place sc inner isAlt at (drop at s))
 unfolding stmtOf need processes firstDeep firstClash usage
 alternative-same s d w sc place at inner b l h f i ee es =
     counted-same guarded applied (readGuard sc inner) (λ gs. M.ALT gs) s d w sc (λ i. stmtAt d w s i) 11 place at b l
-    (record { counts = λ gs t a c x y. counts gs t a c x y; same-usage = λ gs. refl }) (guard-part s d w sc place inner b h f i ee es)
-  where
-    counts : (gs : Guards) (t : Sum) → t .most ≡ max 0 (guardNeed gs) → t .live ≡ max 0 (guardProcesses gs)
-        → t .deep ≡ first (firstDeepGuards gs)
-        → t .clash ≡ first (firstClashGuards gs) → gathered 11 t ≡ Stmt (partOf (M.ALT gs) (t .next))
-    counts gs t a c x y =
-        let words : max 4 (t .most) ≡ max 4 (guardNeed gs) = omega (arith, a) in
-        let live : max 1 (t .live) ≡ max 1 (guardProcesses gs) = omega (arith, c) in
-        rw (words, live, x, y) refl
+    (record { counts = λ gs t a c x y. rw (a, c, x, y) refl; same-usage = λ gs. refl }) (guard-part s d w sc place inner b h f i ee es)

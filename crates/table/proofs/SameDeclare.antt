@@ -3,42 +3,43 @@ use Prim.Native.Nat.{ℕ, suc, _+_, _-_, _≤_, _<_}
 use native.Mathlib.Omega.{arith}
 use mathlib.Core.Path.{_≡_, refl, sym, _∙_}
 use mathlib.Core.Logic.{_⊎_, inl, inr, ⊎-elim}
-use mathlib.Core.Bool.{Bool, true, false, _||_}
+use mathlib.Core.Bool.{_||_, or-true}
 use mathlib.Core.List.{List, _++_}
 use mathlib.Core.Option.{some}
 use lib.ListN.{length, drop, getElem?, length-append}
 use lib.Dec.{ltb, leb}
 use borrow.Author.Tests.{le-leb}
-use Rattle.model.specs.Syntax.{Site}
+use Rattle.model.specs.Syntax.{Site, declared}
 use Rattle.model.specs.Syntax as M
 use Rattle.model.specs.Reader.{onward, pure, Scope, names, withVariables, withChannels, readCount, canInput, canOutput, readStmt, Inner}
 use Rattle.model.specs.Reader.{stmtOf, isVar, isChan}
 use Rattle.model.specs.Usage.{Usage, usage, firstClash}
 use Rattle.model.specs.Counts.{firstDeep, processes, need}
-use Rattle.table.specs.Stmts.{itemS, Fits, stmtAt, declaring, moreNames}
-use Rattle.table.specs.Uses.{Used, skipAt, stmtUsed}
+use Rattle.table.specs.Stmts.{Fits, stmtAt, declaring, moreNames}
+use Rattle.table.specs.Uses.{skipAt, stmtUsed}
 use Rattle.table.specs.declared.stmt.Names.{Names}
 use Rattle.table.specs.declared.stmt.StmtRead.the-variants.{Stmt, Refused as NoStmt}
 use Rattle.table.proofs.SameItems.{Bytes, Same, gives, onwards, count-same}
-use Rattle.table.proofs.Marks.{or-true, Field, changed, used-there, inputs-of, outputs-of, names-of, Stretch, later, skip-used}
+use Rattle.table.proofs.Marks.{Field, changed, used-there, inputs-of, outputs-of, names-of, Stretch, later, skip-used}
 use Rattle.table.proofs.Marks.{InScope}
-use Rattle.numbers.specs.Items.{betweenAt}
+use Rattle.numbers.specs.Items.{betweenAt, withItem}
+use Rattle.table.proofs.SameExpr.{Way}
 use Rattle.table.proofs.SameSimple.{partOf, DeclaredIn, Within, Scoped, Outer, RestIs, StmtIs, fresh-more, own-more, below-more}
-use Rattle.table.proofs.SameSimple.{below-later, lookup-append, names-at, length-names, declared-wider}
+use Rattle.table.proofs.SameSimple.{below-later, lookup-append, numbered-at, length-numbered, declared-wider}
 
 -- the statements inside, one level down
 abbrev pub InnerIs : List ℕ → ℕ → Type 0
 InnerIs s d = (w : Names) (sc : Scope) (i : ℕ) → Scoped w sc i → Fits w d → Same s (StmtIs s d sc i) NoStmt (stmtAt d w s i)
     (readStmt d sc i (drop i s))
 
-abbrev pub declaredWay : (d : ℕ) → (vs cs : List Site) → List ℕ → ℕ → List ℕ → Used
+abbrev pub declaredWay : (d : ℕ) → Way
 declaredWay d vs cs part i l = stmtUsed d (length vs) (length cs) part (skipAt part i) l
 
 variables-in : (w : Names) (sc : Scope) (place c m : ℕ) → Scoped w sc place → place < m
     → Scoped (moreNames 5 c w) (withVariables place c sc) m
 variables-in w sc place c m h l =
     record {
-      variables = rw (h .variables) (sym (length-append (sc .variables) (names place c) ∙ rw (length-names place c) refl));
+      variables = rw (h .variables) (sym (length-append (sc .variables) (names place c) ∙ rw (length-numbered (declared place) c) refl));
       channels = h .channels;
       outer = h .outer;
       ins = h .ins;
@@ -56,7 +57,7 @@ channel-ways w sc place c i a h e =
     (λ (g : (length (sc .channels) ≤ i) × (getElem? (names place c) (i - length (sc .channels)) ≡ some a)).
     let high : w .inputs + w .outputs ≤ i = omega (arith, h .outer, h .channels, g .0) in
     rw (
-      names-at place c (i - length (sc .channels)) a (g .1) .0,
+      numbered-at (declared place) c (i - length (sc .channels)) a (g .1) .0,
       le-leb (w .inputs + w .outputs) i high,
       le-leb (w .inputs) i
           (omega (arith, high)),
@@ -70,7 +71,7 @@ channels-in : (w : Names) (sc : Scope) (place c m : ℕ) → Scoped w sc place �
 channels-in w sc place c m h l =
     record {
       variables = h .variables;
-      channels = rw (h .channels) (sym (length-append (sc .channels) (names place c) ∙ rw (length-names place c) refl));
+      channels = rw (h .channels) (sym (length-append (sc .channels) (names place c) ∙ rw (length-numbered (declared place) c) refl));
       outer = omega (arith, h .outer);
       ins = λ i a e. channel-ways w sc place c i a h e .0;
       outs = λ i a e. channel-ways w sc place c i a h e .1;
@@ -86,7 +87,7 @@ within-new : (names1 : List Site) (place c k n : ℕ) (x : Site) → place < n �
 within-new names1 place c k n x l e =
     ⊎-elim (λ (h : getElem? names1 k ≡ some x). inl (k, h))
     (λ (h : (length names1 ≤ k) × (getElem? (names place c) (k - length names1) ≡ some x)).
-    let new = names-at place c (k - length names1) x (h .1) in inr (rw (new .0) (omega arith, l)))
+    let new = numbered-at (declared place) c (k - length names1) x (h .1) in inr (rw (new .0) (omega arith, l)))
     (lookup-append names1 (names place c) k x e)
 
 outer-variables : (sc : Scope) (place c m : ℕ) (vs cs : List Site) → place ≤ m → Outer sc place vs cs
@@ -125,11 +126,11 @@ record Declares (s : List ℕ) (d : ℕ) (w : Names) (sc : Scope) (place kind : 
 declare-same : (s : List ℕ) (d : ℕ) (w : Names) (sc : Scope) (place kind : ℕ) (more : ℕ → Scope) (of : ℕ → M.Stmt → M.Stmt) (at : ℕ)
     → Bytes s
     → place < at → InnerIs s d → Declares s d w sc place kind more of
-    → Same s (RestIs s d sc place at (declaredWay d)) NoStmt
-    (itemS (betweenAt 1 32 s at) (λ c m. declaring c (stmtAt d (moreNames kind c w) s m)))
+    → Same s (RestIs s sc place at (declaredWay d)) NoStmt
+    (withItem NoStmt (betweenAt 1 32 s at) (λ c m. declaring c (stmtAt d (moreNames kind c w) s m)))
     (onward (readCount 1 32 at (drop at s)) (λ c. λ i bytes. onward (readStmt d (more c) i bytes) (λ st. pure (of c st))))
 declare-same s d w sc place kind more of at b l inner h =
-    onwards (λ x. itemS x (λ c m. declaring c (stmtAt d (moreNames kind c w) s m))) _ (count-same 1 32 s at b)
+    onwards (λ x. withItem NoStmt x (λ c m. declaring c (stmtAt d (moreNames kind c w) s m))) _ (count-same 1 32 s at b)
     (λ c m y k q. rw (k .found) (
     onwards (λ x. declaring c x) (λ st. pure (of c st))
     (inner (moreNames kind c w) (more c) m (h .scoped c m (omega (arith, l, k .there .ahead))) (h .fits c (k .most)))
@@ -174,8 +175,8 @@ within-channels sc place c m n u l k w = record { each-in = λ f x e. one f x (w
 
 pub variables-same : (s : List ℕ) (d : ℕ) (w : Names) (sc : Scope) (place at : ℕ) (inner : Inner) → Bytes s → place < at → Scoped w sc place
     → Fits w (suc d) → InnerIs s d → inner .stmt ≡ readStmt d
-    → Same s (RestIs s d sc place at (declaredWay d)) NoStmt
-    (itemS (betweenAt 1 32 s at) (λ c m. declaring c (stmtAt d (moreNames 5 c w) s m)))
+    → Same s (RestIs s sc place at (declaredWay d)) NoStmt
+    (withItem NoStmt (betweenAt 1 32 s at) (λ c m. declaring c (stmtAt d (moreNames 5 c w) s m)))
     (stmtOf place sc inner isVar at (drop at s))
 unfolding stmtOf need processes firstDeep firstClash usage
 variables-same s d w sc place at inner b l h f i e =
@@ -192,8 +193,8 @@ variables-same s d w sc place at inner b l h f i e =
 
 pub channels-same : (s : List ℕ) (d : ℕ) (w : Names) (sc : Scope) (place at : ℕ) (inner : Inner) → Bytes s → place < at → Scoped w sc place
     → Fits w (suc d) → InnerIs s d → inner .stmt ≡ readStmt d
-    → Same s (RestIs s d sc place at (declaredWay d)) NoStmt
-    (itemS (betweenAt 1 32 s at) (λ c m. declaring c (stmtAt d (moreNames 6 c w) s m)))
+    → Same s (RestIs s sc place at (declaredWay d)) NoStmt
+    (withItem NoStmt (betweenAt 1 32 s at) (λ c m. declaring c (stmtAt d (moreNames 6 c w) s m)))
     (stmtOf place sc inner isChan at (drop at s))
 unfolding stmtOf need processes firstDeep firstClash usage
 channels-same s d w sc place at inner b l h f i e =

@@ -2,7 +2,7 @@
 use Prim.Native.Nat.{ℕ, zero, suc, _-_, _<_}
 use native.Mathlib.Omega.{arith}
 use mathlib.Core.Path.{_≡_, refl}
-use mathlib.Core.Bool.{true}
+use mathlib.Core.Bool.{true, cond}
 use mathlib.Core.List.{List, []}
 use lib.ListN.{length, drop}
 use lib.Seq.{slice}
@@ -15,9 +15,9 @@ use Rattle.model.specs.Reader.{operators, exprOf, readExpr}
 use Rattle.model.specs.Usage.{Usage, isIn, reads}
 use Rattle.model.proofs.Cases.{never}
 use Rattle.model.specs.Counts.{registers}
-use Rattle.numbers.specs.Items.{betweenAt, nameAt}
-use Rattle.table.specs.Exprs.{pickE, withItem, withExpr, leafAt, joined, sides, exprAt}
-use Rattle.table.specs.Uses.{Used, used, pickU, skipAt, thenUsed, nameUsed, exprUsed}
+use Rattle.numbers.specs.Items.{betweenAt, nameAt, withItem}
+use Rattle.table.specs.Exprs.{withExpr, leafAt, joined, sides, exprAt}
+use Rattle.table.specs.Uses.{Used, used, skipAt, thenUsed, nameUsed, exprUsed}
 use Rattle.numbers.specs.declared.Item.the-variants.{Refused}
 use Rattle.table.specs.declared.expr.ExprRead.{ExprRead}
 use Rattle.table.specs.declared.expr.ExprRead.the-variants.{Expr, Refused as NoExpr}
@@ -30,32 +30,33 @@ use Rattle.table.proofs.Marks.{skip-used, InScope, or-cases, in-one, is
 abbrev pub readsOnly : M.Expr → Usage
 readsOnly e = record { changes = []; uses = reads e; inputs = []; outputs = [] }
 
+-- a way to use a part of a stretch, from a place on: the place after it, and the sets
+abbrev pub Way : Type 0
+Way = (vs cs : List Site) → List ℕ → ℕ → List ℕ → Used
+
 -- a way to use the part of a table from a place up to another, as a usage says, in every stretch that has it
-abbrev pub UsesAs : List ℕ → Scope → (at n : ℕ) → Usage → ((vs cs : List Site) → List ℕ → ℕ → List ℕ → Used) → Type 0
+abbrev pub UsesAs : List ℕ → Scope → (at n : ℕ) → Usage → Way → Type 0
 UsesAs s names at n u way =
     (vs cs : List Site) (from to : ℕ) (l : List ℕ) → Fresh vs (names .variables) → Fresh cs (names .channels)
     → Stretch s vs cs at n from to l → UsedAs vs cs l u n from (way vs cs (slice from to s) (at - from) l)
 
 -- an expression: its registers, its end and what it reads
-pub record ExprIs (s : List ℕ) (d : ℕ) (names : Scope) (at : ℕ) (e : M.Expr) (n : ℕ) (x : ExprRead) : Type 0 where
+pub record ExprIs (s : List ℕ) (names : Scope) (at : ℕ) (way : Way) (e : M.Expr) (n : ℕ) (x : ExprRead) : Type 0 where
   pub is : x ≡ Expr n (registers e)
   pub ahead : at < n
-  pub uses : UsesAs s names at n (readsOnly e) (λ vs cs part i l. exprUsed d (length vs) part i l)
+  pub uses : UsesAs s names at n (readsOnly e) way
   pub within : (x : Site) → isIn x (reads e) ≡ true → InScope (names .variables) x
 
--- what follows an expression's kind
-abbrev afterKind : (d limit kind : ℕ) → List ℕ → ℕ → List ℕ → Used
-afterKind d limit k part n l =
-    pickU (eqb k 0) (used (skipAt part n) l)
-    (pickU (eqb k 1) (nameUsed 1024 limit part n l)
-    (pickU (eqb k 2) (exprUsed d limit part n l)
-    (thenUsed (exprUsed d limit part (skipAt part n) l) (λ m k2. exprUsed d limit part m k2))))
+abbrev pub exprWay : (d : ℕ) → Way
+exprWay d vs cs part i l = exprUsed d (length vs) part i l
 
-record RestIs (s : List ℕ) (d : ℕ) (names : Scope) (kind at : ℕ) (e : M.Expr) (n : ℕ) (x : ExprRead) : Type 0 where
-  is : x ≡ Expr n (registers e)
-  ahead : at < n
-  uses : UsesAs s names at n (readsOnly e) (λ vs cs part i l. afterKind d (length vs) kind part i l)
-  within : (x : Site) → isIn x (reads e) ≡ true → InScope (names .variables) x
+-- what follows an expression's kind
+abbrev restWay : (d kind : ℕ) → Way
+restWay d k vs cs part n l =
+    cond (eqb k 0) (used (skipAt part n) l)
+    (cond (eqb k 1) (nameUsed 1024 (length vs) part n l)
+    (cond (eqb k 2) (exprUsed d (length vs) part n l)
+    (thenUsed (exprUsed d (length vs) part (skipAt part n) l) (λ m j. exprUsed d (length vs) part m j))))
 
 pub variable-same : (vs : List Site) (s : List ℕ) (at : ℕ) → Bytes s
     → Same s (Listed s at vs) Refused (nameAt (length vs) 0 0 s at) (readName anySite vs at (drop at s))
@@ -63,10 +64,10 @@ variable-same vs s at b =
     name-same anySite vs 0 0 s at b (λ i a e. rw (le-ltb i 0 (omega arith), le-leb 0 i (omega arith)) refl)
 
 constant-same : (d : ℕ) (names : Scope) (inner : Reader M.Expr) (vs : ℕ) (s : List ℕ) (at : ℕ) → Bytes s
-    → Same s (RestIs s d names 0 at) NoExpr (leafAt 0 vs s at) (exprOf names inner isConstant at (drop at s))
+    → Same s (ExprIs s names at (restWay d 0)) NoExpr (leafAt 0 vs s at) (exprOf names inner isConstant at (drop at s))
 unfolding leafAt exprOf registers reads isIn
 constant-same d names inner vs s at b =
-    onwards (λ i. withItem i (λ v n. Expr n 1)) (λ v. pure (constant v)) (word-same s at b)
+    onwards (λ i. withItem NoExpr i (λ v n. Expr n 1)) (λ v. pure (constant v)) (word-same s at b)
     (λ v n y h e. rw (h .found) (gives (constant v) n _
     (record {
       is = refl;
@@ -77,10 +78,11 @@ constant-same d names inner vs s at b =
     (λ j p. refl)
 
 leaf-same : (d : ℕ) (names : Scope) (inner : Reader M.Expr) (s : List ℕ) (at : ℕ) → Bytes s
-    → Same s (RestIs s d names 1 at) NoExpr (leafAt 1 (length (names .variables)) s at) (exprOf names inner isVariable at (drop at s))
+    → Same s (ExprIs s names at (restWay d 1)) NoExpr (leafAt 1 (length (names .variables)) s at)
+    (exprOf names inner isVariable at (drop at s))
 unfolding leafAt exprOf registers reads
 leaf-same d names inner s at b =
-    onwards (λ i. withItem i (λ v n. Expr n 1)) (λ x. pure (variable x)) (variable-same (names .variables) s at b)
+    onwards (λ i. withItem NoExpr i (λ v n. Expr n 1)) (λ x. pure (variable x)) (variable-same (names .variables) s at b)
     (λ x n y h e. rw (h .found) (gives (variable x) n _
     (record {
       is = refl;
@@ -91,22 +93,22 @@ leaf-same d names inner s at b =
     (λ j p. refl)
 
 abbrev InnerSame : List ℕ → ℕ → Scope → (ℕ → ExprRead) → Reader M.Expr → Type 0
-InnerSame s d names inner reader = (i : ℕ) → Same s (ExprIs s d names i) NoExpr (inner i) (reader i (drop i s))
+InnerSame s d names inner reader = (i : ℕ) → Same s (ExprIs s names i (exprWay d)) NoExpr (inner i) (reader i (drop i s))
 
 not-same : (d : ℕ) (names : Scope) (inner : ℕ → ExprRead) (reader : Reader M.Expr) (s : List ℕ) (at : ℕ) → InnerSame s d names inner reader
-    → Same s (RestIs s d names 2 at) NoExpr (inner at) (exprOf names reader isNot at (drop at s))
+    → Same s (ExprIs s names at (restWay d 2)) NoExpr (inner at) (exprOf names reader isNot at (drop at s))
 unfolding exprOf registers reads
 not-same d names inner reader s at h =
     onwards (λ y. y) (λ e. pure (NOT e)) (h at)
     (λ e n y k q. gives (NOT e) n y (record { is = k .is; ahead = k .ahead; uses = k .uses; within = k .within })) (λ j p. refl)
 
 -- left, then right
-both-uses : {s : List ℕ} {d : ℕ} {names : Scope} {at n m i : ℕ} {o : ℕ} {l r : M.Expr} {x y : ExprRead} (op : M.Operator)
+both-uses : {s : List ℕ} {names : Scope} {at n m i : ℕ} {o : ℕ} {l r : M.Expr} {x y : ExprRead} (d : ℕ) (op : M.Operator)
     → NumberAt s at o n
-    → ExprIs s d names n l m x → ExprIs s d names m r i y
-    → UsesAs s names at i (readsOnly (binary op l r)) (λ vs cs part i l. afterKind d (length vs) 3 part i l)
+    → ExprIs s names n (exprWay d) l m x → ExprIs s names m (exprWay d) r i y
+    → UsesAs s names at i (readsOnly (binary op l r)) (restWay d 3)
 unfolding reads
-both-uses {s} {d} {at = at} {n} {m} {i} op t kl kr vs cs from to marks fv fc st =
+both-uses {s} {at = at} {n} {m} {i} d op t kl kr vs cs from to marks fv fc st =
     let here : Stretch s vs cs at n from to marks = later st (omega arith) (omega (arith, kl .ahead, kr .ahead)) refl in
     let left : Stretch s vs cs n m from to marks = later st (omega (arith, t .ahead)) (omega (arith, kr .ahead)) refl in
     let first = kl .uses vs cs from to marks fv fc left in
@@ -117,20 +119,20 @@ both-uses {s} {d} {at = at} {n} {m} {i} op t kl kr vs cs from to marks fv fc st 
 
 binary-same : (d : ℕ) (names : Scope) (inner : ℕ → ExprRead) (reader : Reader M.Expr) (s : List ℕ) (at : ℕ) → Bytes s
     → InnerSame s d names inner reader
-    → Same s (RestIs s d names 3 at) NoExpr (withItem (betweenAt 0 7 s at) (λ o m. sides inner m))
+    → Same s (ExprIs s names at (restWay d 3)) NoExpr (withItem NoExpr (betweenAt 0 7 s at) (λ o m. sides inner m))
     (exprOf names reader isBinary at (drop at s))
 unfolding exprOf registers reads
 binary-same d names inner reader s at b h =
-    onwards (λ i. withItem i (λ o m. sides inner m)) _ (one-same operators 7 s at b refl)
+    onwards (λ i. withItem NoExpr i (λ o m. sides inner m)) _ (one-same operators 7 s at b refl)
     (λ op n y k q. rw (k .found) (
-    onwards (λ x. withExpr x (λ n l. withExpr (inner n) (λ m r. Expr m (joined l r)))) _ (h n)
+    onwards (λ x. withExpr NoExpr x (λ n l. withExpr NoExpr (inner n) (λ m r. Expr m (joined l r)))) _ (h n)
     (λ l m z kl ql. rw (kl .is) (
-    onwards (λ x. withExpr x (λ i r. Expr i (joined (registers l) r))) (λ r. pure (binary op l r)) (h m)
+    onwards (λ x. withExpr NoExpr x (λ i r. Expr i (joined (registers l) r))) (λ r. pure (binary op l r)) (h m)
     (λ r i u kr qr. rw (kr .is) (gives (binary op l r) i _
     (record {
       is = refl;
       ahead = omega (arith, k .there .ahead, kl .ahead, kr .ahead);
-      uses = both-uses op (k .there) kl kr;
+      uses = both-uses d op (k .there) kl kr;
       within =
           λ x a.
           or-cases (isIn x (reads l)) (isIn x (reads r)) (rw (isIn-append x (reads l) (reads r)) at a) (kl .within x) (kr .within x);
@@ -140,15 +142,16 @@ binary-same d names inner reader s at b h =
     (λ j p. refl)
 
 pub expr-same : (d : ℕ) (names : Scope) (s : List ℕ) (at : ℕ) → Bytes s
-    → Same s (ExprIs s d names at) NoExpr (exprAt d (length (names .variables)) s at) (readExpr d names at (drop at s))
+    → Same s (ExprIs s names at (exprWay d)) NoExpr (exprAt d (length (names .variables)) s at) (readExpr d names at (drop at s))
 unfolding exprAt readExpr exprUsed
-expr-same zero names s at b = deep-same (ExprIs s zero names at) NoExpr (λ i. withItem i (λ v n. Expr n 1)) s at b (λ j p. refl)
+expr-same zero names s at b =
+    deep-same (ExprIs s names at (exprWay zero)) NoExpr (λ i. withItem NoExpr i (λ v n. Expr n 1)) s at b (λ j p. refl)
 expr-same (suc d) names s at b =
     let inner : InnerSame s d names (λ i. exprAt d (length (names .variables)) s i) (readExpr d names) = λ i. expr-same d names s i b in
-    onwards (λ x. withItem x (λ k n. kinds k n)) (λ k. exprOf names (readExpr d names) k) (one-same exprKinds 3 s at b refl)
+    onwards (λ x. withItem NoExpr x (λ k n. kinds k n)) (λ k. exprOf names (readExpr d names) k) (one-same exprKinds 3 s at b refl)
     (λ kind n y k q. rw (k .found) (with-kind (k .value) n _ _ (k .there) (
-    each (λ v kind. Same s (RestIs s d names v n) NoExpr (kinds v n) (exprOf names (readExpr d names) kind n (drop n s))) exprKinds
-    (k .value) (
+    each (λ v kind. Same s (ExprIs s names n (restWay d v)) NoExpr (kinds v n) (exprOf names (readExpr d names) kind n (drop n s)))
+    exprKinds (k .value) (
       constant-same d names (readExpr d names) (length (names .variables)) s n b,
       (
         leaf-same d names (readExpr d names) s n b,
@@ -162,12 +165,12 @@ expr-same (suc d) names s at b =
   where
     kinds : ℕ → ℕ → ExprRead
     kinds k n =
-        pickE (ltb k 2) (leafAt k (length (names .variables)) s n)
-        (pickE (eqb k 2) (exprAt d (length (names .variables)) s n)
-        (withItem (betweenAt 0 7 s n) (λ o m. sides (λ i. exprAt d (length (names .variables)) s i) m)))
+        cond (ltb k 2) (leafAt k (length (names .variables)) s n)
+        (cond (eqb k 2) (exprAt d (length (names .variables)) s n)
+        (withItem NoExpr (betweenAt 0 7 s n) (λ o m. sides (λ i. exprAt d (length (names .variables)) s i) m)))
 
-    with-kind : (k n : ℕ) (x : ExprRead) (r : Parsed M.Expr) → NumberAt s at k n → Same s (RestIs s d names k n) NoExpr x r
-        → Same s (ExprIs s (suc d) names at) NoExpr x r
+    with-kind : (k n : ℕ) (x : ExprRead) (r : Parsed M.Expr) → NumberAt s at k n → Same s (ExprIs s names n (restWay d k)) NoExpr x r
+        → Same s (ExprIs s names at (exprWay (suc d))) NoExpr x r
     with-kind k n x r t (gives e m y h) =
         gives e m y
         (record {

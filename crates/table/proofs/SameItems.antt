@@ -6,7 +6,7 @@ use native.Mathlib.Nat.{pow-suc, pow-le-pow-right}
 use native.Mathlib.Decide.{decLe}
 use mathlib.Core.Path.{_≡_, refl, sym, ap, _∙_}
 use mathlib.Core.Logic.{_≢_, _⊎_, inl, inr, ⊎-elim}
-use mathlib.Core.Bool.{Bool, true, false, cond, _&&_, _||_}
+use mathlib.Core.Bool.{Bool, true, false, cond, _&&_, _||_, and-false}
 use mathlib.Core.List.{List, [], _∷_}
 use mathlib.Core.Option.{Option, none, some, Option·some-injective}
 use lib.ListN.{length, getD, drop, getElem?, drop-of-length-le}
@@ -20,7 +20,7 @@ use Rattle.model.specs.Reader.{Parsed, parsed, fails, Reader, onward, pure, ref
 use Rattle.model.proofs.Readers.{number-sized}
 use Rattle.model.proofs.Points.{getElem-inside as inside}
 use Rattle.model.proofs.Cases.{by-bool, by-option, never}
-use Rattle.numbers.specs.Items.{groupsAt, grouped, pickN, pickI, betweenAt, nameAt, deepAt}
+use Rattle.numbers.specs.Items.{groupsAt, grouped, betweenAt, nameAt, deepAt}
 use Rattle.numbers.specs.declared.NumberRead.{NumberRead}
 use Rattle.numbers.specs.declared.NumberRead.the-variants.{Number, Bad}
 use Rattle.numbers.specs.declared.Item.{Item}
@@ -33,7 +33,7 @@ Bytes s = (i : ℕ) → getD s i 0 < 256
 -- a number as the reader answers it where it has at most k bytes and is below 2 ^ 32
 abbrev capped : (k at : ℕ) → Option N.Number → NumberRead
 capped k at none = Bad
-capped k at (some n) = pickN (leb (n .size) k && ltb (n .value) (2 ^ 32)) (Number (n .value) (at + n .size)) Bad
+capped k at (some n) = cond (leb (n .size) k && ltb (n .value) (2 ^ 32)) (Number (n .value) (at + n .size)) Bad
 
 -- one group behind another
 grouped-is : (b : ℕ) (m : N.Number) (k at : ℕ) → b < 256 → 128 ≤ b → m .value ≢ 0
@@ -62,7 +62,7 @@ grouped-is b m k at hb lb nz =
     rw (e, fits, le-ltb (b - 128 + 128 * m .value) (2 ^ 32) (omega arith)) (too-large (ltb (m .value) (2 ^ 32)) f)))
     (λ e. rw (e, lt-leb (suc (m .size)) (suc k) (omega (arith, leb-false (m .size) k e))))
   where
-    too-large : (t : Bool) → ltb (m .value) (2 ^ 25) ≡ false → grouped b (pickN t (Number (m .value) (at + 1 + m .size)) Bad) ≡ Bad
+    too-large : (t : Bool) → ltb (m .value) (2 ^ 25) ≡ false → grouped b (cond t (Number (m .value) (at + 1 + m .size)) Bad) ≡ Bad
     too-large true f = rw (ne-eqb (m .value) 0 nz, f)
     too-large false f = refl
 
@@ -115,12 +115,12 @@ groups-capped (suc k) s at b =
     (λ e. rw (e, drop-cons s at 0 (leb-false (length s) at e)) (one (rw (add-one at) at (groups-capped k s (at + 1) b))))
   where
     zeroed : (t : Bool) (m : N.Number) → eqb (m .value) 0 ≡ true
-        → grouped (getD s at 0) (pickN t (Number (m .value) (suc at + m .size)) Bad) ≡ Bad
+        → grouped (getD s at 0) (cond t (Number (m .value) (suc at + m .size)) Bad) ≡ Bad
     zeroed true m v = rw v
     zeroed false m v = refl
 
     one : groupsAt k s (suc at) ≡ capped k (suc at) (groups (drop (suc at) s))
-        → pickN (ltb (getD s at 0) 128) (Number (getD s at 0) (at + 1)) (grouped (getD s at 0) (groupsAt k s (at + 1)))
+        → cond (ltb (getD s at 0) 128) (Number (getD s at 0) (at + 1)) (grouped (getD s at 0) (groupsAt k s (at + 1)))
         ≡ capped (suc k) at (groups (getD s at 0 ∷ drop (suc at) s))
     one ih = by-bool (ltb (getD s at 0) 128)
         (λ f. rw (f, le-leb 1 (suc k) (omega arith), lt-ltb (getD s at 0) (2 ^ 32) (omega (arith, b at))))
@@ -140,16 +140,12 @@ number-same : (s : List ℕ) (at : ℕ) → Bytes s → groupsAt 5 s at ≡ answ
 unfolding number
 number-same s at b = groups-capped 5 s at b ∙ by-option (groups (drop at s)) (λ e. rw e) (λ n e. rw e (cut n (shaped (drop at s) n e)))
   where
-    off : (t : Bool) (x : NumberRead) → pickN (t && false) x Bad ≡ Bad
-    off true x = refl
-    off false x = refl
-
     cut : (n : N.Number) → Shaped n
-        → pickN (leb (n .size) 5 && ltb (n .value) (2 ^ 32)) (Number (n .value) (at + n .size)) Bad
+        → cond (leb (n .size) 5 && ltb (n .value) (2 ^ 32)) (Number (n .value) (at + n .size)) Bad
         ≡ answer at (cond (ltb (n .value) (2 ^ 32)) (some n) none)
     cut n h = by-bool (ltb (n .value) (2 ^ 32))
         (λ e. rw (e, le-leb (n .size) 5 (five n h (ltb-true _ _ e))))
-        (λ e. rw e (off (leb (n .size) 5) _))
+        (λ e. rw (e, and-false (leb (n .size) 5)))
 
 -- a part read by the model and its answer here: from the place after it on the bytes are those of the table, and the answer is related to
 -- what was read; a refusal is the same refusal
@@ -201,7 +197,7 @@ count-same lo hi s at b =
     (λ n e. rw (number-same s at b, e, drop-drop (n .size) at s) (one n (number-at s at n b e)))
   where
     one : (n : N.Number) → NumberAt s at (n .value) (at + n .size) → Same s (Counted s at lo hi) Refused
-        (pickI (ltb (n .value) lo) (Refused 3 at) (pickI (ltb hi (n .value)) (Refused 3 at) (Found (n .value) (at + n .size))))
+        (cond (ltb (n .value) lo) (Refused 3 at) (cond (ltb hi (n .value)) (Refused 3 at) (Found (n .value) (at + n .size))))
         (cond {A = Reader ℕ} (leb lo (n .value) && leb (n .value) hi) (pure (n .value)) (refuse 3 at) (at + n .size)
         (drop (at + n .size) s))
     one n t =
@@ -261,8 +257,8 @@ name-same fits names from to s at b ways =
   where
     one : (n : N.Number) (a : Site) → getElem? names (n .value) ≡ some a → NumberAt s at (n .value) (at + n .size)
         → Same s (Listed s at names) Refused
-        (pickI (ltb (n .value) from) (Found (n .value) (at + n .size))
-        (pickI (ltb (n .value) to) (Refused 5 at) (Found (n .value) (at + n .size))))
+        (cond (ltb (n .value) from) (Found (n .value) (at + n .size))
+        (cond (ltb (n .value) to) (Refused 5 at) (Found (n .value) (at + n .size))))
         (cond {A = Reader Site} (ltb (n .value) from || leb to (n .value)) (pure a) (refuse 5 at) (at + n .size) (drop (at + n .size) s))
     one n a f t =
         by-bool (ltb (n .value) from)

@@ -6,13 +6,11 @@ use mathlib.Core.List.{List}
 use mathlib.Core.Option.{Option, none, some}
 use lib.ListN.{length, drop}
 use lib.Seq.{slice}
-use Rattle.model.specs.Syntax.{Site}
-use Rattle.model.specs.Syntax as M
 use Rattle.model.specs.Reader.{Reader, pure, Scope, readMany}
 use Rattle.model.specs.Usage.{Usage, nothing, _⊕_, orElse}
 use Rattle.model.specs.Counts.{processes}
-use Rattle.table.specs.Stmts.{firstOf, stmtT, behind, added, partAt, mostFrom}
-use Rattle.table.specs.Uses.{Used, thenUsed, stmtUsed, headUsed, repeated}
+use Rattle.table.specs.Stmts.{firstOf, added, partAt, mostFrom, withStmt}
+use Rattle.table.specs.Uses.{thenUsed, stmtUsed, headUsed, repeated}
 use Rattle.table.specs.declared.stmt.Names.{Names}
 use Rattle.table.specs.declared.stmt.First.{First}
 use Rattle.table.specs.declared.stmt.First.the-variants.{Nowhere, At}
@@ -24,6 +22,7 @@ use Rattle.table.proofs.Marks.{Stretch, marked-nothing, later}
 use Rattle.table.specs.declared.stmt.Sum.{Sum}
 use Rattle.table.specs.declared.stmt.SumRead.{SumRead}
 use Rattle.table.specs.declared.stmt.SumRead.the-variants.{Sum as Total, Refused as NoSum}
+use Rattle.table.proofs.SameExpr.{Way}
 use Rattle.table.proofs.SameSimple.{first, Within, UsesFrom, wider, within-both, within-nothing, use-both}
 
 pub firstOf-nowhere : (a : First) → firstOf a Nowhere ≡ a
@@ -52,7 +51,7 @@ pub record Counting (L : Type 0) : Type 0 where
   pub no-clashes : clashes empty ≡ none
   pub no-usages : usages empty ≡ nothing
 
-abbrev pub partWay : (kind d : ℕ) → (vs cs : List Site) → List ℕ → ℕ → List ℕ → Used
+abbrev pub partWay : (kind d : ℕ) → Way
 partWay kind d vs cs part i j =
     thenUsed (headUsed kind d (length vs) (length cs) part i j) (λ m k. stmtUsed d (length vs) (length cs) part m k)
 
@@ -74,7 +73,7 @@ pub record PartIs {L : Type 0} (K : Counting L) (s : List ℕ) (d : ℕ) (sc : S
   pub uses : UsesFrom s sc place at n use-of (partWay kind d)
   pub within : Within sc place n use-of
 
-abbrev pub manyWay : (count kind d : ℕ) → (vs cs : List Site) → List ℕ → ℕ → List ℕ → Used
+abbrev pub manyWay : (count kind d : ℕ) → Way
 manyWay c kind d vs cs part i j =
     repeated (λ m k. headUsed kind d (length vs) (length cs) part m k) (λ m k. stmtUsed d (length vs) (length cs) part m k) c i j
 
@@ -115,7 +114,7 @@ many-same K more part s d w sc inner zero kind place t l parts =
       within = rw (K .no-usages) (within-nothing sc place (t .next));
     })
 many-same {L = L} K more part s d w sc inner (suc i) kind place t l parts =
-    onwards (λ x. stmtT x (λ p. mostFrom i kind d w inner s (added t p))) _ (parts (t .next) l)
+    onwards (λ x. withStmt NoSum x (λ p. mostFrom i kind d w inner s (added t p))) _ (parts (t .next) l)
     (λ a n y k q.
     let p : Part = record { next = n; words = k .words; processes = k .processes; deep = k .deep; clash = k .clash } in
     rw (k .is) (

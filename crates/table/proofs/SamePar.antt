@@ -3,33 +3,30 @@ use Prim.Native.Nat.{ℕ, zero, suc, _+_, _-_, _≤_, max}
 use native.Mathlib.Omega.{arith}
 use mathlib.Core.Path.{_≡_, refl, sym, _∙_}
 use mathlib.Core.Logic.{_⊎_, inl, inr}
-use mathlib.Core.Bool.{Bool, _||_}
+use mathlib.Core.Bool.{Bool, _||_, or-false, or-assoc}
 use mathlib.Core.List.{List}
-use mathlib.Core.Option.{some}
 use lib.ListN.{length, drop, replicate, length-replicate}
 use lib.Seq.{slice}
 use Rattle.model.proofs.Cases.{by-bool}
 use Rattle.model.specs.Syntax.{Site, inputOf, outputOf, declared, Stmts, noStmt, stmt}
 use Rattle.model.specs.Syntax as M
-use Rattle.model.specs.Reader.{pure, Scope, names, Inner, stmtOf, readMany, readStmt, isPar}
+use Rattle.model.specs.Reader.{pure, Scope, Inner, stmtOf, readMany, readStmt, isPar}
 use Rattle.model.specs.Usage.{Usage, nothing, _⊕_, usage, firstClash, usageAll, firstClashAll, clash, anyClash}
 use Rattle.model.specs.Counts.{firstDeep, processes, need, firstDeepAll, sumNeed, sumProcesses}
-use Rattle.table.specs.Stmts.{firstOf, itemS, Fits, stmtAt, stmtS, Branches, joinedBy, parOf, branchesFrom, noBranches}
+use Rattle.table.specs.Stmts.{firstOf, Fits, stmtAt, Branches, joinedBy, parOf, branchesFrom, noBranches, withStmt}
 use Rattle.table.specs.Uses.{stmtUsed, headUsed, repeated, checkedAt}
 use Rattle.table.specs.declared.stmt.Names.{Names}
-use Rattle.table.specs.declared.stmt.Part.{Part}
 use Rattle.table.specs.declared.stmt.StmtRead.{StmtRead}
 use Rattle.table.specs.declared.stmt.StmtRead.the-variants.{Stmt, Refused as NoStmt}
 use Rattle.table.proofs.SameItems.{Bytes, Same, gives, onwards, count-same, keeping}
 use Rattle.table.proofs.Marks.{changed, used-there, inputs-of, outputs-of, Stretch, marked-nothing, number-in, later, InScope}
-use Rattle.table.proofs.Marks.{or-assoc, or-false}
 use Rattle.table.specs.declared.stmt.Sum.{Sum}
 use Rattle.table.proofs.SameSimple.{first, partOf, Within, Scoped, Outer, UsesFrom, RestIs, StmtIs, wider, within-both}
 use Rattle.table.proofs.SameSimple.{within-nothing, use-both, DeclaredIn}
 use Rattle.table.proofs.SameDeclare.{InnerIs}
-use Rattle.numbers.specs.Items.{betweenAt}
+use Rattle.numbers.specs.Items.{betweenAt, withItem}
 use Rattle.table.proofs.SameMany.{first-orElse, firstOf-assoc, manyWay, firstOf-nowhere}
-use Rattle.table.proofs.Small.{Small, stmt-small}
+use Rattle.table.proofs.Small.{stmt-counts}
 use Rattle.table.proofs.Clash.{Sets, sets-nothing, sets-of-marked, sets-both, met-clash, clashesBefore, before-any}
 use Rattle.table.proofs.SameParts.{outer-later, scoped-later, countedWay}
 
@@ -100,9 +97,6 @@ record BranchesIs (s : List ℕ) (d : ℕ) (sc : Scope) (count place : ℕ) (b :
   uses : UsesFrom s sc place (b .total .next) n (usageAll ss) (manyWay count 8 d)
   within : Within sc place n (usageAll ss)
 
-inside-table : (s : List ℕ) (p : Part) (at : ℕ) → Small (Stmt p) at (length s) → p .next ≤ length s
-inside-table s p at h = h .1
-
 branches-same : (s : List ℕ) (d : ℕ) (w : Names) (sc : Scope) (i place : ℕ) (b : Branches) (u : Usage) → place ≤ b .total .next
     → Scoped w sc place → Fits w d → w .variables ≤ 1024 → w .channels ≤ 1024 → InnerIs s d
     → Sets (sc .variables) (sc .channels) u (b .before)
@@ -128,12 +122,12 @@ branches-same s d w sc zero place b u l h f fv fc inner sets within =
     })
 branches-same s d w sc (suc i) place b u l h f fv fc inner sets within =
     let from = b .total .next in
-    onwards (λ x. stmtS x (λ p. branchesFrom i d place w (λ i. stmtAt d w s i) s (joinedBy d w s b p))) _
+    onwards (λ x. withStmt NoStmt x (λ p. branchesFrom i d place w (λ i. stmtAt d w s i) s (joinedBy d w s b p))) _
     (keeping (inner w sc from (scoped-later from l h) f))
     (λ st n y kept q.
     let k = kept .0 in
     let answer : stmtAt d w s from ≡ Stmt (partOf st n) = sym (kept .1) ∙ k .is in
-    let there : n ≤ length s = inside-table s (partOf st n) from (rw answer at (stmt-small d w s from)) in
+    let there : n ≤ length s = stmt-counts {p = partOf st n} d w s from answer .1 in
     let c = branch-checked u (b .before) (b .bad) (scoped-later from l h) fv fc there sets within k in
     rw (k .is) (
     onwards (λ x. x) (λ ss. pure (stmt st ss))
@@ -168,13 +162,13 @@ branches-same s d w sc (suc i) place b u l h f fv fc inner sets within =
 
 pub par-same : (s : List ℕ) (d : ℕ) (w : Names) (sc : Scope) (place at : ℕ) (inner : Inner) → Bytes s → place ≤ at → Scoped w sc place
     → Fits w (suc d) → Fits w d → InnerIs s d → inner .stmt ≡ readStmt d
-    → Same s (RestIs s d sc place at (countedWay 8 d)) NoStmt
-    (itemS (betweenAt 0 16 s at) (λ c m. branchesFrom c d place w (λ i. stmtAt d w s i) s (noBranches m)))
+    → Same s (RestIs s sc place at (countedWay 8 d)) NoStmt
+    (withItem NoStmt (betweenAt 0 16 s at) (λ c m. branchesFrom c d place w (λ i. stmtAt d w s i) s (noBranches m)))
     (stmtOf place sc inner isPar at (drop at s))
 unfolding stmtOf need processes firstDeep firstClash usage
 par-same s d w sc place at inner b l h fits f i es =
     rw es (
-    onwards (λ x. itemS x (λ c m. branchesFrom c d place w (λ i. stmtAt d w s i) s (noBranches m))) _ (count-same 0 16 s at b)
+    onwards (λ x. withItem NoStmt x (λ c m. branchesFrom c d place w (λ i. stmtAt d w s i) s (noBranches m))) _ (count-same 0 16 s at b)
     (λ c m y k q. rw (k .found) (
     onwards (λ x. x) (λ ss. pure (M.PAR place ss))
     (branches-same s d w sc c place (noBranches m) nothing (omega (arith, l, k .there .ahead)) h f (omega (arith, fits .1))

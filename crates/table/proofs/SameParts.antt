@@ -4,7 +4,7 @@ use native.Mathlib.Omega.{arith}
 use mathlib.Core.Path.{_≡_, refl, sym, _∙_}
 use mathlib.Core.Bool.{cond}
 use mathlib.Core.List.{List, append-assoc}
-use mathlib.Core.Option.{none, some}
+use mathlib.Core.Option.{Option, none, some}
 use lib.ListN.{length, drop}
 use lib.Seq.{slice}
 use lib.Dec.{leb}
@@ -15,9 +15,9 @@ use Rattle.model.specs.Reader.{readStmt, readCount}
 use Rattle.model.specs.Usage.{Usage, _⊕_, reading, usage, orElse, firstClash, usageAll, usagePairs, firstClashAll, firstClashPairs}
 use Rattle.model.specs.Counts.{registers, firstDeep, processes, need, mostNeed, pairNeed, mostProcesses, pairProcesses, firstDeepAll}
 use Rattle.model.specs.Counts.{firstDeepPairs}
-use Rattle.table.specs.Stmts.{firstOf, itemS, headS, wholeAt, Fits, stmtAt, stmtS, stmtT, sumS, headAt, behind, nothing as no-part}
+use Rattle.table.specs.Stmts.{firstOf, wholeAt, Fits, stmtAt, headAt, behind, nothing as no-part, withHead, withStmt}
 use Rattle.table.specs.Stmts.{added, partAt, mostFrom, gathered}
-use Rattle.table.specs.Uses.{Used, used, thenUsed, exprUsed, stmtUsed, headUsed, repeated, onNumber}
+use Rattle.table.specs.Uses.{used, thenUsed, exprUsed, stmtUsed, headUsed, repeated}
 use Rattle.table.specs.declared.stmt.Names.{Names}
 use Rattle.table.specs.declared.stmt.First.the-variants.{Nowhere}
 use Rattle.table.specs.declared.stmt.StmtRead.{StmtRead}
@@ -27,11 +27,12 @@ use Rattle.table.specs.declared.stmt.HeadRead.the-variants.{Refused as N
 use Rattle.table.proofs.SameItems.{Bytes, Same, gives, onwards, count-same, mapped}
 use Rattle.table.proofs.Marks.{Stretch, number-in, later}
 use Rattle.table.specs.declared.stmt.Sum.{Sum}
-use Rattle.table.specs.declared.stmt.SumRead.the-variants.{Sum as Total}
+use Rattle.table.specs.declared.stmt.SumRead.the-variants.{Sum as Total, Refused as NoSum}
+use Rattle.table.proofs.SameExpr.{Way}
 use Rattle.table.proofs.SameSimple.{first, partOf, Within, Scoped, Outer, UsesFrom, RestIs, StmtIs, below-later, wider, within-both}
 use Rattle.table.proofs.SameSimple.{use-both, noted, WholeIs, whole-same, first-noted}
 use Rattle.table.proofs.SameDeclare.{InnerIs}
-use Rattle.numbers.specs.Items.{groupsAt, betweenAt}
+use Rattle.numbers.specs.Items.{groupsAt, betweenAt, withItem, withNumber}
 use Rattle.table.proofs.SameMany.{first-orElse, firstOf-assoc, Counting, PartIs, manyWay, many-same}
 
 pub outer-later : {sc : Scope} {place : ℕ} {vs cs : List Site} (m : ℕ) → place ≤ m → Outer sc place vs cs → Outer sc m vs cs
@@ -82,7 +83,7 @@ sequence-part : (s : List ℕ) (d : ℕ) (w : Names) (sc : Scope) (place : ℕ) 
     (readStmt d sc at (drop at s))
 unfolding partAt headAt headUsed mostNeed mostProcesses firstDeepAll firstClashAll usageAll
 sequence-part s d w sc place h f inner at l =
-    mapped (λ x. stmtS x (λ p. Stmt (behind Nowhere p))) (inner w sc at (scoped-later at l h) f)
+    mapped (λ x. withStmt NoStmt x (λ p. Stmt (behind Nowhere p))) (inner w sc at (scoped-later at l h) f)
     (λ st n y k. rw (k .is)
     (record {
       words = need st;
@@ -102,13 +103,13 @@ sequence-part s d w sc place h f inner at l =
     }))
     (λ j p. refl)
 
-abbrev pub countedWay : (kind d : ℕ) → (vs cs : List Site) → List ℕ → ℕ → List ℕ → Used
-countedWay kind d vs cs part i l = onNumber (groupsAt 5 part i) (λ c m. manyWay c kind d vs cs part m l) (used i l)
+abbrev pub countedWay : (kind d : ℕ) → Way
+countedWay kind d vs cs part i l = withNumber (used i l) (groupsAt 5 part i) (λ c m. manyWay c kind d vs cs part m l)
 
 -- what is counted over parts is what is counted of their statement
 pub record Gathers {L : Type 0} (K : Counting L) (kind : ℕ) (of : L → M.Stmt) : Type 0 where
-  pub counts : (l : L) (t : Sum) → t .most ≡ max 0 (K .needs l) → t .live ≡ max 0 (K .lives l) → t .deep ≡ first (K .deeps l)
-      → t .clash ≡ first (K .clashes l) → gathered kind t ≡ Stmt (partOf (of l) (t .next))
+  pub counts : (l : L) (t : Sum) → t .most ≡ K .needs l → t .live ≡ K .lives l → t .deep ≡ first (K .deeps l)
+      → t .clash ≡ first (K .clashes l) → gathered kind (Total t) ≡ Stmt (partOf (of l) (t .next))
   pub same-usage : (l : L) → usage (of l) ≡ K .usages l
 
 pub counted-same : {A L : Type 0} (K : Counting L) (more : A → L → L) (part : Reader A) (of : L
@@ -116,17 +117,17 @@ pub counted-same : {A L : Type 0} (K : Counting L) (more : A → L → L) (part 
     (inner : ℕ → StmtRead) (kind place at : ℕ) → Bytes s → place ≤ at → Gathers K kind of
     → ((at : ℕ) → place ≤ at
     → Same s (λ a n x. PartIs K s d sc kind place at (more a) n x) NoStmt (partAt kind d w inner s at) (part at (drop at s)))
-    → Same s (RestIs s d sc place at (countedWay kind d)) NoStmt
-    (itemS (betweenAt 0 32 s at) (λ c m. sumS (mostFrom c kind d w inner s (no-part m)) (λ t. gathered kind t)))
+    → Same s (RestIs s sc place at (countedWay kind d)) NoStmt
+    (withItem NoStmt (betweenAt 0 32 s at) (λ c m. gathered kind (mostFrom c kind d w inner s (no-part m))))
     (onward (readCount 0 32 at (drop at s)) (λ c. λ i bytes. onward (readMany (K .empty) more part c i bytes) (λ l. pure (of l))))
 counted-same K more part of s d w sc inner kind place at b l g parts =
-    onwards (λ x. itemS x (λ c m. sumS (mostFrom c kind d w inner s (no-part m)) (λ t. gathered kind t))) _ (count-same 0 32 s at b)
+    onwards (λ x. withItem NoStmt x (λ c m. gathered kind (mostFrom c kind d w inner s (no-part m)))) _ (count-same 0 32 s at b)
     (λ c m y k q. rw (k .found) (
-    onwards (λ x. sumS x (λ t. gathered kind t)) (λ l. pure (of l))
+    onwards (λ x. gathered kind x) (λ l. pure (of l))
     (many-same K more part s d w sc inner c kind place (no-part m) (omega (arith, l, k .there .ahead)) parts)
     (λ list n z r p.
-    let same-part : gathered kind (r .total) ≡ Stmt (partOf (of list) n) =
-    g .counts list (r .total) (r .most) (r .live) (r .deep) (r .clash) ∙ rw (r .next) refl in
+    let same-part : gathered kind (Total (r .total)) ≡ Stmt (partOf (of list) n) =
+    g .counts list (r .total) (r .most ∙ omega arith) (r .live ∙ omega arith) (r .deep) (r .clash) ∙ rw (r .next) refl in
     rw (r .is, same-part) (gives (of list) n (Stmt (partOf (of list) n))
     (record {
       is = refl;
@@ -142,21 +143,14 @@ counted-same K more part of s d w sc inner kind place at b l g parts =
 
 pub sequence-same : (s : List ℕ) (d : ℕ) (w : Names) (sc : Scope) (place at : ℕ) (inner : Inner) → Bytes s → place ≤ at → Scoped w sc place
     → Fits w d → InnerIs s d → inner .stmt ≡ readStmt d
-    → Same s (RestIs s d sc place at (countedWay 7 d)) NoStmt
-    (itemS (betweenAt 0 32 s at) (λ c m. sumS (mostFrom c 7 d w (λ i. stmtAt d w s i) s (no-part m)) (λ t. gathered 7 t)))
+    → Same s (RestIs s sc place at (countedWay 7 d)) NoStmt
+    (withItem NoStmt (betweenAt 0 32 s at) (λ c m. gathered 7 (mostFrom c 7 d w (λ i. stmtAt d w s i) s (no-part m))))
     (stmtOf place sc inner isSeq at (drop at s))
 unfolding stmtOf need processes firstDeep firstClash usage
 sequence-same s d w sc place at inner b l h f i e =
     rw e (
     counted-same sequence stmt (readStmt d sc) (λ ss. M.SEQ ss) s d w sc (λ i. stmtAt d w s i) 7 place at b l
-    (record { counts = λ ss t a c x y. counts ss t a c x y; same-usage = λ ss. refl }) (sequence-part s d w sc place h f i))
-  where
-    counts : (ss : Stmts) (t : Sum) → t .most ≡ max 0 (mostNeed ss) → t .live ≡ max 0 (mostProcesses ss) → t .deep ≡ first (firstDeepAll ss)
-        → t .clash ≡ first (firstClashAll ss) → gathered 7 t ≡ Stmt (partOf (M.SEQ ss) (t .next))
-    counts ss t a c x y =
-        let words : max 2 (t .most) ≡ max 2 (mostNeed ss) = omega (arith, a) in
-        let live : max 1 (t .live) ≡ max 1 (mostProcesses ss) = omega (arith, c) in
-        rw (words, live, x, y) refl
+    (record { counts = λ ss t a c x y. rw (a, c, x, y) refl; same-usage = λ ss. refl }) (sequence-part s d w sc place h f i))
 
 pub plus-assoc : (u v w : Usage) → (u ⊕ v) ⊕ w ≡ u ⊕ (v ⊕ w)
 plus-assoc u v w =
@@ -167,14 +161,24 @@ plus-assoc u v w =
       append-assoc (u .outputs) (v .outputs) (w .outputs),
     ) refl
 
-abbrev conditionWay : (d : ℕ) → (vs cs : List Site) → List ℕ → ℕ → List ℕ → Used
+-- the first expression over 3 registers: a condition, or behind it
+noted-first : (e : Whole) (a : Option ℕ)
+    → first (orElse (cond (leb (registers (e .expr)) 3) none (some (e .place))) a) ≡ firstOf (noted e) (first a)
+noted-first e a = first-orElse (cond (leb (registers (e .expr)) 3) none (some (e .place))) a ∙ rw (first-noted e)
+
+pub deeper : (e : Whole) (a b : Option ℕ)
+    → first (orElse (cond (leb (registers (e .expr)) 3) none (some (e .place))) (orElse a b))
+    ≡ firstOf (firstOf (noted e) (first a)) (first b)
+deeper e a b = noted-first e (orElse a b) ∙ rw (first-orElse a b) (sym (firstOf-assoc (noted e) (first a) (first b)))
+
+abbrev pub conditionWay : (d : ℕ) → Way
 conditionWay d vs cs part i j = thenUsed (exprUsed d (length vs) part i j) (λ m k. stmtUsed d (length vs) (length cs) part m k)
 
 -- a condition and a statement behind it
-record ConditionIs (s : List ℕ) (d : ℕ) (sc : Scope) (place at : ℕ) (e : Whole) (st : M.Stmt) (n : ℕ) : Type 0 where
-  ahead : at ≤ n
-  uses : UsesFrom s sc place at n (reading e ⊕ usage st) (conditionWay d)
-  within : Within sc place n (reading e ⊕ usage st)
+pub record ConditionIs (s : List ℕ) (d : ℕ) (sc : Scope) (place at : ℕ) (e : Whole) (st : M.Stmt) (n : ℕ) : Type 0 where
+  pub ahead : at ≤ n
+  pub uses : UsesFrom s sc place at n (reading e ⊕ usage st) (conditionWay d)
+  pub within : Within sc place n (reading e ⊕ usage st)
 
 condition-is : {s : List ℕ} {d : ℕ} {sc : Scope} {place at n m : ℕ} {e : Whole} {st : M.Stmt} {x : HeadRead} {y : StmtRead} → place ≤ at
     → WholeIs s d sc at e n x → StmtIs s d sc n st m y → ConditionIs s d sc place at e st m
@@ -195,15 +199,16 @@ pub whole-scoped : (d : ℕ) (w : Names) (sc : Scope) (s : List ℕ) (place at :
     → Same s (WholeIs s d sc at) NoHead (wholeAt d (w .variables) s at) (readWhole d sc at (drop at s))
 whole-scoped d w sc s place at b h = rw (h .variables) (whole-same d sc s at b)
 
-condition-same : {B : Type 0} (R : B → ℕ → StmtRead → Type 0) (s : List ℕ) (d : ℕ) (w : Names) (sc : Scope) (place at : ℕ)
+pub condition-same : {B : Type 0} (R : B → ℕ → StmtRead → Type 0) (s : List ℕ) (d : ℕ) (w : Names) (sc : Scope) (place at : ℕ)
     (of : Whole → M.Stmt → B) → Bytes s → place ≤ at → Scoped w sc place → Fits w d → InnerIs s d
     → ((e : Whole) (st : M.Stmt) (n : ℕ) → ConditionIs s d sc place at e st n → R (of e st) n (Stmt (behind (noted e) (partOf st n))))
-    → Same s R NoStmt (headS (wholeAt d (w .variables) s at) (λ n e. stmtS (stmtAt d w s n) (λ p. Stmt (behind e p))))
+    → Same s R NoStmt (withHead NoStmt (wholeAt d (w .variables) s at) (λ n e. withStmt NoStmt (stmtAt d w s n) (λ p. Stmt (behind e p))))
     (onward (readWhole d sc at (drop at s)) (λ e. λ i bytes. onward (readStmt d sc i bytes) (λ st. pure (of e st))))
 condition-same R s d w sc place at of b l h f inner g =
-    onwards (λ x. headS x (λ n e. stmtS (stmtAt d w s n) (λ p. Stmt (behind e p)))) _ (whole-scoped d w sc s place at b h)
+    onwards (λ x. withHead NoStmt x (λ n e. withStmt NoStmt (stmtAt d w s n) (λ p. Stmt (behind e p)))) _
+    (whole-scoped d w sc s place at b h)
     (λ e n y r q. rw (r .is) (
-    onwards (λ x. stmtS x (λ p. Stmt (behind (noted e) p))) (λ st. pure (of e st))
+    onwards (λ x. withStmt NoStmt x (λ p. Stmt (behind (noted e) p))) (λ st. pure (of e st))
     (inner w sc n (scoped-later n (omega (arith, l, r .ahead)) h) f)
     (λ st m z k p. rw (k .is) (gives (of e st) m _ (g e st m (condition-is l r k)))) (λ j p. refl)))
     (λ j p. refl)
@@ -245,37 +250,22 @@ choice-part s d w sc place inner b h f i ee es at l =
       ahead = k .ahead;
       needs = λ ps. refl;
       lives = λ ps. refl;
-      deeps = λ ps. deeper e st ps;
+      deeps = λ ps. deeper e (firstDeep st) (firstDeepPairs ps);
       clashes = λ ps. first-orElse (firstClash st) (firstClashPairs ps);
       usages = λ ps. sym (plus-assoc (reading e) (usage st) (usagePairs ps));
       uses = k .uses;
       within = k .within;
     }))
-  where
-    deeper : (e : Whole) (st : M.Stmt) (ps : Pairs)
-        → first (firstDeepPairs (pair e st ps)) ≡ firstOf (firstOf (noted e) (first (firstDeep st))) (first (firstDeepPairs ps))
-    deeper e st ps =
-        first-orElse (cond (leb (registers (e .expr)) 3) none (some (e .place))) (orElse (firstDeep st) (firstDeepPairs ps))
-        ∙ rw (first-noted e, first-orElse (firstDeep st) (firstDeepPairs ps))
-        (sym (firstOf-assoc (noted e) (first (firstDeep st)) (first (firstDeepPairs ps))))
 
 pub choice-same : (s : List ℕ) (d : ℕ) (w : Names) (sc : Scope) (place at : ℕ) (inner : Inner) → Bytes s → place ≤ at → Scoped w sc place
     → Fits w d → InnerIs s d → inner .expr ≡ readWhole d sc → inner .stmt ≡ readStmt d
-    → Same s (RestIs s d sc place at (countedWay 9 d)) NoStmt
-    (itemS (betweenAt 0 32 s at) (λ c m. sumS (mostFrom c 9 d w (λ i. stmtAt d w s i) s (no-part m)) (λ t. gathered 9 t)))
+    → Same s (RestIs s sc place at (countedWay 9 d)) NoStmt
+    (withItem NoStmt (betweenAt 0 32 s at) (λ c m. gathered 9 (mostFrom c 9 d w (λ i. stmtAt d w s i) s (no-part m))))
     (stmtOf place sc inner isIf at (drop at s))
 unfolding stmtOf need processes firstDeep firstClash usage
 choice-same s d w sc place at inner b l h f i ee es =
     counted-same choices applied (readPair sc inner) (λ ps. M.IF ps) s d w sc (λ i. stmtAt d w s i) 9 place at b l
-    (record { counts = λ ps t a c x y. counts ps t a c x y; same-usage = λ ps. refl }) (choice-part s d w sc place inner b h f i ee es)
-  where
-    counts : (ps : Pairs) (t : Sum) → t .most ≡ max 0 (pairNeed ps) → t .live ≡ max 0 (pairProcesses ps)
-        → t .deep ≡ first (firstDeepPairs ps)
-        → t .clash ≡ first (firstClashPairs ps) → gathered 9 t ≡ Stmt (partOf (M.IF ps) (t .next))
-    counts ps t a c x y =
-        let words : max 2 (t .most) ≡ max 2 (pairNeed ps) = omega (arith, a) in
-        let live : max 1 (t .live) ≡ max 1 (pairProcesses ps) = omega (arith, c) in
-        rw (words, live, x, y) refl
+    (record { counts = λ ps t a c x y. rw (a, c, x, y) refl; same-usage = λ ps. refl }) (choice-part s d w sc place inner b h f i ee es)
 
 -- a statement is at least one process
 live-some : (st : M.Stmt) → 1 ≤ processes st
@@ -295,12 +285,12 @@ live-some (M.ALT gs) = omega arith
 
 pub loop-same : (s : List ℕ) (d : ℕ) (w : Names) (sc : Scope) (place at : ℕ) (inner : Inner) → Bytes s → place ≤ at → Scoped w sc place
     → Fits w d → InnerIs s d → inner .expr ≡ readWhole d sc → inner .stmt ≡ readStmt d
-    → Same s (RestIs s d sc place at (manyWay 1 10 d)) NoStmt
-    (sumS (mostFrom 1 10 d w (λ i. stmtAt d w s i) s (no-part at)) (λ t. gathered 10 t)) (stmtOf place sc inner isWhile at (drop at s))
+    → Same s (RestIs s sc place at (manyWay 1 10 d)) NoStmt
+    (gathered 10 (mostFrom 1 10 d w (λ i. stmtAt d w s i) s (no-part at))) (stmtOf place sc inner isWhile at (drop at s))
 unfolding stmtOf partAt headAt headUsed mostFrom repeated need processes firstDeep firstClash usage
 loop-same s d w sc place at inner b l h f i ee es =
     rw (ee, es) (
-    mapped (λ x. sumS (stmtT x (λ p. Total (added (no-part at) p))) (λ t. gathered 10 t))
+    mapped (λ x. gathered 10 (withStmt NoSum x (λ p. Total (added (no-part at) p))))
     (condition-same Turn s d w sc place at (λ e st. M.WHILE e st) b l h f i (λ e st n k. (e, st, refl, refl, k)))
     (λ a n y t. one a n y t)
     (λ j p. refl))
@@ -310,19 +300,16 @@ loop-same s d w sc place at inner b l h f i ee es =
         (e : Whole) × (st : M.Stmt) × (a ≡ M.WHILE e st) × (x ≡ Stmt (behind (noted e) (partOf st n))) × ConditionIs s d sc place at e st n
 
     one : (a : M.Stmt) (n : ℕ) (y : StmtRead) → Turn a n y
-        → RestIs s d sc place at (manyWay 1 10 d) a n (sumS (stmtT y (λ p. Total (added (no-part at) p))) (λ t. gathered 10 t))
+        → RestIs s sc place at (manyWay 1 10 d) a n (gathered 10 (withStmt NoSum y (λ p. Total (added (no-part at) p))))
     one a n y t =
         let e = t .0 in
         let st = t .1 in
         let k = t .4 in
         let words : max 2 (max 0 (need st)) ≡ max 2 (need st) = omega arith in
         let live : max 1 (max 0 (processes st)) ≡ processes st = omega (arith, live-some st) in
-        let deep : firstOf (noted e) (first (firstDeep st)) ≡ first
-        (orElse (cond (leb (registers (e .expr)) 3) none (some (e .place))) (firstDeep st)) =
-        sym (first-orElse (cond (leb (registers (e .expr)) 3) none (some (e .place))) (firstDeep st) ∙ rw (first-noted e) refl) in
         rw (t .2, t .3)
         (record {
-          is = rw (words, live, deep) refl;
+          is = rw (words, live, noted-first e (firstDeep st)) refl;
           ahead = k .ahead;
           uses = k .uses;
           within = k .within;

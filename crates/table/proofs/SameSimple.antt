@@ -14,13 +14,13 @@ use Rattle.model.proofs.Points.{getElem-inside as inside}
 use Rattle.model.proofs.Cases.{by-bool, never}
 use Rattle.model.specs.Syntax.{Site, inputOf, outputOf, declared, Whole}
 use Rattle.model.specs.Syntax as M
-use Rattle.model.specs.Reader.{parsed, Reader, onward, pure, Scope, names, readName, anySite, canInput, canOutput, readWhole, Inner, stmtOf}
-use Rattle.model.specs.Reader.{isAssign, isInput, isOutput}
+use Rattle.model.specs.Reader.{parsed, Reader, onward, pure, Scope, numbered, names, readName, anySite, canInput, canOutput, readWhole}
+use Rattle.model.specs.Reader.{Inner, stmtOf, isAssign, isInput, isOutput}
 use Rattle.model.specs.Usage.{Usage, nothing, _⊕_, reading, changing, inputting, same, isIn, reads, usage, firstClash}
 use Rattle.model.specs.Counts.{registers, firstDeep, processes, need}
-use Rattle.table.specs.Stmts.{pickF, itemS, itemH, headS, wholeOf, wholeAt, variableAt, inputAt, outputAt, leaf, valueAt, takenAt}
+use Rattle.table.specs.Stmts.{wholeAt, variableAt, inputAt, outputAt, leaf, valueAt, takenAt, withHead}
 use Rattle.table.specs.Stmts.{simpleAt}
-use Rattle.table.specs.Uses.{Used, used, thenUsed, nameUsed, variableUsed, exprUsed, simpleUsed, stmtUsed}
+use Rattle.table.specs.Uses.{Used, thenUsed, nameUsed, variableUsed, exprUsed, simpleUsed, stmtUsed}
 use Rattle.numbers.specs.declared.Item.{Item}
 use Rattle.numbers.specs.declared.Item.the-variants.{Refused}
 use Rattle.table.specs.declared.stmt.Names.{Names}
@@ -33,9 +33,11 @@ use Rattle.table.specs.declared.stmt.HeadRead.{HeadRead}
 use Rattle.table.specs.declared.stmt.HeadRead.the-variants.{Head, Refused as NoHead}
 use Rattle.table.proofs.SameItems.{Bytes, Same, gives, onwards, Listed, name-same}
 use Rattle.table.proofs.Marks.{Field, changed, used-there, inputs-of, outputs-of, field, names-of, only, Fresh, UsedAs, Stretch}
-use Rattle.table.proofs.Marks.{marked-nothing, marked-both, later, name-used, variable-used, isIn-append, field-both, field-only}
-use Rattle.table.proofs.Marks.{fields, InScope, or-cases, in-one}
-use Rattle.table.proofs.SameExpr.{UsesAs, expr-same, variable-same}
+use Rattle.table.proofs.Marks.{marked-nothing, marked-both, later, name-used, variable-used, isIn-append, field-both, field-nothing}
+use Rattle.table.proofs.Marks.{field-only, fields, InScope, or-cases, in-one}
+use Rattle.table.proofs.SameExpr.{Way, UsesAs, exprWay, expr-same, variable-same}
+use Rattle.numbers.specs.Items.{withItem}
+use Rattle.table.specs.Exprs.{withExpr}
 
 abbrev pub first : Option ℕ → First
 first none = Nowhere
@@ -83,19 +85,19 @@ pub record Outer (sc : Scope) (place : ℕ) (vs cs : List Site) : Type 0 where
   pub fewer-channels : length cs ≤ length (sc .channels)
 
 -- a way to use a part, for names declared before a place
-abbrev pub UsesFrom : List ℕ → Scope → (place at n : ℕ) → Usage → ((vs cs : List Site) → List ℕ → ℕ → List ℕ → Used) → Type 0
+abbrev pub UsesFrom : List ℕ → Scope → (place at n : ℕ) → Usage → Way → Type 0
 UsesFrom s sc place at n u way =
     (vs cs : List Site) (from to : ℕ) (l : List ℕ) → Outer sc place vs cs → Stretch s vs cs at n from to l
     → UsedAs vs cs l u n from (way vs cs (slice from to s) (at - from) l)
 
 -- an expression that stands in no other
 abbrev pub noted : Whole → First
-noted e = pickF (leb (registers (e .expr)) 3) Nowhere (At (e .place))
+noted e = cond (leb (registers (e .expr)) 3) Nowhere (At (e .place))
 
 pub record WholeIs (s : List ℕ) (d : ℕ) (sc : Scope) (at : ℕ) (e : Whole) (n : ℕ) (x : HeadRead) : Type 0 where
   pub is : x ≡ Head n (noted e)
   pub ahead : at < n
-  pub uses : UsesAs s sc at n (reading e) (λ vs cs part i l. exprUsed d (length vs) part i l)
+  pub uses : UsesAs s sc at n (reading e) (exprWay d)
   pub within : (lo hi : ℕ) → Within sc lo hi (reading e)
 
 within-reads : (sc : Scope) (e : Whole) (lo hi : ℕ) → ((x : Site) → isIn x (reads (e .expr)) ≡ true → InScope (sc .variables) x)
@@ -114,7 +116,8 @@ pub whole-same : (d : ℕ) (sc : Scope) (s : List ℕ) (at : ℕ) → Bytes s
     → Same s (WholeIs s d sc at) NoHead (wholeAt d (length (sc .variables)) s at) (readWhole d sc at (drop at s))
 unfolding wholeAt readWhole
 whole-same d sc s at b =
-    onwards (λ x. wholeOf at x) (λ e. pure (record { place = at; expr = e })) (expr-same d sc s at b)
+    onwards (λ x. withExpr NoHead x (λ n r. Head n (cond (leb r 3) Nowhere (At at)))) (λ e. pure (record { place = at; expr = e }))
+    (expr-same d sc s at b)
     (λ e n y k q. rw (k .is) (gives (record { place = at; expr = e }) n _
     (record {
       is = refl;
@@ -129,27 +132,17 @@ pub first-noted : (e : Whole) → first (cond (leb (registers (e .expr)) 3) none
 first-noted e = by-bool (leb (registers (e .expr)) 3) (λ q. rw q refl) (λ q. rw q refl)
 
 -- what follows a statement's kind
-pub record RestIs (s : List ℕ) (d : ℕ) (sc : Scope) (place at : ℕ) (way : (vs cs : List Site) → List ℕ → ℕ → List ℕ → Used)
+pub record RestIs (s : List ℕ) (sc : Scope) (place at : ℕ) (way : Way)
     (st : M.Stmt) (n : ℕ) (x : StmtRead) : Type 0 where
   pub is : x ≡ Stmt (partOf st n)
   pub ahead : at ≤ n
   pub uses : UsesFrom s sc place at n (usage st) way
   pub within : Within sc place n (usage st)
 
-abbrev pub Way : Type 0
-Way = (vs cs : List Site) → List ℕ → ℕ → List ℕ → Used
-
 -- parts of usages within a scope
 pub within-nothing : (sc : Scope) (lo hi : ℕ) → Within sc lo hi nothing
 unfolding isIn
-within-nothing sc lo hi = record { each-in = λ f x e. none-in f x e }
-  where
-    none-in : (f : Field) (x : Site) → isIn x (field f nothing) ≡ true
-        → InScope (names-of f (sc .variables) (sc .channels)) x ⊎ DeclaredIn lo hi x
-    none-in changed x e = never (cc)
-    none-in used-there x e = never (cc)
-    none-in inputs-of x e = never (cc)
-    none-in outputs-of x e = never (cc)
+within-nothing sc lo hi = record { each-in = λ f x e. never (cc (rw (field-nothing f) at e)) }
 
 pub declared-wider : (x : Site) (lo hi lo2 hi2 : ℕ) → lo2 ≤ lo → hi ≤ hi2 → DeclaredIn lo hi x → DeclaredIn lo2 hi2 x
 declared-wider (inputOf k) lo hi lo2 hi2 a b d = absurd d
@@ -169,7 +162,7 @@ within-both {sc} {lo} {hi} {u} {v} a b =
           or-cases (isIn x (field f u)) (isIn x (field f v)) split (λ h. a .each-in f x h) (λ h. b .each-in f x h);
     }
 
-pub within-only : (f : Field) (sc : Scope) (lo hi k : ℕ) (x : Site) → getElem? (names-of f (sc .variables) (sc .channels)) k ≡ some x
+within-only : (f : Field) (sc : Scope) (lo hi k : ℕ) (x : Site) → getElem? (names-of f (sc .variables) (sc .channels)) k ≡ some x
     → Within sc lo hi (only f x)
 unfolding isIn
 within-only f sc lo hi k x e =
@@ -180,13 +173,13 @@ within-only f sc lo hi k x e =
           (λ a. never (cc (rw (a .empty x) at h)));
     }
 
-pub within-changing : (sc : Scope) (lo hi k : ℕ) (x : Site) → getElem? (sc .variables) k ≡ some x → Within sc lo hi (changing x)
+within-changing : (sc : Scope) (lo hi k : ℕ) (x : Site) → getElem? (sc .variables) k ≡ some x → Within sc lo hi (changing x)
 within-changing sc lo hi k x e = within-both (within-only changed sc lo hi k x e) (within-only used-there sc lo hi k x e)
 
 -- SKIP and STOP
 pub idle-same : (d : ℕ) (sc : Scope) (s : List ℕ) (place at k : ℕ) (st : M.Stmt) → ltb k 2 ≡ true → usage st ≡ nothing
     → partOf st at ≡ record { next = at; words = 2; processes = 1; deep = Nowhere; clash = Nowhere }
-    → Same s (RestIs s d sc place at (λ vs cs part i l. simpleUsed k d (length vs) (length cs) part i l)) NoStmt (leaf at 2 Nowhere)
+    → Same s (RestIs s sc place at (λ vs cs part i l. simpleUsed k d (length vs) (length cs) part i l)) NoStmt (leaf at 2 Nowhere)
     (parsed st at (drop at s))
 unfolding simpleUsed
 idle-same d sc s place at k st small none-used is =
@@ -204,7 +197,7 @@ value-same : (words d : ℕ) (sc : Scope) (s : List ℕ) (at : ℕ) (of : Whole 
     → Same s R NoStmt (valueAt words d (length (sc .variables)) s at) (onward (readWhole d sc at (drop at s)) (λ e. pure (of e)))
 unfolding valueAt
 value-same words d sc s at of R b h =
-    onwards (λ x. headS x (λ m e. leaf m words e)) (λ e. pure (of e)) (whole-same d sc s at b)
+    onwards (λ x. withHead NoStmt x (λ m e. leaf m words e)) (λ e. pure (of e)) (whole-same d sc s at b)
     (λ e n y k q. rw (k .is) (gives (of e) n (leaf n words (noted e)) (h e n y k))) (λ j p. refl)
 
 input-same : (w : Names) (sc : Scope) (place : ℕ) (s : List ℕ) (at : ℕ) → Bytes s → Scoped w sc place
@@ -224,14 +217,14 @@ abbrev pub simpleWay : (kind d : ℕ) → Way
 simpleWay k d vs cs part i l = simpleUsed k d (length vs) (length cs) part i l
 
 pub assign-same : (d : ℕ) (w : Names) (sc : Scope) (s : List ℕ) (place at : ℕ) (stmts : Scope → Reader M.Stmt) → Bytes s → Scoped w sc place
-    → Same s (RestIs s d sc place at (simpleWay 2 d)) NoStmt (simpleAt 2 d w s at)
+    → Same s (RestIs s sc place at (simpleWay 2 d)) NoStmt (simpleAt 2 d w s at)
     (stmtOf place sc (record { expr = readWhole d sc; stmt = stmts }) isAssign at (drop at s))
 unfolding simpleAt stmtOf simpleUsed need processes firstDeep firstClash usage
 assign-same d w sc s place at stmts b h =
     rw (h .variables) (
-    onwards (λ i. itemS i (λ x n. valueAt 2 d (length (sc .variables)) s n)) _ (variable-same (sc .variables) s at b)
+    onwards (λ i. withItem NoStmt i (λ x n. valueAt 2 d (length (sc .variables)) s n)) _ (variable-same (sc .variables) s at b)
     (λ x n y k q. rw (k .found) (
-    value-same 2 d sc s n (λ e. M.assign x e) (RestIs s d sc place at (simpleWay 2 d)) b (λ e m z r.
+    value-same 2 d sc s n (λ e. M.assign x e) (RestIs s sc place at (simpleWay 2 d)) b (λ e m z r.
     record {
       is = rw (first-noted e) refl;
       ahead = omega (arith, k .there .ahead, r .ahead);
@@ -257,9 +250,9 @@ pub taken-onward : {B Y : Type 0} {Q : B → ℕ → Y → Type 0} {g : ℕ → 
     (λ ch. λ i bytes. onward (readName anySite (sc .variables) i bytes) (λ x. k ch x)))
 unfolding takenAt
 taken-onward w sc s place at e c k b h f r =
-    onwards (λ i. c (itemH i (λ ch n. itemH (variableAt w s n) (λ x m. Head m e)))) _ (input-same w sc place s at b h)
+    onwards (λ i. c (withItem NoHead i (λ ch n. withItem NoHead (variableAt w s n) (λ x m. Head m e)))) _ (input-same w sc place s at b h)
     (λ ch n y kc q. rw (kc .found, h .variables) (
-    onwards (λ i. c (itemH i (λ x m. Head m e))) (λ x. k ch x) (variable-same (sc .variables) s n b)
+    onwards (λ i. c (withItem NoHead i (λ x m. Head m e))) (λ x. k ch x) (variable-same (sc .variables) s n b)
     (λ x m z kx p. rw (kx .found) (f ch x n m y z kc kx)) r))
     r
 
@@ -282,10 +275,10 @@ within-input {sc = sc} {ch} {x} lo hi kc kx =
     within-both (within-only inputs-of sc lo hi (kc .value) ch (kc .listed)) (within-changing sc lo hi (kx .value) x (kx .listed))
 
 pub input-stmt-same : (d : ℕ) (w : Names) (sc : Scope) (s : List ℕ) (place at : ℕ) (inner : Inner) → Bytes s → Scoped w sc place
-    → Same s (RestIs s d sc place at (simpleWay 3 d)) NoStmt (simpleAt 3 d w s at) (stmtOf place sc inner isInput at (drop at s))
+    → Same s (RestIs s sc place at (simpleWay 3 d)) NoStmt (simpleAt 3 d w s at) (stmtOf place sc inner isInput at (drop at s))
 unfolding simpleAt stmtOf simpleUsed need processes firstDeep firstClash usage
 input-stmt-same d w sc s place at inner b h =
-    taken-onward w sc s place at Nowhere (λ x. headS x (λ m e. leaf m 3 e)) (λ c x. pure (M.input c x)) b h
+    taken-onward w sc s place at Nowhere (λ x. withHead NoStmt x (λ m e. leaf m 3 e)) (λ c x. pure (M.input c x)) b h
     (λ ch x n m i j kc kx. gives (M.input ch x) m (leaf m 3 Nowhere)
     (record {
       is = refl;
@@ -297,14 +290,14 @@ input-stmt-same d w sc s place at inner b h =
 
 pub output-stmt-same : (d : ℕ) (w : Names) (sc : Scope) (s : List ℕ) (place at : ℕ) (stmts : Scope → Reader M.Stmt) → Bytes s
     → Scoped w sc place
-    → Same s (RestIs s d sc place at (simpleWay 4 d)) NoStmt (simpleAt 4 d w s at)
+    → Same s (RestIs s sc place at (simpleWay 4 d)) NoStmt (simpleAt 4 d w s at)
     (stmtOf place sc (record { expr = readWhole d sc; stmt = stmts }) isOutput at (drop at s))
 unfolding simpleAt stmtOf simpleUsed need processes firstDeep firstClash usage
 output-stmt-same d w sc s place at stmts b h =
     rw (h .variables) (
-    onwards (λ i. itemS i (λ x n. valueAt 4 d (length (sc .variables)) s n)) _ (output-same w sc place s at b h)
+    onwards (λ i. withItem NoStmt i (λ x n. valueAt 4 d (length (sc .variables)) s n)) _ (output-same w sc place s at b h)
     (λ ch n y k q. rw (k .found) (
-    value-same 4 d sc s n (λ e. M.output ch e) (RestIs s d sc place at (simpleWay 4 d)) b (λ e m z r.
+    value-same 4 d sc s n (λ e. M.output ch e) (RestIs s sc place at (simpleWay 4 d)) b (λ e m z r.
     record {
       is = rw (first-noted e) refl;
       ahead = omega (arith, k .there .ahead, r .ahead);
@@ -337,26 +330,26 @@ lookup-append (y ∷ a) b (suc k) x e =
     let here : suc k - suc (length a) ≡ k - length a = omega arith in inr (omega (arith, h .0), rw here (h .1)))
     (lookup-append a b k x e)
 
-pub length-names : (p c : ℕ) → length (names p c) ≡ c
-unfolding names
-length-names p zero = refl
-length-names p (suc c) = length-append (names p c) (declared p c ∷ []) ∙ rw (length-names p c) (omega arith)
+pub length-numbered : (of : ℕ → Site) (n : ℕ) → length (numbered of n) ≡ n
+unfolding numbered
+length-numbered of zero = refl
+length-numbered of (suc n) = length-append (numbered of n) (of n ∷ []) ∙ rw (length-numbered of n) (omega arith)
 
--- so many more names at a place
-pub names-at : (p c i : ℕ) (x : Site) → getElem? (names p c) i ≡ some x → (x ≡ declared p i) × (i < c)
-unfolding names
-names-at p zero i x e = never (cc)
-names-at p (suc c) i x e =
+-- so many names, by their numbers
+pub numbered-at : (of : ℕ → Site) (n i : ℕ) (x : Site) → getElem? (numbered of n) i ≡ some x → (x ≡ of i) × (i < n)
+unfolding numbered
+numbered-at of zero i x e = never (cc)
+numbered-at of (suc n) i x e =
     ⊎-elim
-    (λ (h : getElem? (names p c) i ≡ some x). let r = names-at p c i x h in (r .0, omega (arith, r .1)))
-    (λ (h : (length (names p c) ≤ i) × (getElem? (declared p c ∷ []) (i - length (names p c)) ≡ some x)).
-    let q = only-one (i - length (names p c)) (h .1) in
-    let here : i ≡ c = omega (arith, h .0, q .0, length-names p c) in
+    (λ (h : getElem? (numbered of n) i ≡ some x). let r = numbered-at of n i x h in (r .0, omega (arith, r .1)))
+    (λ (h : (length (numbered of n) ≤ i) × (getElem? (of n ∷ []) (i - length (numbered of n)) ≡ some x)).
+    let q = only-one (i - length (numbered of n)) (h .1) in
+    let here : i ≡ n = omega (arith, h .0, q .0, length-numbered of n) in
     (rw here (sym (q .1)), omega (arith, here)))
-    (lookup-append (names p c) (declared p c ∷ []) i x e)
+    (lookup-append (numbered of n) (of n ∷ []) i x e)
   where
-    only-one : (j : ℕ) → getElem? (declared p c ∷ []) j ≡ some x → (j ≡ 0) × (declared p c ≡ x)
-    only-one zero h = (refl, Option·some-injective (declared p c) x h)
+    only-one : (j : ℕ) → getElem? (of n ∷ []) j ≡ some x → (j ≡ 0) × (of n ≡ x)
+    only-one zero h = (refl, Option·some-injective (of n) x h)
     only-one (suc j) h = never (cc)
 
 -- names declared before a place are none of those declared there
@@ -377,7 +370,7 @@ pub fresh-more : (vs old : List Site) (p c : ℕ) → Below p vs → Fresh vs ol
 fresh-more vs old p c below fresh few k v y x ek ev =
     ⊎-elim (λ (h : getElem? old v ≡ some x). fresh k v y x ek h)
     (λ (h : (length old ≤ v) × (getElem? (names p c) (v - length old) ≡ some x)).
-    let new = names-at p c (v - length old) x (h .1) in
+    let new = numbered-at (declared p) c (v - length old) x (h .1) in
     let apart : k ≡ v → ⊥ = λ e. omega (arith, e, h .0, few, inside vs k ek) in
     rw (new .0, before-other y p (v - length old) (before-name p vs k y below ek) .0) (sym (ne-eqb k v apart)))
     (lookup-append old (names p c) v x ev)
@@ -387,13 +380,13 @@ unfolding same
 own-more vs p c below fresh k v y x ek ev =
     ⊎-elim (λ (h : getElem? vs k ≡ some y). fresh-more vs vs p c below fresh (omega arith) k v y x h ev)
     (λ (h : (length vs ≤ k) × (getElem? (names p c) (k - length vs) ≡ some y)).
-    let new = names-at p c (k - length vs) y (h .1) in
+    let new = numbered-at (declared p) c (k - length vs) y (h .1) in
     rw (new .0) (
     ⊎-elim (λ (g : getElem? vs v ≡ some x).
     let apart : k ≡ v → ⊥ = λ e. omega (arith, e, h .0, inside vs v g) in
     rw (before-other x p (k - length vs) (before-name p vs v x below g) .1) (sym (ne-eqb k v apart)))
     (λ (g : (length vs ≤ v) × (getElem? (names p c) (v - length vs) ≡ some x)).
-    rw (names-at p c (v - length vs) x (g .1) .0, eq-eqb p p refl) (
+    rw (numbered-at (declared p) c (v - length vs) x (g .1) .0, eq-eqb p p refl) (
     by-bool (eqb k v)
     (λ q. rw (q, eqb-true k v q) (eq-eqb (v - length vs) (v - length vs) refl))
     (λ q. rw q (ne-eqb (k - length vs) (v - length vs) (λ e. eqb-false k v q (omega (arith, e, h .0, g .0)))))))
@@ -404,7 +397,7 @@ pub below-more : (vs : List Site) (p c m : ℕ) → Below p vs → p < m → Bel
 below-more vs p c m below l k q j e =
     ⊎-elim (λ (h : getElem? vs k ≡ some (declared q j)). omega (arith, l, below k q j h))
     (λ (h : (length vs ≤ k) × (getElem? (names p c) (k - length vs) ≡ some (declared q j))).
-    let new : declared q j ≡ declared p (k - length vs) = names-at p c (k - length vs) (declared q j) (h .1) .0 in
+    let new : declared q j ≡ declared p (k - length vs) = numbered-at (declared p) c (k - length vs) (declared q j) (h .1) .0 in
     let here : q ≡ p = cc in
     omega (arith, l, here))
     (lookup-append vs (names p c) k (declared q j) e)

@@ -1,72 +1,51 @@
 -- What the reader answers of a whole table is what the model's reader answers.
-use Prim.Native.Nat.{ℕ, zero, suc, _+_, _-_, _≤_, _<_}
+use Prim.Native.Nat.{ℕ, _+_, _-_, _≤_, _<_}
 use native.Mathlib.Omega.{arith}
 use mathlib.Core.Path.{_≡_, refl, sym, _∙_}
 use mathlib.Core.Logic.{_⊎_, inl, inr, ⊎-elim}
-use mathlib.Core.Bool.{Bool, true, false, _&&_, _||_}
+use mathlib.Core.Bool.{true, false, _&&_, _||_, and-false}
 use mathlib.Core.List.{List, [], _∷_, _++_}
-use mathlib.Core.Option.{some, Option·some-injective}
+use mathlib.Core.Option.{some}
 use lib.ListN.{length, drop, getElem?, length-append, drop-of-length-le}
 use lib.Seq.{drop-cons}
 use lib.Dec.{ltb, leb, eqb}
 use borrow.Author.Tests.{le-leb, lt-leb, le-ltb, lt-ltb, eq-eqb, ne-eqb, ltb-true, ltb-false, eqb-true, eqb-false}
-use Rattle.model.proofs.Cases.{by-bool, by-option, never}
+use Rattle.model.proofs.Cases.{by-bool, by-option, by-parsed, never}
 use Rattle.model.specs.Syntax.{Site, inputOf, outputOf, declared, Program}
-use Rattle.model.specs.Reader.{Parsed, parsed, fails, Scope, outside, canInput, canOutput, readProgram, readTable, Read, program, refused}
+use Rattle.model.specs.Reader.{Parsed, parsed, fails, Scope, numbered, canInput, canOutput, readProgram, readTable, Read, refused}
 use Rattle.model.specs.Usage.{same, firstClash}
 use Rattle.model.specs.Counts.{firstDeep, processes}
 use Rattle.model.specs.Accept.{accept, answerOf, checks}
 use Rattle.model.specs.declared.Reading.{Reading}
 use Rattle.model.specs.declared.Reading.the-variants.{Refused}
-use Rattle.numbers.specs.Items.{betweenAt}
-use Rattle.table.specs.Stmts.{Fits}
-use Rattle.table.specs.Tables.{itemR, stmtR, finished, bodyAt, tableAt}
+use Rattle.numbers.specs.Items.{betweenAt, withItem}
+use Rattle.table.specs.Stmts.{Fits, withStmt}
+use Rattle.table.specs.Tables.{finished, bodyAt, tableAt}
 use Rattle.table.specs.declared.stmt.Names.{Names}
 use Rattle.table.proofs.SameItems.{Bytes, Same, gives, turns, onwards, count-same}
-use Rattle.table.proofs.Marks.{and-false, Fresh}
-use Rattle.table.proofs.SameSimple.{first, partOf, Below, Scoped, lookup-append}
+use Rattle.table.proofs.Marks.{Fresh}
+use Rattle.table.proofs.SameSimple.{partOf, Below, Scoped, lookup-append, length-numbered, numbered-at}
 use Rattle.table.proofs.SameStmt.{stmt-same}
-
-length-outside : (of : ℕ → Site) (n : ℕ) → length (outside of n) ≡ n
-unfolding outside
-length-outside of zero = refl
-length-outside of (suc n) = length-append (outside of n) (of n ∷ []) ∙ rw (length-outside of n) (omega arith)
-
-outside-at : (of : ℕ → Site) (n i : ℕ) (x : Site) → getElem? (outside of n) i ≡ some x → (x ≡ of i) × (i < n)
-unfolding outside
-outside-at of zero i x e = never (cc)
-outside-at of (suc n) i x e =
-    ⊎-elim
-    (λ (h : getElem? (outside of n) i ≡ some x). let r = outside-at of n i x h in (r .0, omega (arith, r .1)))
-    (λ (h : (length (outside of n) ≤ i) × (getElem? (of n ∷ []) (i - length (outside of n)) ≡ some x)).
-    let q = only-one (i - length (outside of n)) (h .1) in
-    let here : i ≡ n = omega (arith, h .0, q .0, length-outside of n) in
-    (rw here (sym (q .1)), omega (arith, here)))
-    (lookup-append (outside of n) (of n ∷ []) i x e)
-  where
-    only-one : (j : ℕ) → getElem? (of n ∷ []) j ≡ some x → (j ≡ 0) × (of n ≡ x)
-    only-one zero h = (refl, Option·some-injective (of n) x h)
-    only-one (suc j) h = never (cc)
 
 -- an outside channel by its number: an input or an output
 abbrev channels : (ins outs : ℕ) → List Site
-channels ins outs = outside inputOf ins ++ outside outputOf outs
+channels ins outs = numbered inputOf ins ++ numbered outputOf outs
 
 channel-is : (ins outs i : ℕ) (a : Site) → getElem? (channels ins outs) i ≡ some a
     → ((a ≡ inputOf i) × (i < ins)) ⊎ ((a ≡ outputOf (i - ins)) × (ins ≤ i) × (i < ins + outs))
 channel-is ins outs i a e =
     ⊎-elim
-    (λ (h : getElem? (outside inputOf ins) i ≡ some a). inl (outside-at inputOf ins i a h))
-    (λ (h : (length (outside inputOf ins) ≤ i) × (getElem? (outside outputOf outs) (i - length (outside inputOf ins)) ≡ some a)).
-    let r = outside-at outputOf outs (i - length (outside inputOf ins)) a (h .1) in
-    let same-number : i - length (outside inputOf ins) ≡ i - ins = rw (length-outside inputOf ins) refl in
+    (λ (h : getElem? (numbered inputOf ins) i ≡ some a). inl (numbered-at inputOf ins i a h))
+    (λ (h : (length (numbered inputOf ins) ≤ i) × (getElem? (numbered outputOf outs) (i - length (numbered inputOf ins)) ≡ some a)).
+    let r = numbered-at outputOf outs (i - length (numbered inputOf ins)) a (h .1) in
+    let same-number : i - length (numbered inputOf ins) ≡ i - ins = rw (length-numbered inputOf ins) refl in
     inr (
       r .0 ∙ rw same-number refl,
-      omega (arith, h .0, length-outside inputOf ins),
+      omega (arith, h .0, length-numbered inputOf ins),
       omega
-          (arith, h .0, r .1, length-outside inputOf ins),
+          (arith, h .0, r .1, length-numbered inputOf ins),
     ))
-    (lookup-append (outside inputOf ins) (outside outputOf outs) i a e)
+    (lookup-append (numbered inputOf ins) (numbered outputOf outs) i a e)
 
 channel-ways : (ins outs i : ℕ) (a : Site) → getElem? (channels ins outs) i ≡ some a
     → (canInput a ≡ (ltb i ins || leb (ins + outs) i)) × (canOutput a ≡ (ltb i 0 || leb ins i))
@@ -113,8 +92,8 @@ outermost-scoped ins outs at =
     record {
       variables = refl;
       channels = sym
-          (length-append (outside inputOf ins) (outside outputOf outs)
-          ∙ rw (length-outside inputOf ins, length-outside outputOf outs) refl);
+          (length-append (numbered inputOf ins) (numbered outputOf outs)
+          ∙ rw (length-numbered inputOf ins, length-numbered outputOf outs) refl);
       outer = omega arith;
       ins = λ i a e. channel-ways ins outs i a e .0;
       outs = λ i a e. channel-ways ins outs i a e .1;
@@ -129,16 +108,18 @@ abbrev ProgramIs : List ℕ → Program → ℕ → Reading → Type 0
 ProgramIs s p n x = x ≡ finished (p .inputs) (p .outputs) (length s) (partOf (p .body) n)
 
 program-same : (s : List ℕ) → Bytes s
-    → Same s (ProgramIs s) Refused (itemR (betweenAt 0 8 s 0) (λ ins n. itemR (betweenAt 0 8 s n) (λ outs m. bodyAt ins outs s m)))
+    → Same s (ProgramIs s) Refused
+    (withItem Refused (betweenAt 0 8 s 0) (λ ins n. withItem Refused (betweenAt 0 8 s n) (λ outs m. bodyAt ins outs s m)))
     (readProgram 0 (drop 0 s))
 unfolding bodyAt readProgram
 program-same s b =
-    onwards (λ x. itemR x (λ ins n. itemR (betweenAt 0 8 s n) (λ outs m. bodyAt ins outs s m))) _ (count-same 0 8 s 0 b)
+    onwards (λ x. withItem Refused x (λ ins n. withItem Refused (betweenAt 0 8 s n) (λ outs m. bodyAt ins outs s m))) _
+    (count-same 0 8 s 0 b)
     (λ ins n y k q. rw (k .found) (
-    onwards (λ x. itemR x (λ outs m. bodyAt ins outs s m)) _ (count-same 0 8 s n b)
+    onwards (λ x. withItem Refused x (λ outs m. bodyAt ins outs s m)) _ (count-same 0 8 s n b)
     (λ outs m z j p. rw (j .found) (
     let fits : Fits (numbers ins outs) 32 = (omega arith, omega arith, omega (arith, k .most, j .most), k .most, j .most) in
-    onwards (λ x. stmtR x (λ p. finished ins outs (length s) p)) _
+    onwards (λ x. withStmt Refused x (λ p. finished ins outs (length s) p)) _
     (stmt-same 32 s b (numbers ins outs) (outermost ins outs) m (outermost-scoped ins outs m) fits)
     (λ st e u r o. rw (r .is) (gives (record { inputs = ins; outputs = outs; body = st }) e _ refl)) (λ a c. refl)))
     (λ a c. refl)))
@@ -169,12 +150,6 @@ ended-same s x r (gives p n y h) =
     by-bool (ltb n (length s))
     (λ e. rw (h, e, drop-cons s n 0 (ltb-true n (length s) e)) refl)
     (λ e. let low : length s ≤ n = ltb-false n (length s) e in rw (h, drop-of-length-le s low) (checks-same p n (length s) low))
-
-by-parsed : {R : Type 0} (m : Parsed Program) → ((k p : ℕ) → m ≡ fails k p → R) → ((p : Program) (n : ℕ) → m ≡ parsed p n [] → R)
-    → ((p : Program) (n b : ℕ) (l : List ℕ) → m ≡ parsed p n (b ∷ l) → R) → R
-by-parsed (fails k p) f g h = f k p refl
-by-parsed (parsed p n []) f g h = g p n refl
-by-parsed (parsed p n (b ∷ l)) f g h = h p n b l refl
 
 accept-is : (s : List ℕ) → (leb 1 (length s) && leb (length s) 16384) ≡ true → accept s ≡ ended (readProgram 0 s)
 unfolding accept readTable

@@ -1,17 +1,18 @@
 -- What a statement is counted with is bounded by its bytes.
 use Prim.Native.Nat.{ℕ, zero, suc, _+_, _-_, _*_, _≤_, _<_, max}
 use native.Mathlib.Omega.{arith}
-use mathlib.Core.Bool.{Bool, true, false}
+use mathlib.Core.Path.{_≡_}
+use mathlib.Core.Bool.{cond}
 use mathlib.Core.List.{List}
 use lib.ListN.{length, getD}
 use lib.Dec.{ltb, leb, eqb}
 use borrow.Author.Tests.{leb-false, ltb-false}
-use Rattle.model.proofs.Cases.{by-bool}
-use Rattle.numbers.specs.Items.{groupsAt, grouped, pickN, pickI, between, betweenAt, nameOf, nameAt, deepOf, deepAt}
-use Rattle.table.specs.Exprs.{pickE, withItem, withExpr, leafAt, joined, sides, exprAt}
-use Rattle.table.specs.Stmts.{pickS, pickH, itemS, itemH, headS, headH, stmtS, stmtT, sumS, wholeOf, wholeAt, variableAt, inputAt}
-use Rattle.table.specs.Stmts.{outputAt, leaf, valueAt, takenAt, simpleAt, guardAt, headAt, behind, nothing, added, partAt, mostFrom}
-use Rattle.table.specs.Stmts.{pickW, gathered, Branches, joinedBy, branchesFrom, noBranches, moreNames, declaring, insideAt, stmtAt}
+use Rattle.model.proofs.Cases.{by-bool, of-cond}
+use Rattle.numbers.specs.Items.{groupsAt, betweenAt, nameAt, deepAt, withNumber, withItem}
+use Rattle.table.specs.Exprs.{withExpr, leafAt, sides, exprAt}
+use Rattle.table.specs.Stmts.{wholeAt, variableAt, inputAt, withHead, withStmt}
+use Rattle.table.specs.Stmts.{outputAt, leaf, valueAt, takenAt, simpleAt, guardAt, headAt, nothing, added, partAt, mostFrom}
+use Rattle.table.specs.Stmts.{gathered, Branches, joinedBy, branchesFrom, noBranches, moreNames, declaring, insideAt, stmtAt}
 use Rattle.table.specs.Stmts.{partIn}
 use Rattle.numbers.specs.declared.NumberRead.{NumberRead}
 use Rattle.numbers.specs.declared.NumberRead.the-variants.{Number, Bad}
@@ -32,291 +33,208 @@ use Rattle.table.specs.declared.stmt.SumRead.{SumRead}
 use Rattle.table.specs.declared.stmt.SumRead.the-variants.{Sum as Total, Refused as NoSum}
 
 -- the place after a part is behind its own and no further than the table
-abbrev InNumber : NumberRead → (at len : ℕ) → Type 0
-InNumber (Number v n) at len = (at < n) × (n ≤ len)
-InNumber Bad at len = Unit {0}
+abbrev InNumber : (at len : ℕ) → NumberRead → Type 0
+InNumber at len (Number v n) = (at < n) × (n ≤ len)
+InNumber at len Bad = Unit {0}
 
-unfoldable InItem : Item → (at len : ℕ) → Type 0
-InItem (Found v n) at len = (at < n) × (n ≤ len)
-InItem (Refused k p) at len = Unit {0}
+abbrev InItem : (at len : ℕ) → Item → Type 0
+InItem at len (Found v n) = (at < n) × (n ≤ len)
+InItem at len (Refused k p) = Unit {0}
 
-unfoldable InExpr : ExprRead → (at len : ℕ) → Type 0
-InExpr (Expr n r) at len = (at < n) × (n ≤ len)
-InExpr (NoExpr k p) at len = Unit {0}
+abbrev InExpr : (at len : ℕ) → ExprRead → Type 0
+InExpr at len (Expr n r) = (at < n) × (n ≤ len)
+InExpr at len (NoExpr k p) = Unit {0}
 
-abbrev pub Most : ℕ → Item → Type 0
+abbrev Most : ℕ → Item → Type 0
 Most hi (Found v n) = v ≤ hi
 Most hi (Refused k p) = Unit {0}
 
 -- a head may be empty
-unfoldable InHead : HeadRead → (from len : ℕ) → Type 0
-InHead (Head n d) from len = (from ≤ n) × (n ≤ len)
-InHead (NoHead k p) from len = Unit {0}
+abbrev InHead : (from len : ℕ) → HeadRead → Type 0
+InHead from len (Head n d) = (from ≤ n) × (n ≤ len)
+InHead from len (NoHead k p) = Unit {0}
 
-groups-in : (k : ℕ) (s : List ℕ) (at : ℕ) → InNumber (groupsAt k s at) at (length s)
+-- what follows a number, an item, an expression, a head or a statement is as P says, where a refusal is
+of-number : {R : Type 0} {bad : R} (P : R → Type 0) (Q : NumberRead → Type 0) → P bad → (x : NumberRead) {f : ℕ → ℕ → R} → Q x
+    → ((v n : ℕ) → Q (Number v n) → P (f v n)) → P (withNumber bad x f)
+of-number P Q r (Number v n) h g = g v n h
+of-number P Q r Bad h g = r
+
+of-item : {R : Type 0} {refuse : ℕ → ℕ → R} (P : R → Type 0) (Q : Item → Type 0) → ((k p : ℕ) → P (refuse k p)) → (x : Item)
+    {f : ℕ → ℕ → R} → Q x → ((v n : ℕ) → Q (Found v n) → P (f v n)) → P (withItem refuse x f)
+of-item P Q r (Found v n) h g = g v n h
+of-item P Q r (Refused k p) h g = r k p
+
+of-expr : {R : Type 0} {refuse : ℕ → ℕ → R} (P : R → Type 0) (Q : ExprRead → Type 0) → ((k p : ℕ) → P (refuse k p)) → (x : ExprRead)
+    {f : ℕ → ℕ → R} → Q x → ((n r : ℕ) → Q (Expr n r) → P (f n r)) → P (withExpr refuse x f)
+of-expr P Q r (Expr n i) h g = g n i h
+of-expr P Q r (NoExpr k p) h g = r k p
+
+of-head : {R : Type 0} {refuse : ℕ → ℕ → R} (P : R → Type 0) (Q : HeadRead → Type 0) → ((k p : ℕ) → P (refuse k p)) → (x : HeadRead)
+    {f : ℕ → First → R} → Q x → ((n : ℕ) (d : First) → Q (Head n d) → P (f n d)) → P (withHead refuse x f)
+of-head P Q r (Head n d) h g = g n d h
+of-head P Q r (NoHead k p) h g = r k p
+
+of-stmt : {R : Type 0} {refuse : ℕ → ℕ → R} (P : R → Type 0) (Q : StmtRead → Type 0) → ((k p : ℕ) → P (refuse k p)) → (x : StmtRead)
+    {f : Part → R} → Q x → ((p : Part) → Q (Stmt p) → P (f p)) → P (withStmt refuse x f)
+of-stmt P Q r (Stmt p) h g = g p h
+of-stmt P Q r (NoStmt k p) h g = r k p
+
+groups-in : (k : ℕ) (s : List ℕ) (at : ℕ) → InNumber at (length s) (groupsAt k s at)
 unfolding groupsAt
 groups-in zero s at = tt
 groups-in (suc k) s at =
     by-bool (leb (length s) at) (λ e. rw e tt)
-    (λ e. let l : at < length s = leb-false (length s) at e in rw e (one l (ltb (getD s at 0) 128) (groups-in k s (at + 1))))
-  where
-    late : (t : Bool) (x : NumberRead) → InNumber x at (length s) → InNumber (pickN t Bad x) at (length s)
-    late true x h = tt
-    late false x h = h
+    (λ e. let l : at < length s = leb-false (length s) at e in
+    rw e (of-cond (InNumber at (length s)) (ltb (getD s at 0) 128) (omega (arith, l))
+    (of-number (InNumber at (length s)) (InNumber (at + 1) (length s)) tt (groupsAt k s (at + 1)) (groups-in k s (at + 1)) (λ v n h.
+    of-cond (InNumber at (length s)) (eqb v 0) tt
+    (of-cond (InNumber at (length s)) (ltb v 33554432) (omega (arith, h .0, h .1)) tt)))))
 
-    early : (t : Bool) (x : NumberRead) → InNumber x at (length s) → InNumber (pickN t x Bad) at (length s)
-    early true x h = h
-    early false x h = tt
+between-in : (lo hi : ℕ) (s : List ℕ) (at : ℕ) → InItem at (length s) (betweenAt lo hi s at)
+unfolding betweenAt
+between-in lo hi s at =
+    of-number (InItem at (length s)) (InNumber at (length s)) tt (groupsAt 5 s at) (groups-in 5 s at) (λ v n h.
+    of-cond (InItem at (length s)) (ltb v lo) tt (of-cond (InItem at (length s)) (ltb hi v) tt h))
 
-    more : (b : ℕ) (m : NumberRead) → InNumber m (at + 1) (length s) → InNumber (grouped b m) at (length s)
-    more b (Number v n) h =
-        let h2 : InNumber (Number v n) at (length s) = omega (arith, h .0, h .1) in
-        late (eqb v 0) _ (early (ltb v 33554432) _ h2)
-    more b Bad h = tt
-
-    one : at < length s → (t : Bool) → InNumber (groupsAt k s (at + 1)) (at + 1) (length s)
-        → InNumber (pickN t (Number (getD s at 0) (at + 1)) (grouped (getD s at 0) (groupsAt k s (at + 1)))) at (length s)
-    one l true h = omega (arith, l)
-    one l false h = more (getD s at 0) (groupsAt k s (at + 1)) h
-
-between-in : (lo hi : ℕ) (s : List ℕ) (at : ℕ) → InItem (betweenAt lo hi s at) at (length s)
-unfolding InItem betweenAt
-between-in lo hi s at = one (groupsAt 5 s at) (groups-in 5 s at)
-  where
-    late : (t : Bool) (x : Item) → InItem x at (length s) → InItem (pickI t (Refused 3 at) x) at (length s)
-    late true x h = tt
-    late false x h = h
-
-    one : (r : NumberRead) → InNumber r at (length s) → InItem (between lo hi at r) at (length s)
-    one (Number v n) h = late (ltb v lo) _ (late (ltb hi v) _ h)
-    one Bad h = tt
-
-name-in : (count from to : ℕ) (s : List ℕ) (at : ℕ) → InItem (nameAt count from to s at) at (length s)
-unfolding InItem nameAt
-name-in count from to s at = one (groupsAt 5 s at) (groups-in 5 s at)
-  where
-    late : (t : Bool) (x : Item) → InItem x at (length s) → InItem (pickI t (Refused 5 at) x) at (length s)
-    late true x h = tt
-    late false x h = h
-
-    either : (t : Bool) (x y : Item) → InItem x at (length s) → InItem y at (length s) → InItem (pickI t x y) at (length s)
-    either true x y h k = h
-    either false x y h k = k
-
-    one : (r : NumberRead) → InNumber r at (length s) → InItem (nameOf count from to at r) at (length s)
-    one (Number v n) h = late (leb count v) _ (either (ltb v from) (Found v n) _ h (late (ltb v to) _ h))
-    one Bad h = tt
+name-in : (count from to : ℕ) (s : List ℕ) (at : ℕ) → InItem at (length s) (nameAt count from to s at)
+unfolding nameAt
+name-in count from to s at =
+    of-number (InItem at (length s)) (InNumber at (length s)) tt (groupsAt 5 s at) (groups-in 5 s at) (λ v n h.
+    of-cond (InItem at (length s)) (leb count v) tt
+    (of-cond (InItem at (length s)) (ltb v from) h (of-cond (InItem at (length s)) (ltb v to) tt h)))
 
 -- a count is in its bounds
-pub between-most : (lo hi : ℕ) (s : List ℕ) (at : ℕ) → Most hi (betweenAt lo hi s at)
+between-most : (lo hi : ℕ) (s : List ℕ) (at : ℕ) → Most hi (betweenAt lo hi s at)
 unfolding betweenAt
-between-most lo hi s at = one (groupsAt 5 s at)
-  where
-    one : (r : NumberRead) → Most hi (between lo hi at r)
-    one (Number v n) = by-bool (ltb v lo) (λ e. rw e tt) (λ e. by-bool (ltb hi v) (λ f. rw (e, f) tt) (λ f. rw (e, f) (ltb-false hi v f)))
-    one Bad = tt
+between-most lo hi s at =
+    of-number (Most hi) (λ x. Unit {0}) tt (groupsAt 5 s at) tt (λ v n h.
+    of-cond (Most hi) (ltb v lo) tt (by-bool (ltb hi v) (λ e. rw e tt) (λ e. rw e (ltb-false hi v e))))
 
-either-expr : (t : Bool) (x y : ExprRead) (at len : ℕ) → InExpr x at len → InExpr y at len → InExpr (pickE t x y) at len
-unfolding InExpr
-either-expr true x y at len h k = h
-either-expr false x y at len h k = k
+pub count-most : {v n : ℕ} (lo hi : ℕ) (s : List ℕ) (at : ℕ) → betweenAt lo hi s at ≡ Found v n → v ≤ hi
+count-most lo hi s at e = rw e at (between-most lo hi s at)
 
-item-expr : (i : Item) (f : ℕ → ℕ → ExprRead) (from at len : ℕ) → InItem i at len
-    → ((v n : ℕ) → at < n → n ≤ len → InExpr (f v n) from len) → InExpr (withItem i f) from len
-unfolding InItem InExpr
-item-expr (Found v n) f from at len h k = k v n (h .0) (h .1)
-item-expr (Refused j p) f from at len h k = tt
+-- what is too deep is refused
+abbrev IsRefused : Item → Type 0
+IsRefused (Found v n) = ⊥
+IsRefused (Refused k p) = Unit {0}
 
-then-expr : (x : ExprRead) (f : ℕ → ℕ → ExprRead) (from at len : ℕ) → InExpr x at len
-    → ((n r : ℕ) → at < n → n ≤ len → InExpr (f n r) from len) → InExpr (withExpr x f) from len
-unfolding InExpr
-then-expr (Expr n r) f from at len h k = k n r (h .0) (h .1)
-then-expr (NoExpr j p) f from at len h k = tt
+deep-refused : (s : List ℕ) (at : ℕ) → IsRefused (deepAt s at)
+unfolding deepAt
+deep-refused s at = of-number IsRefused (λ x. Unit {0}) tt (groupsAt 5 s at) tt (λ v n h. tt)
 
-earlier-expr : (x : ExprRead) (from at len : ℕ) → from ≤ at → InExpr x at len → InExpr x from len
-unfolding InExpr
+earlier-expr : (x : ExprRead) (from at len : ℕ) → from < at → InExpr at len x → InExpr from len x
 earlier-expr (Expr n r) from at len l h = omega (arith, l, h .0, h .1)
 earlier-expr (NoExpr j p) from at len l h = tt
 
-leaf-in : (k vs : ℕ) (s : List ℕ) (at : ℕ) → InExpr (leafAt k vs s at) at (length s)
-unfolding InExpr leafAt
+leaf-in : (k vs : ℕ) (s : List ℕ) (at : ℕ) → InExpr at (length s) (leafAt k vs s at)
+unfolding leafAt
 leaf-in k vs s at =
-    either-expr (eqb k 0) _ _ at (length s)
-    (item-expr (betweenAt 0 4294967295 s at) _ at at (length s) (between-in 0 4294967295 s at) (λ v m a b. (a, b)))
-    (item-expr (nameAt vs 0 0 s at) _ at at (length s) (name-in vs 0 0 s at) (λ v m a b. (a, b)))
+    of-item (InExpr at (length s)) (InItem at (length s)) (λ j p. tt)
+    (cond (eqb k 0) (betweenAt 0 4294967295 s at) (nameAt vs 0 0 s at))
+    (of-cond (InItem at (length s)) (eqb k 0) (between-in 0 4294967295 s at) (name-in vs 0 0 s at)) (λ v n h. h)
 
-deep-expr : (s : List ℕ) (at : ℕ) → InExpr (withItem (deepAt s at) (λ v n. Expr n 1)) at (length s)
-unfolding InExpr deepAt
-deep-expr s at = one (groupsAt 5 s at)
-  where
-    one : (r : NumberRead) → InExpr (withItem (deepOf at r) (λ v n. Expr n 1)) at (length s)
-    one (Number v n) = tt
-    one Bad = tt
+sides-in : (inner : ℕ → ExprRead) (at len : ℕ) → ((i : ℕ) → InExpr i len (inner i)) → InExpr at len (sides inner at)
+sides-in inner at len h =
+    of-expr (InExpr at len) (InExpr at len) (λ k p. tt) (inner at) (h at) (λ n l a.
+    of-expr (InExpr at len) (InExpr n len) (λ k p. tt) (inner n) (h n) (λ m r b. (omega (arith, a .0, b .0), b .1)))
 
-sides-in : (inner : ℕ → ExprRead) (at len : ℕ) → ((i : ℕ) → InExpr (inner i) i len) → InExpr (sides inner at) at len
-unfolding InExpr
-sides-in inner at len h = left (inner at) (h at)
-  where
-    right : (n l : ℕ) → at < n → (y : ExprRead) → InExpr y n len → InExpr (withExpr y (λ m r. Expr m (joined l r))) at len
-    right n l a (Expr m r) k = (omega (arith, a, k .0), k .1)
-    right n l a (NoExpr j p) k = tt
-
-    left : (x : ExprRead) → InExpr x at len → InExpr (withExpr x (λ n l. withExpr (inner n) (λ m r. Expr m (joined l r)))) at len
-    left (Expr n l) k = right n l (k .0) (inner n) (h n)
-    left (NoExpr j p) k = tt
-
-expr-in : (d vs : ℕ) (s : List ℕ) (at : ℕ) → InExpr (exprAt d vs s at) at (length s)
+expr-in : (d vs : ℕ) (s : List ℕ) (at : ℕ) → InExpr at (length s) (exprAt d vs s at)
 unfolding exprAt
-expr-in zero vs s at = deep-expr s at
+expr-in zero vs s at = of-item (InExpr at (length s)) IsRefused (λ k p. tt) (deepAt s at) (deep-refused s at) (λ v n h. absurd h)
 expr-in (suc d) vs s at =
-    item-expr (betweenAt 0 3 s at) _ at at (length s) (between-in 0 3 s at) (λ k n l b.
-    earlier-expr _ at n (length s) (omega (arith, l)) (
-    either-expr (ltb k 2) _ _ n (length s) (leaf-in k vs s n) (
-    either-expr (eqb k 2) _ _ n (length s) (expr-in d vs s n) (
-    item-expr (betweenAt 0 7 s n) _ n n (length s) (between-in 0 7 s n) (λ o m a c.
-    earlier-expr _ n m (length s) (omega (arith, a)) (sides-in (λ i. exprAt d vs s i) m (length s) (λ i. expr-in d vs s i)))))))
+    of-item (InExpr at (length s)) (InItem at (length s)) (λ k p. tt) (betweenAt 0 3 s at) (between-in 0 3 s at) (λ k n h.
+    of-cond (InExpr at (length s)) (ltb k 2) (earlier-expr (leafAt k vs s n) at n (length s) (h .0) (leaf-in k vs s n)) (
+    of-cond (InExpr at (length s)) (eqb k 2) (earlier-expr (exprAt d vs s n) at n (length s) (h .0) (expr-in d vs s n)) (
+    of-item (InExpr at (length s)) (InItem n (length s)) (λ j p. tt) (betweenAt 0 7 s n) (between-in 0 7 s n) (λ o m g.
+    earlier-expr (sides (λ i. exprAt d vs s i) m) at m (length s) (omega (arith, h .0, g .0))
+    (sides-in (λ i. exprAt d vs s i) m (length s) (λ i. expr-in d vs s i))))))
 
 -- what is counted from base on, for a statement that ends from `from` on
-unfoldable In : StmtRead → (base from len : ℕ) → Type 0
-In (Stmt p) base from len = (from ≤ p .next) × (p .next ≤ len) × (p .words ≤ 40 * (p .next - base)) × (p .processes ≤ p .next - base)
-In (NoStmt k p) base from len = Unit {0}
+abbrev In : (base from len : ℕ) → StmtRead → Type 0
+In base from len (Stmt p) = (from ≤ p .next) × (p .next ≤ len) × (p .words ≤ 40 * (p .next - base)) × (p .processes ≤ p .next - base)
+In base from len (NoStmt k p) = Unit {0}
 
-either-stmt : (t : Bool) (x y : StmtRead) (base from len : ℕ) → In x base from len → In y base from len → In (pickS t x y) base from len
-unfolding In
-either-stmt true x y base from len h k = h
-either-stmt false x y base from len h k = k
+later-stmt : (x : StmtRead) (base from from2 len : ℕ) → from ≤ from2 → In base from2 len x → In base from len x
+later-stmt (Stmt p) base from from2 len l h = (omega (arith, l, h .0), h .1, h .2, h .3)
+later-stmt (NoStmt k p) base from from2 len l h = tt
 
-later-stmt : (x : StmtRead) (base base2 from from2 len : ℕ) → base ≤ base2 → from ≤ from2 → In x base2 from2 len → In x base from len
-unfolding In
-later-stmt (Stmt p) base base2 from from2 len l m h =
-    (omega (arith, m, h .0), h .1, omega (arith, l, h .2), omega (arith, l, h .3))
-later-stmt (NoStmt k p) base base2 from from2 len l m h = tt
-
-leaf-small : (n words base from len : ℕ) (d : First) → base < from → from ≤ n → n ≤ len → words ≤ 4 → In (leaf n words d) base from len
-unfolding In
+leaf-small : (n words base from len : ℕ) (d : First) → base < from → from ≤ n → n ≤ len → words ≤ 4 → In base from len (leaf n words d)
 leaf-small n words base from len d l m u w = (m, u, omega (arith, l, m, w), omega (arith, l, m))
 
-item-stmt : (i : Item) (f : ℕ → ℕ → StmtRead) (base from at len : ℕ) → InItem i at len
-    → ((v n : ℕ) → at < n → n ≤ len → In (f v n) base from len) → In (itemS i f) base from len
-unfolding InItem In
-item-stmt (Found v n) f base from at len h k = k v n (h .0) (h .1)
-item-stmt (Refused j p) f base from at len h k = tt
-
-head-stmt : (x : HeadRead) (f : ℕ → First → StmtRead) (base from at len : ℕ) → InHead x at len
-    → ((n : ℕ) (d : First) → at ≤ n → n ≤ len → In (f n d) base from len) → In (headS x f) base from len
-unfolding InHead In
-head-stmt (Head n d) f base from at len h k = k n d (h .0) (h .1)
-head-stmt (NoHead j p) f base from at len h k = tt
-
-item-head : (i : Item) (f : ℕ → ℕ → HeadRead) (from at len : ℕ) → InItem i at len
-    → ((v n : ℕ) → at < n → n ≤ len → InHead (f v n) from len) → InHead (itemH i f) from len
-unfolding InItem InHead
-item-head (Found v n) f from at len h k = k v n (h .0) (h .1)
-item-head (Refused j p) f from at len h k = tt
-
-head-head : (x : HeadRead) (f : ℕ → First → HeadRead) (from at len : ℕ) → InHead x at len
-    → ((n : ℕ) (d : First) → at ≤ n → n ≤ len → InHead (f n d) from len) → InHead (headH x f) from len
-unfolding InHead
-head-head (Head n d) f from at len h k = k n d (h .0) (h .1)
-head-head (NoHead j p) f from at len h k = tt
-
-either-head : (t : Bool) (x y : HeadRead) (from len : ℕ) → InHead x from len → InHead y from len → InHead (pickH t x y) from len
-unfolding InHead
-either-head true x y from len h k = h
-either-head false x y from len h k = k
-
-earlier-head : (x : HeadRead) (from at len : ℕ) → from ≤ at → InHead x at len → InHead x from len
-unfolding InHead
+earlier-head : (x : HeadRead) (from at len : ℕ) → from ≤ at → InHead at len x → InHead from len x
 earlier-head (Head n d) from at len l h = (omega (arith, l, h .0), h .1)
 earlier-head (NoHead k p) from at len l h = tt
 
-whole-in : (d vs : ℕ) (s : List ℕ) (at : ℕ) → InHead (wholeAt d vs s at) at (length s)
-unfolding InExpr InHead wholeAt
-whole-in d vs s at = one (exprAt d vs s at) (expr-in d vs s at)
-  where
-    one : (x : ExprRead) → InExpr x at (length s) → InHead (wholeOf at x) at (length s)
-    one (Expr n r) h = (omega (arith, h .0), h .1)
-    one (NoExpr k p) h = tt
+whole-in : (d vs : ℕ) (s : List ℕ) (at : ℕ) → InHead at (length s) (wholeAt d vs s at)
+unfolding wholeAt
+whole-in d vs s at =
+    of-expr (InHead at (length s)) (InExpr at (length s)) (λ k p. tt) (exprAt d vs s at) (expr-in d vs s at) (λ n r h.
+    (omega (arith, h .0), h .1))
 
 value-in : (words d vs : ℕ) (s : List ℕ) (base from at : ℕ) → base < from → from ≤ at → words ≤ 4
-    → In (valueAt words d vs s at) base from (length s)
+    → In base from (length s) (valueAt words d vs s at)
 unfolding valueAt
 value-in words d vs s base from at l m w =
-    head-stmt (wholeAt d vs s at) _ base from at (length s) (whole-in d vs s at) (λ n e a b.
-    leaf-small n words base from (length s) e l (omega (arith, m, a)) b w)
+    of-head (In base from (length s)) (InHead at (length s)) (λ k p. tt) (wholeAt d vs s at) (whole-in d vs s at) (λ n e h.
+    leaf-small n words base from (length s) e l (omega (arith, m, h .0)) (h .1) w)
 
-taken-in : (w : Names) (s : List ℕ) (at : ℕ) (e : First) → InHead (takenAt w s at e) at (length s)
-unfolding InItem InHead takenAt
-taken-in w s at e = channel (inputAt w s at) (name-in _ _ _ s at)
-  where
-    end : (n : ℕ) → at < n → (x : Item) → InItem x n (length s) → InHead (itemH x (λ v m. Head m e)) at (length s)
-    end n a (Found v m) h = (omega (arith, a, h .0), h .1)
-    end n a (Refused j p) h = tt
+taken-in : (w : Names) (s : List ℕ) (at : ℕ) (e : First) → InHead at (length s) (takenAt w s at e)
+unfolding takenAt
+taken-in w s at e =
+    of-item (InHead at (length s)) (InItem at (length s)) (λ k p. tt) (inputAt w s at) (name-in _ _ _ s at) (λ c n h.
+    of-item (InHead at (length s)) (InItem n (length s)) (λ k p. tt) (variableAt w s n) (name-in _ _ _ s n) (λ x m g.
+    (omega (arith, h .0, g .0), g .1)))
 
-    channel : (x : Item) → InItem x at (length s)
-        → InHead (itemH x (λ c n. itemH (variableAt w s n) (λ x2 m. Head m e))) at (length s)
-    channel (Found c n) h = end n (h .0) (variableAt w s n) (name-in _ _ _ s n)
-    channel (Refused j p) h = tt
-
-simple-in : (k d : ℕ) (w : Names) (s : List ℕ) (base at : ℕ) → base < at → at ≤ length s → In (simpleAt k d w s at) base at (length s)
+simple-in : (k d : ℕ) (w : Names) (s : List ℕ) (base at : ℕ) → base < at → at ≤ length s → In base at (length s) (simpleAt k d w s at)
 unfolding simpleAt
 simple-in k d w s base at l u =
-    either-stmt (ltb k 2) _ _ base at (length s) (leaf-small at 2 base at (length s) Nowhere l (omega arith) u (omega arith)) (
-    either-stmt (eqb k 2) _ _ base at (length s)
-    (item-stmt (variableAt w s at) _ base at at (length s) (name-in _ _ _ s at) (λ x n a b.
-    value-in 2 d (w .variables) s base at n l (omega (arith, a)) (omega arith))) (
-    either-stmt (eqb k 3) _ _ base at (length s)
-    (head-stmt (takenAt w s at Nowhere) _ base at at (length s) (taken-in w s at Nowhere) (λ m e a b.
-    leaf-small m 3 base at (length s) e l a b (omega arith)))
-    (item-stmt (outputAt w s at) _ base at at (length s) (name-in _ _ _ s at) (λ x n a b.
-    value-in 4 d (w .variables) s base at n l (omega (arith, a)) (omega arith)))))
+    of-cond (In base at (length s)) (ltb k 2) (leaf-small at 2 base at (length s) Nowhere l (omega arith) u (omega arith)) (
+    of-cond (In base at (length s)) (eqb k 2)
+    (of-item (In base at (length s)) (InItem at (length s)) (λ j p. tt) (variableAt w s at) (name-in _ _ _ s at) (λ x n h.
+    value-in 2 d (w .variables) s base at n l (omega (arith, h .0)) (omega arith))) (
+    of-cond (In base at (length s)) (eqb k 3)
+    (of-head (In base at (length s)) (InHead at (length s)) (λ j p. tt) (takenAt w s at Nowhere) (taken-in w s at Nowhere) (λ m e h.
+    leaf-small m 3 base at (length s) e l (h .0) (h .1) (omega arith)))
+    (of-item (In base at (length s)) (InItem at (length s)) (λ j p. tt) (outputAt w s at) (name-in _ _ _ s at) (λ x n h.
+    value-in 4 d (w .variables) s base at n l (omega (arith, h .0)) (omega arith)))))
 
-guard-in : (d : ℕ) (w : Names) (s : List ℕ) (at : ℕ) → InHead (guardAt d w s at) at (length s)
-unfolding InHead guardAt
+guard-in : (d : ℕ) (w : Names) (s : List ℕ) (at : ℕ) → InHead at (length s) (guardAt d w s at)
+unfolding guardAt
 guard-in d w s at =
-    item-head (betweenAt 0 1 s at) _ at at (length s) (between-in 0 1 s at) (λ g n a b.
-    head-head (wholeAt d (w .variables) s n) _ at n (length s) (whole-in d (w .variables) s n) (λ m e c f.
-    let empty : InHead (Head m e) at (length s) = (omega (arith, a, c), f) in
-    either-head (eqb g 0) _ _ at (length s)
-    (earlier-head (takenAt w s m e) at m (length s) (omega (arith, a, c)) (taken-in w s m e)) empty))
+    of-item (InHead at (length s)) (InItem at (length s)) (λ k p. tt) (betweenAt 0 1 s at) (between-in 0 1 s at) (λ g n a.
+    of-head (InHead at (length s)) (InHead n (length s)) (λ k p. tt) (wholeAt d (w .variables) s n) (whole-in d (w .variables) s n)
+    (λ m e b.
+    of-cond (InHead at (length s)) (eqb g 0)
+    (earlier-head (takenAt w s m e) at m (length s) (omega (arith, a .0, b .0)) (taken-in w s m e)) (omega (arith, a .0, b .0), b .1)))
 
 -- the head of a part; an empty one ends where it begins
-abbrev After : HeadRead → ℕ → Type 0
-After (Head n d) from = from ≤ n
-After (NoHead k p) from = Unit {0}
+abbrev After : ℕ → HeadRead → Type 0
+After from (Head n d) = from ≤ n
+After from (NoHead k p) = Unit {0}
 
-head-after : (k d : ℕ) (w : Names) (s : List ℕ) (at : ℕ) → After (headAt k d w s at) at
-unfolding headAt InHead
-head-after k d w s at = one (ltb k 9)
+head-after : (k d : ℕ) (w : Names) (s : List ℕ) (at : ℕ) → After at (headAt k d w s at)
+unfolding headAt
+head-after k d w s at =
+    of-cond (After at) (ltb k 9) (omega arith)
+    (of-cond (After at) (ltb k 11) (of (wholeAt d (w .variables) s at) (whole-in d (w .variables) s at))
+    (of (guardAt d w s at) (guard-in d w s at)))
   where
-    of : (x : HeadRead) → InHead x at (length s) → After x at
+    of : (x : HeadRead) → InHead at (length s) x → After at x
     of (Head n e) h = h .0
     of (NoHead j p) h = tt
 
-    one : (t : Bool) → After (pickH t (Head at Nowhere) (pickH (ltb k 11) (wholeAt d (w .variables) s at) (guardAt d w s at))) at
-    one true = omega arith
-    one false =
-        of (pickH (ltb k 11) (wholeAt d (w .variables) s at) (guardAt d w s at))
-        (either-head (ltb k 11) (wholeAt d (w .variables) s at) (guardAt d w s at) at (length s) (whole-in d (w .variables) s at)
-        (guard-in d w s at))
+-- a statement ends behind its place and in the table, and its words and processes are bounded by its bytes
+abbrev pub Small : (at len : ℕ) → StmtRead → Type 0
+Small at len x = In at (suc at) len x
 
--- a statement from its own place on
-abbrev Own : StmtRead → (at len : ℕ) → Type 0
-Own r at len = In r at (suc at) len
-
-behind-in : (r : StmtRead) (e : First) (at n len : ℕ) → at ≤ n → Own r n len → Own (stmtS r (λ p. Stmt (behind e p))) at len
-unfolding In
-behind-in (Stmt p) e at n len l h = (omega (arith, l, h .0), h .1, omega (arith, l, h .2), omega (arith, l, h .3))
-behind-in (NoStmt j p) e at n len l h = tt
-
-part-in : (k d : ℕ) (w : Names) (inner : ℕ → StmtRead) (s : List ℕ) (at : ℕ) → ((n : ℕ) → Own (inner n) n (length s))
-    → Own (partAt k d w inner s at) at (length s)
-unfolding partAt In
-part-in k d w inner s at h = one (headAt k d w s at) (head-after k d w s at)
-  where
-    one : (x : HeadRead) → After x at → Own (headS x (λ n e. stmtS (inner n) (λ p. Stmt (behind e p)))) at (length s)
-    one (Head n e) l = behind-in (inner n) e at n (length s) l (h n)
-    one (NoHead j p) l = tt
+part-in : (k d : ℕ) (w : Names) (inner : ℕ → StmtRead) (s : List ℕ) (at : ℕ) → ((n : ℕ) → Small n (length s) (inner n))
+    → Small at (length s) (partAt k d w inner s at)
+unfolding partAt
+part-in k d w inner s at h =
+    of-head (Small at (length s)) (After at) (λ j p. tt) (headAt k d w s at) (head-after k d w s at) (λ n e l.
+    of-stmt (Small at (length s)) (Small n (length s)) (λ j p. tt) (inner n) (h n) (λ p g.
+    (omega (arith, l, g .0), g .1, omega (arith, l, g .2), omega (arith, l, g .3))))
 
 -- what is counted over parts from base on
 record SumIn (base from len : ℕ) (t : Sum) : Type 0 where
@@ -327,17 +245,16 @@ record SumIn (base from len : ℕ) (t : Sum) : Type 0 where
   live : t .live ≤ t .next - base
   all : t .all ≤ t .next - base
 
-unfoldable InSum : SumRead → (base from len : ℕ) → Type 0
-InSum (Total t) base from len = SumIn base from len t
-InSum (NoSum k p) base from len = Unit {0}
+abbrev InSum : (base from len : ℕ) → SumRead → Type 0
+InSum base from len (Total t) = SumIn base from len t
+InSum base from len (NoSum k p) = Unit {0}
 
 nothing-in : (base at len : ℕ) → at ≤ len → SumIn base at len (nothing at)
 nothing-in base at len l =
     record { reached = omega arith; inside = l; most = omega arith; sum = omega arith; live = omega arith; all = omega arith }
 
-added-in : (base from len : ℕ) (t : Sum) (p : Part) → base ≤ from → SumIn base from len t → Own (Stmt p) (t .next) len
+added-in : (base from len : ℕ) (t : Sum) (p : Part) → base ≤ from → SumIn base from len t → Small (t .next) len (Stmt p)
     → SumIn base from len (added t p)
-unfolding In
 added-in base from len t p b h k =
     let r : from ≤ p .next = omega (arith, h .reached, k .0) in
     let m : max (t .most) (p .words) ≤ 40 * (p .next - base) = omega (arith, h .reached, b, h .most, k .0, k .2) in
@@ -347,110 +264,76 @@ added-in base from len t p b h k =
     record { reached = r; inside = k .1; most = m; sum = a; live = l; all = e }
 
 most-in : (i k d : ℕ) (w : Names) (inner : ℕ → StmtRead) (s : List ℕ) (t : Sum) (base from : ℕ) → base ≤ from
-    → ((n : ℕ) → Own (inner n) n (length s)) → SumIn base from (length s) t → InSum (mostFrom i k d w inner s t) base from (length s)
-unfolding mostFrom InSum
+    → ((n : ℕ) → Small n (length s) (inner n)) → SumIn base from (length s) t → InSum base from (length s) (mostFrom i k d w inner s t)
+unfolding mostFrom
 most-in zero k d w inner s t base from b h g = g
 most-in (suc i) k d w inner s t base from b h g =
-    one (partAt k d w inner s (t .next)) (part-in k d w inner s (t .next) h)
+    of-stmt (InSum base from (length s)) (Small (t .next) (length s)) (λ j p. tt) (partAt k d w inner s (t .next))
+    (part-in k d w inner s (t .next) h)
     (λ p q. most-in i k d w inner s (added t p) base from b h (added-in base from (length s) t p b g q))
-  where
-    one : (r : StmtRead) → Own r (t .next) (length s)
-        → ((p : Part) → Own (Stmt p) (t .next) (length s) → InSum (mostFrom i k d w inner s (added t p)) base from (length s))
-        → InSum (stmtT r (λ p. mostFrom i k d w inner s (added t p))) base from (length s)
-    one (Stmt p) q f = f p q
-    one (NoStmt j p) q f = tt
 
-gathered-in : (k : ℕ) (r : SumRead) (base from len : ℕ) → base < from → InSum r base from len
-    → In (sumS r (λ t. gathered k t)) base from len
-unfolding InSum In
+gathered-in : (k : ℕ) (x : SumRead) (base from len : ℕ) → base < from → InSum base from len x → In base from len (gathered k x)
 gathered-in k (Total t) base from len l h =
-    let w : max (pickW (eqb k 11) 4 2) (t .most) ≤ 40 * (t .next - base) =
-    by-bool (eqb k 11) (λ e. rw e (omega (arith, l, h .reached, h .most))) (λ e. rw e (omega (arith, l, h .reached, h .most))) in
+    let w : max (cond (eqb k 11) 4 2) (t .most) ≤ 40 * (t .next - base) =
+    of-cond (λ n. max n (t .most) ≤ 40 * (t .next - base)) (eqb k 11) (omega (arith, l, h .reached, h .most))
+    (omega (arith, l, h .reached, h .most)) in
     (h .reached, h .inside, w, omega (arith, l, h .reached, h .live))
 gathered-in k (NoSum j p) base from len l h = tt
 
 branches-in : (i d place : ℕ) (w : Names) (inner : ℕ → StmtRead) (s : List ℕ) (b : Branches) (base from : ℕ) → base < from
-    → ((n : ℕ) → Own (inner n) n (length s)) → SumIn (suc base) from (length s) (b .total)
-    → In (branchesFrom i d place w inner s b) base from (length s)
-unfolding branchesFrom In
+    → ((n : ℕ) → Small n (length s) (inner n)) → SumIn (suc base) from (length s) (b .total)
+    → In base from (length s) (branchesFrom i d place w inner s b)
+unfolding branchesFrom
 branches-in zero d place w inner s b base from l h g =
     (g .reached, g .inside, omega (arith, l, g .reached, g .sum), omega (arith, l, g .reached, g .all))
 branches-in (suc i) d place w inner s b base from l h g =
-    one (inner (b .total .next)) (h (b .total .next))
+    of-stmt (In base from (length s)) (Small (b .total .next) (length s)) (λ j p. tt) (inner (b .total .next)) (h (b .total .next))
     (λ p q. branches-in i d place w inner s (joinedBy d w s b p) base from l h (added-in (suc base) from (length s) (b .total) p l g q))
-  where
-    one : (r : StmtRead) → Own r (b .total .next) (length s)
-        → ((p : Part) → Own (Stmt p) (b .total .next) (length s)
-        → In (branchesFrom i d place w inner s (joinedBy d w s b p)) base from (length s))
-        → In (stmtS r (λ p. branchesFrom i d place w inner s (joinedBy d w s b p))) base from (length s)
-    one (Stmt p) q f = f p q
-    one (NoStmt j p) q f = tt
 
-declaring-in : (c : ℕ) (r : StmtRead) (base at len : ℕ) → c ≤ 32 → base < at → Own r at len → Own (declaring c r) base len
-unfolding In
-declaring-in c (Stmt p) base at len u l h =
-    (omega (arith, l, h .0), h .1, omega (arith, u, l, h .0, h .2), omega (arith, l, h .3))
-declaring-in c (NoStmt j p) base at len u l h = tt
-
-deep-stmt : (s : List ℕ) (at : ℕ) → Own (itemS (deepAt s at) (λ v n. leaf n 2 Nowhere)) at (length s)
-unfolding deepAt In
-deep-stmt s at = one (groupsAt 5 s at)
-  where
-    one : (r : NumberRead) → Own (itemS (deepOf at r) (λ v n. leaf n 2 Nowhere)) at (length s)
-    one (Number v n) = tt
-    one Bad = tt
-
-declared-in : (x : Item) (inner : ℕ → ℕ → StmtRead) (place at len : ℕ) → place < at → InItem x at len → Most 32 x
-    → ((c n : ℕ) → Own (inner c n) n len) → Own (itemS x (λ c n. declaring c (inner c n))) place len
-unfolding InItem In
-declared-in (Found c n) inner place at len l i m h = declaring-in c (inner c n) place n len m (omega (arith, l, i .0)) (h c n)
-declared-in (Refused j p) inner place at len l i m h = tt
+-- a count of names, and the statement behind it
+declared-in : (x : Item) (inner : ℕ → ℕ → StmtRead) (place at len : ℕ) → place < at → InItem at len x → Most 32 x
+    → ((c n : ℕ) → Small n len (inner c n)) → Small place len (withItem NoStmt x (λ c n. declaring c (inner c n)))
+declared-in x inner place at len l i m h =
+    of-item (Small place len) (λ y. InItem at len y × Most 32 y) (λ j p. tt) x (i, m) (λ c n f.
+    of-stmt (Small place len) (Small n len) (λ j p. tt) (inner c n) (h c n) (λ p g.
+    let b : place < n = omega (arith, l, f .0) in
+    (omega (arith, b, g .0), g .1, omega (arith, f .1, b, g .0, g .2), omega (arith, b, g .3))))
 
 inside-in : (place k d : ℕ) (w : Names) (inner : Names → ℕ → StmtRead) (s : List ℕ) (at : ℕ) → place < at → at ≤ length s
-    → ((v : Names) (n : ℕ) → Own (inner v n) n (length s)) → Own (insideAt place k d w inner s at) place (length s)
+    → ((v : Names) (n : ℕ) → Small n (length s) (inner v n)) → Small place (length s) (insideAt place k d w inner s at)
 inside-in place k d w inner s at l u h =
-    either-stmt (ltb k 7) _ _ place (suc place) (length s)
+    of-cond (Small place (length s)) (ltb k 7)
     (declared-in (betweenAt 1 32 s at) (λ c n. inner (moreNames k c w) n) place at (length s) l (between-in 1 32 s at)
     (between-most 1 32 s at) (λ c n. h (moreNames k c w) n))
-    (either-stmt (eqb k 10) _ _ place (suc place) (length s) (most 1 at l u)
-    (item-stmt (betweenAt 0 (pickW (eqb k 8) 16 32) s at) _ place (suc place) at (length s)
-    (between-in 0 (pickW (eqb k 8) 16 32) s at) (λ c n a b.
-    either-stmt (eqb k 8) _ _ place (suc place) (length s) (par c n (omega (arith, l, a)) b) (most c n (omega (arith, l, a)) b))))
+    (of-cond (Small place (length s)) (eqb k 10) (most 1 at l u)
+    (of-item (Small place (length s)) (InItem at (length s)) (λ j p. tt) (betweenAt 0 (cond (eqb k 8) 16 32) s at)
+    (between-in 0 (cond (eqb k 8) 16 32) s at) (λ c n g.
+    let b : place < n = omega (arith, l, g .0) in
+    of-cond (Small place (length s)) (eqb k 8) (par c n b (g .1)) (most c n b (g .1)))))
   where
-    most : (c n : ℕ) → place < n → n ≤ length s → Own (sumS (mostFrom c k d w (inner w) s (nothing n)) (λ t. gathered k t)) place (length s)
+    most : (c n : ℕ) → place < n → n ≤ length s → Small place (length s) (gathered k (mostFrom c k d w (inner w) s (nothing n)))
     most c n a b =
-        later-stmt _ place place (suc place) n (length s) (omega arith) a
+        later-stmt (gathered k (mostFrom c k d w (inner w) s (nothing n))) place (suc place) n (length s) a
         (gathered-in k (mostFrom c k d w (inner w) s (nothing n)) place n (length s) a
         (most-in c k d w (inner w) s (nothing n) place n (omega (arith, a)) (h w) (nothing-in place n (length s) b)))
 
-    par : (c n : ℕ) → place < n → n ≤ length s → Own (branchesFrom c d place w (inner w) s (noBranches n)) place (length s)
+    par : (c n : ℕ) → place < n → n ≤ length s → Small place (length s) (branchesFrom c d place w (inner w) s (noBranches n))
     par c n a b =
-        later-stmt _ place place (suc place) n (length s) (omega arith) a
+        later-stmt (branchesFrom c d place w (inner w) s (noBranches n)) place (suc place) n (length s) a
         (branches-in c d place w (inner w) s (noBranches n) place n a (h w) (nothing-in (suc place) n (length s) b))
 
-stmt-in : (d : ℕ) (w : Names) (s : List ℕ) (at : ℕ) → Own (stmtAt d w s at) at (length s)
+pub stmt-small : (d : ℕ) (w : Names) (s : List ℕ) (at : ℕ) → Small at (length s) (stmtAt d w s at)
 unfolding stmtAt
-stmt-in zero w s at = deep-stmt s at
-stmt-in (suc d) w s at =
-    item-stmt (betweenAt 0 11 s at) _ at (suc at) at (length s) (between-in 0 11 s at) (λ k n a b.
-    either-stmt (ltb k 5) _ _ at (suc at) (length s)
-    (later-stmt (simpleAt k d w s n) at at (suc at) n (length s) (omega arith) a (simple-in k d w s at n a b))
-    (inside-in at k d w (λ v i. stmtAt d v s i) s n a b (λ v i. stmt-in d v s i)))
+stmt-small zero w s at = of-item (Small at (length s)) IsRefused (λ k p. tt) (deepAt s at) (deep-refused s at) (λ v n h. absurd h)
+stmt-small (suc d) w s at =
+    of-item (Small at (length s)) (InItem at (length s)) (λ j p. tt) (betweenAt 0 11 s at) (between-in 0 11 s at) (λ k n h.
+    of-cond (Small at (length s)) (ltb k 5)
+    (later-stmt (simpleAt k d w s n) at (suc at) n (length s) (h .0) (simple-in k d w s at n (h .0) (h .1)))
+    (inside-in at k d w (λ v i. stmtAt d v s i) s n (h .0) (h .1) (λ v i. stmt-small d v s i)))
 
--- a statement ends behind its place and in the table, and its words and processes are bounded by its bytes
-abbrev pub Small : StmtRead → (at len : ℕ) → Type 0
-Small (Stmt p) at len = (at < p .next) × (p .next ≤ len) × (p .words ≤ 40 * (p .next - at)) × (p .processes ≤ p .next - at)
-Small (NoStmt k p) at len = Unit {0}
+pub stmt-counts : {p : Part} (d : ℕ) (w : Names) (s : List ℕ) (at : ℕ) → stmtAt d w s at ≡ Stmt p → Small at (length s) (Stmt p)
+stmt-counts d w s at e = rw e at (stmt-small d w s at)
 
-small : (r : StmtRead) (at len : ℕ) → Own r at len → Small r at len
-unfolding In
-small (Stmt p) at len h = h
-small (NoStmt k p) at len h = tt
-
-pub stmt-small : (d : ℕ) (w : Names) (s : List ℕ) (at : ℕ) → Small (stmtAt d w s at) at (length s)
-stmt-small d w s at = small (stmtAt d w s at) at (length s) (stmt-in d w s at)
-
-pub part-small : (k d : ℕ) (w : Names) (s : List ℕ) (at : ℕ) → Small (partIn k d w s at) at (length s)
+pub part-counts : {p : Part} (k d : ℕ) (w : Names) (s : List ℕ) (at : ℕ) → partIn k d w s at ≡ Stmt p → Small at (length s) (Stmt p)
 unfolding partIn
-part-small k d w s at =
-    small (partIn k d w s at) at (length s) (part-in k d w (λ i. stmtAt d w s i) s at (λ i. stmt-in d w s i))
+part-counts k d w s at e = rw e at (part-in k d w (λ i. stmtAt d w s i) s at (λ i. stmt-small d w s i))

@@ -1,30 +1,20 @@
 -- Expressions as the reader answers them, by places of the table.
 use Prim.Native.Nat.{ℕ, zero, suc, _+_, _-_, _≤_, max}
-use mathlib.Core.Bool.{Bool, true, false}
+use mathlib.Core.Bool.{cond}
 use mathlib.Core.List.{List}
-use lib.Dec.{ltb, leb, eqb}
-use Rattle.numbers.specs.Items.{betweenAt, nameAt, deepAt}
-use Rattle.numbers.specs.declared.Item.{Item}
-use Rattle.numbers.specs.declared.Item.the-variants.{Item as Found, Refused}
+use lib.Dec.{ltb, eqb}
+use Rattle.numbers.specs.Items.{betweenAt, nameAt, deepAt, withItem}
 use Rattle.table.specs.declared.expr.ExprRead.{ExprRead}
 use Rattle.table.specs.declared.expr.ExprRead.the-variants.{Expr, Refused as NoExpr}
 
-abbrev pub pickE : Bool → ExprRead → ExprRead → ExprRead
-pickE true a b = a
-pickE false a b = b
-
--- what follows an item, and what follows an expression
-abbrev pub withItem : Item → (ℕ → ℕ → ExprRead) → ExprRead
-withItem (Found v n) f = f v n
-withItem (Refused k p) f = NoExpr k p
-
-abbrev pub withExpr : ExprRead → (ℕ → ℕ → ExprRead) → ExprRead
-withExpr (Expr n r) f = f n r
-withExpr (NoExpr k p) f = NoExpr k p
+-- what follows an expression; `refuse` answers a refusal
+abbrev pub withExpr : {R : Type 0} → (refuse : ℕ → ℕ → R) → ExprRead → (ℕ → ℕ → R) → R
+withExpr refuse (Expr n r) f = f n r
+withExpr refuse (NoExpr k p) f = refuse k p
 
 unfoldable pub leafAt : (kind variables : ℕ) → List ℕ → (at : ℕ) → ExprRead
 leafAt kind vs s at =
-    pickE (eqb kind 0) (withItem (betweenAt 0 4294967295 s at) (λ v n. Expr n 1)) (withItem (nameAt vs 0 0 s at) (λ v n. Expr n 1))
+    withItem NoExpr (cond (eqb kind 0) (betweenAt 0 4294967295 s at) (nameAt vs 0 0 s at)) (λ v n. Expr n 1)
 
 -- the larger of left and 1 + right
 abbrev pub joined : (left right : ℕ) → ℕ
@@ -32,14 +22,14 @@ joined l r = max l (1 + r)
 
 -- after an operator's number: left, right
 abbrev pub sides : (ℕ → ExprRead) → ℕ → ExprRead
-sides inner at = withExpr (inner at) (λ n l. withExpr (inner n) (λ m r. Expr m (joined l r)))
+sides inner at = withExpr NoExpr (inner at) (λ n l. withExpr NoExpr (inner n) (λ m r. Expr m (joined l r)))
 
 unfoldable pub exprAt : (depth variables : ℕ) → List ℕ → (at : ℕ) → ExprRead
-exprAt zero vs s at = withItem (deepAt s at) (λ v n. Expr n 1)
+exprAt zero vs s at = withItem NoExpr (deepAt s at) (λ v n. Expr n 1)
 exprAt (suc d) vs s at =
-    withItem (betweenAt 0 3 s at) (λ k n.
-    pickE (ltb k 2) (leafAt k vs s n)
-    (pickE (eqb k 2) (exprAt d vs s n) (withItem (betweenAt 0 7 s n) (λ o m. sides (λ i. exprAt d vs s i) m))))
+    withItem NoExpr (betweenAt 0 3 s at) (λ k n.
+    cond (ltb k 2) (leafAt k vs s n)
+    (cond (eqb k 2) (exprAt d vs s n) (withItem NoExpr (betweenAt 0 7 s n) (λ o m. sides (λ i. exprAt d vs s i) m))))
 
 unfoldable pub sidesAt : (depth variables : ℕ) → List ℕ → (at : ℕ) → ExprRead
 sidesAt d vs s at = sides (λ i. exprAt (d - 1) vs s i) at

@@ -1,17 +1,14 @@
--- Statements as the reader answers them, by places of the table. The usage check of a PAR is a parameter: it sees the branches' stretches.
+-- Statements as the reader answers them, by places of the table. The usage check of a PAR sees the stretches of its branches.
 use Prim.Native.Nat.{ℕ, zero, suc, _+_, _-_, _*_, _≤_, max}
-use mathlib.Core.Bool.{Bool, true, false, _||_}
+use mathlib.Core.Bool.{Bool, false, cond}
 use mathlib.Core.List.{List}
 use lib.ListN.{replicate}
 use lib.Seq.{slice}
 use lib.Dec.{ltb, leb, eqb}
-use Rattle.numbers.specs.Items.{betweenAt, nameAt, deepAt}
-use Rattle.table.specs.Exprs.{exprAt}
-use Rattle.table.specs.Uses.{Checked, checkedAt}
+use Rattle.numbers.specs.Items.{betweenAt, nameAt, deepAt, withItem}
+use Rattle.table.specs.Exprs.{exprAt, withExpr}
+use Rattle.table.specs.Uses.{checkedAt}
 use Rattle.numbers.specs.declared.Item.{Item}
-use Rattle.numbers.specs.declared.Item.the-variants.{Item as Found, Refused}
-use Rattle.table.specs.declared.expr.ExprRead.{ExprRead}
-use Rattle.table.specs.declared.expr.ExprRead.the-variants.{Expr, Refused as NoExpr}
 use Rattle.table.specs.declared.stmt.Names.{Names}
 use Rattle.table.specs.declared.stmt.First.{First}
 use Rattle.table.specs.declared.stmt.First.the-variants.{Nowhere, At}
@@ -24,58 +21,22 @@ use Rattle.table.specs.declared.stmt.Sum.{Sum}
 use Rattle.table.specs.declared.stmt.SumRead.{SumRead}
 use Rattle.table.specs.declared.stmt.SumRead.the-variants.{Sum as Total, Refused as NoSum}
 
-abbrev pub pickS : Bool → StmtRead → StmtRead → StmtRead
-pickS true a b = a
-pickS false a b = b
-
-abbrev pub pickH : Bool → HeadRead → HeadRead → HeadRead
-pickH true a b = a
-pickH false a b = b
-
-abbrev pub pickF : Bool → First → First → First
-pickF true a b = a
-pickF false a b = b
-
 abbrev pub firstOf : First → First → First
 firstOf Nowhere o = o
 firstOf (At p) o = At p
 
--- continuations
-abbrev pub itemS : Item → (ℕ → ℕ → StmtRead) → StmtRead
-itemS (Found v n) f = f v n
-itemS (Refused k p) f = NoStmt k p
+-- what follows a head, and what follows a statement; `refuse` answers a refusal
+abbrev pub withHead : {R : Type 0} → (refuse : ℕ → ℕ → R) → HeadRead → (ℕ → First → R) → R
+withHead refuse (Head n d) f = f n d
+withHead refuse (NoHead k p) f = refuse k p
 
-abbrev pub itemH : Item → (ℕ → ℕ → HeadRead) → HeadRead
-itemH (Found v n) f = f v n
-itemH (Refused k p) f = NoHead k p
-
-abbrev pub headS : HeadRead → (ℕ → First → StmtRead) → StmtRead
-headS (Head n d) f = f n d
-headS (NoHead k p) f = NoStmt k p
-
-abbrev pub headH : HeadRead → (ℕ → First → HeadRead) → HeadRead
-headH (Head n d) f = f n d
-headH (NoHead k p) f = NoHead k p
-
-abbrev pub stmtS : StmtRead → (Part → StmtRead) → StmtRead
-stmtS (Stmt p) f = f p
-stmtS (NoStmt k p) f = NoStmt k p
-
-abbrev pub stmtT : StmtRead → (Part → SumRead) → SumRead
-stmtT (Stmt p) f = f p
-stmtT (NoStmt k p) f = NoSum k p
-
-abbrev pub sumS : SumRead → (Sum → StmtRead) → StmtRead
-sumS (Total t) f = f t
-sumS (NoSum k p) f = NoStmt k p
+abbrev pub withStmt : {R : Type 0} → (refuse : ℕ → ℕ → R) → StmtRead → (Part → R) → R
+withStmt refuse (Stmt p) f = f p
+withStmt refuse (NoStmt k p) f = refuse k p
 
 -- an expression that stands in no other: over 3 registers it is noted
-abbrev pub wholeOf : ℕ → ExprRead → HeadRead
-wholeOf at (Expr n r) = Head n (pickF (leb r 3) Nowhere (At at))
-wholeOf at (NoExpr k p) = NoHead k p
-
 unfoldable pub wholeAt : (depth variables : ℕ) → List ℕ → (at : ℕ) → HeadRead
-wholeAt d vs s at = wholeOf at (exprAt d vs s at)
+wholeAt d vs s at = withExpr NoHead (exprAt d vs s at) (λ n r. Head n (cond (leb r 3) Nowhere (At at)))
 
 abbrev pub variableAt : Names → List ℕ → ℕ → Item
 variableAt w s at = nameAt (w .variables) 0 0 s at
@@ -91,29 +52,29 @@ leaf n words d = Stmt (record { next = n; words = words; processes = 1; deep = d
 
 -- an expression as the end of a statement without statements inside
 unfoldable pub valueAt : (words depth variables : ℕ) → List ℕ → (at : ℕ) → StmtRead
-valueAt words d vs s at = headS (wholeAt d vs s at) (λ m e. leaf m words e)
+valueAt words d vs s at = withHead NoStmt (wholeAt d vs s at) (λ m e. leaf m words e)
 
 -- a channel to input from and a variable, behind what has been read
 unfoldable pub takenAt : Names → List ℕ → (at : ℕ) → First → HeadRead
-takenAt w s at e = itemH (inputAt w s at) (λ c n. itemH (variableAt w s n) (λ x m. Head m e))
+takenAt w s at e = withItem NoHead (inputAt w s at) (λ c n. withItem NoHead (variableAt w s n) (λ x m. Head m e))
 
 -- kinds 0 to 4, whose expressions have `depth` left
 unfoldable pub simpleAt : (kind depth : ℕ) → Names → List ℕ → (at : ℕ) → StmtRead
 simpleAt k d w s at =
-    pickS (ltb k 2) (leaf at 2 Nowhere)
-    (pickS (eqb k 2) (itemS (variableAt w s at) (λ x n. valueAt 2 d (w .variables) s n))
-    (pickS (eqb k 3) (headS (takenAt w s at Nowhere) (λ m e. leaf m 3 e))
-    (itemS (outputAt w s at) (λ c n. valueAt 4 d (w .variables) s n))))
+    cond (ltb k 2) (leaf at 2 Nowhere)
+    (cond (eqb k 2) (withItem NoStmt (variableAt w s at) (λ x n. valueAt 2 d (w .variables) s n))
+    (cond (eqb k 3) (withHead NoStmt (takenAt w s at Nowhere) (λ m e. leaf m 3 e))
+    (withItem NoStmt (outputAt w s at) (λ c n. valueAt 4 d (w .variables) s n))))
 
 -- a guard: its kind, its condition, and for kind 0 its channel and its variable
 unfoldable pub guardAt : (depth : ℕ) → Names → List ℕ → (at : ℕ) → HeadRead
 guardAt d w s at =
-    itemH (betweenAt 0 1 s at) (λ g n.
-    headH (wholeAt d (w .variables) s n) (λ m e. pickH (eqb g 0) (takenAt w s m e) (Head m e)))
+    withItem NoHead (betweenAt 0 1 s at) (λ g n.
+    withHead NoHead (wholeAt d (w .variables) s n) (λ m e. cond (eqb g 0) (takenAt w s m e) (Head m e)))
 
 -- what stands before the statement of a part: nothing in SEQ and PAR (7, 8), a condition in IF and WHILE (9, 10), a guard in ALT (11)
 unfoldable pub headAt : (kind depth : ℕ) → Names → List ℕ → (at : ℕ) → HeadRead
-headAt k d w s at = pickH (ltb k 9) (Head at Nowhere) (pickH (ltb k 11) (wholeAt d (w .variables) s at) (guardAt d w s at))
+headAt k d w s at = cond (ltb k 9) (Head at Nowhere) (cond (ltb k 11) (wholeAt d (w .variables) s at) (guardAt d w s at))
 
 abbrev pub behind : First → Part → Part
 behind d p = record { next = p .next; words = p .words; processes = p .processes; deep = firstOf d (p .deep); clash = p .clash }
@@ -135,28 +96,25 @@ added t p =
 
 -- one part: its head, then its statement
 unfoldable pub partAt : (kind depth : ℕ) → Names → (ℕ → StmtRead) → List ℕ → (at : ℕ) → StmtRead
-partAt k d w inner s at = headS (headAt k d w s at) (λ n e. stmtS (inner n) (λ p. Stmt (behind e p)))
+partAt k d w inner s at = withHead NoStmt (headAt k d w s at) (λ n e. withStmt NoStmt (inner n) (λ p. Stmt (behind e p)))
 
 -- so many parts, after some
 unfoldable pub mostFrom : (left kind depth : ℕ) → Names → (ℕ → StmtRead) → List ℕ → Sum → SumRead
 mostFrom zero k d w inner s t = Total t
-mostFrom (suc i) k d w inner s t = stmtT (partAt k d w inner s (t .next)) (λ p. mostFrom i k d w inner s (added t p))
-
-abbrev pub pickW : Bool → ℕ → ℕ → ℕ
-pickW true a b = a
-pickW false a b = b
+mostFrom (suc i) k d w inner s t = withStmt NoSum (partAt k d w inner s (t .next)) (λ p. mostFrom i k d w inner s (added t p))
 
 -- what is counted of a SEQ, an IF, a WHILE (at least 2 words) or an ALT (at least 4)
-abbrev pub gathered : (kind : ℕ) → Sum → StmtRead
-gathered k t =
+abbrev pub gathered : (kind : ℕ) → SumRead → StmtRead
+gathered k (Total t) =
     Stmt
     (record {
       next = t .next;
-      words = max (pickW (eqb k 11) 4 2) (t .most);
+      words = max (cond (eqb k 11) 4 2) (t .most);
       processes = max 1 (t .live);
       deep = t .deep;
       clash = t .clash;
     })
+gathered k (NoSum j p) = NoStmt j p
 
 -- the branches of a PAR so far: what is counted, the sets of all of them, and whether any two clash
 pub record Branches : Type 0 where
@@ -179,14 +137,14 @@ parOf at t bad =
       words = 2 + t .sum;
       processes = max 1 (t .all);
       deep = t .deep;
-      clash = pickF bad (At at) (t .clash);
+      clash = cond bad (At at) (t .clash);
     })
 
 -- so many branches of the PAR at a place, after some
 unfoldable pub branchesFrom : (left depth place : ℕ) → Names → (ℕ → StmtRead) → List ℕ → Branches → StmtRead
 branchesFrom zero d at w inner s b = parOf at (b .total) (b .bad)
 branchesFrom (suc i) d at w inner s b =
-    stmtS (inner (b .total .next)) (λ p. branchesFrom i d at w inner s (joinedBy d w s b p))
+    withStmt NoStmt (inner (b .total .next)) (λ p. branchesFrom i d at w inner s (joinedBy d w s b p))
 
 abbrev pub noBranches : ℕ → Branches
 noBranches at = record { total = nothing at; before = replicate 4096 0; bad = false }
@@ -195,8 +153,8 @@ noBranches at = record { total = nothing at; before = replicate 4096 0; bad = fa
 abbrev pub moreNames : (kind count : ℕ) → Names → Names
 moreNames k n w =
     record {
-      variables = pickW (eqb k 5) (w .variables + n) (w .variables);
-      channels = pickW (eqb k 5) (w .channels) (w .channels + n);
+      variables = cond (eqb k 5) (w .variables + n) (w .variables);
+      channels = cond (eqb k 5) (w .channels) (w .channels + n);
       inputs = w .inputs;
       outputs = w .outputs;
     }
@@ -204,39 +162,41 @@ moreNames k n w =
 -- VAR and CHAN
 abbrev pub declaring : ℕ → StmtRead → StmtRead
 declaring n r =
-    stmtS r (λ p. Stmt (record { next = p .next; words = n + p .words; processes = p .processes; deep = p .deep; clash = p .clash }))
+    withStmt NoStmt r (λ p.
+    Stmt (record { next = p .next; words = n + p .words; processes = p .processes; deep = p .deep; clash = p .clash }))
 
 -- what follows a kind from 5 on, with a reader of the statements inside, which have `depth` left
 abbrev pub insideAt : (place kind depth : ℕ) → Names → (Names → ℕ → StmtRead) → List ℕ → (at : ℕ) → StmtRead
 insideAt place k d w inner s n =
-    pickS (ltb k 7) (itemS (betweenAt 1 32 s n) (λ c m. declaring c (inner (moreNames k c w) m)))
-    (pickS (eqb k 10) (sumS (mostFrom 1 k d w (inner w) s (nothing n)) (λ t. gathered k t))
-    (itemS (betweenAt 0 (pickW (eqb k 8) 16 32) s n) (λ c m.
-    pickS (eqb k 8) (branchesFrom c d place w (inner w) s (noBranches m))
-    (sumS (mostFrom c k d w (inner w) s (nothing m)) (λ t. gathered k t)))))
+    cond (ltb k 7) (withItem NoStmt (betweenAt 1 32 s n) (λ c m. declaring c (inner (moreNames k c w) m)))
+    (cond (eqb k 10) (gathered k (mostFrom 1 k d w (inner w) s (nothing n)))
+    (withItem NoStmt (betweenAt 0 (cond (eqb k 8) 16 32) s n) (λ c m.
+    cond (eqb k 8) (branchesFrom c d place w (inner w) s (noBranches m))
+    (gathered k (mostFrom c k d w (inner w) s (nothing m))))))
 
 unfoldable pub stmtAt : (depth : ℕ) → Names → List ℕ → (at : ℕ) → StmtRead
-stmtAt zero w s at = itemS (deepAt s at) (λ v n. leaf n 2 Nowhere)
+stmtAt zero w s at = withItem NoStmt (deepAt s at) (λ v n. leaf n 2 Nowhere)
 stmtAt (suc d) w s at =
-    itemS (betweenAt 0 11 s at) (λ k n. pickS (ltb k 5) (simpleAt k d w s n) (insideAt at k d w (λ v i. stmtAt d v s i) s n))
+    withItem NoStmt (betweenAt 0 11 s at) (λ k n. cond (ltb k 5) (simpleAt k d w s n) (insideAt at k d w (λ v i. stmtAt d v s i) s n))
 
 -- the same by its parts
 unfoldable pub partIn : (kind depth : ℕ) → Names → List ℕ → (at : ℕ) → StmtRead
 partIn k d w s at = partAt k d w (λ i. stmtAt d w s i) s at
 
 unfoldable pub mostAt : (kind count depth : ℕ) → Names → List ℕ → (at : ℕ) → StmtRead
-mostAt k c d w s at = sumS (mostFrom c k d w (λ i. stmtAt d w s i) s (nothing at)) (λ t. gathered k t)
+mostAt k c d w s at = gathered k (mostFrom c k d w (λ i. stmtAt d w s i) s (nothing at))
 
 unfoldable pub parAt : (place count depth : ℕ) → Names → List ℕ → (at : ℕ) → StmtRead
 parAt place c d w s at = branchesFrom c d place w (λ i. stmtAt d w s i) s (noBranches at)
 
 unfoldable pub declaredAt : (kind depth : ℕ) → Names → List ℕ → (at : ℕ) → StmtRead
-declaredAt k d w s at = itemS (betweenAt 1 32 s at) (λ c m. declaring c (stmtAt (d - 1) (moreNames k c w) s m))
+declaredAt k d w s at = withItem NoStmt (betweenAt 1 32 s at) (λ c m. declaring c (stmtAt (d - 1) (moreNames k c w) s m))
 
 unfoldable pub partsAt : (place kind depth : ℕ) → Names → List ℕ → (at : ℕ) → StmtRead
 partsAt place k d w s n =
-    pickS (eqb k 10) (mostAt k 1 (d - 1) w s n)
-    (itemS (betweenAt 0 (pickW (eqb k 8) 16 32) s n) (λ c m. pickS (eqb k 8) (parAt place c (d - 1) w s m) (mostAt k c (d - 1) w s m)))
+    cond (eqb k 10) (mostAt k 1 (d - 1) w s n)
+    (withItem NoStmt (betweenAt 0 (cond (eqb k 8) 16 32) s n) (λ c m.
+    cond (eqb k 8) (parAt place c (d - 1) w s m) (mostAt k c (d - 1) w s m)))
 
 -- what the readers ask: at most 32 names are declared for each depth that is left
 abbrev pub Fits : Names → ℕ → Type 0

@@ -1,58 +1,41 @@
 -- A whole table as the reader answers it: the channel counts, the statement, and what is tested after it was read.
 use Prim.Native.Nat.{ℕ, _+_}
-use mathlib.Core.Bool.{Bool, true, false, _||_}
+use mathlib.Core.Bool.{cond}
 use mathlib.Core.List.{List}
 use lib.ListN.{length}
 use lib.Dec.{ltb, leb, eqb}
 use Rattle.model.specs.declared.Reading.{Reading}
 use Rattle.model.specs.declared.Reading.the-variants.{Accepted, Refused}
-use Rattle.numbers.specs.Items.{betweenAt}
-use Rattle.table.specs.Stmts.{stmtAt}
-use Rattle.numbers.specs.declared.Item.{Item}
-use Rattle.numbers.specs.declared.Item.the-variants.{Item as Found, Refused as NoItem}
+use Rattle.numbers.specs.Items.{betweenAt, withItem}
+use Rattle.table.specs.Stmts.{stmtAt, withStmt}
 use Rattle.table.specs.declared.stmt.First.{First}
 use Rattle.table.specs.declared.stmt.First.the-variants.{Nowhere, At}
 use Rattle.table.specs.declared.stmt.Part.{Part}
-use Rattle.table.specs.declared.stmt.StmtRead.{StmtRead}
-use Rattle.table.specs.declared.stmt.StmtRead.the-variants.{Stmt, Refused as NoStmt}
-
-abbrev pub pickR : Bool → Reading → Reading → Reading
-pickR true a b = a
-pickR false a b = b
 
 -- a refusal at the place found, if one was; else what is tested next
 abbrev pub firstR : ℕ → First → Reading → Reading
 firstR k Nowhere r = r
 firstR k (At p) r = Refused k p
 
--- continuations
-abbrev pub itemR : Item → (ℕ → ℕ → Reading) → Reading
-itemR (Found v n) f = f v n
-itemR (NoItem k p) f = Refused k p
-
-abbrev pub stmtR : StmtRead → (Part → Reading) → Reading
-stmtR (Stmt p) f = f p
-stmtR (NoStmt k p) f = Refused k p
-
 -- the answer for a statement that was read: refusals 6 to 9, lowest first, then the facts
 unfoldable pub finished : (ins outs len : ℕ) → Part → Reading
 finished ins outs len p =
-    pickR (ltb (p .next) len) (Refused 6 (p .next))
+    cond (ltb (p .next) len) (Refused 6 (p .next))
     (firstR 7 (p .clash)
     (firstR 8 (p .deep)
-    (pickR (leb (p .processes) 64)
+    (cond (leb (p .processes) 64)
     (Accepted (record { words = p .words + ins + outs; inputs = ins; outputs = outs; processes = p .processes }))
     (Refused 9 0))))
 
 -- the statement behind the channel counts, and nothing behind it
 unfoldable pub bodyAt : (ins outs : ℕ) → List ℕ → (at : ℕ) → Reading
 bodyAt ins outs s at =
-    stmtR (stmtAt 32 (record { variables = 0; channels = ins + outs; inputs = ins; outputs = outs }) s at) (λ p.
+    withStmt Refused (stmtAt 32 (record { variables = 0; channels = ins + outs; inputs = ins; outputs = outs }) s at) (λ p.
     finished ins outs (length s) p)
 
 -- a table of 1 to 16384 bytes: the channel counts, then the statement
 unfoldable pub tableAt : List ℕ → Reading
 tableAt s =
-    pickR (eqb (length s) 0) (Refused 1 0)
-    (pickR (ltb 16384 (length s)) (Refused 1 0)
-    (itemR (betweenAt 0 8 s 0) (λ ins n. itemR (betweenAt 0 8 s n) (λ outs m. bodyAt ins outs s m))))
+    cond (eqb (length s) 0) (Refused 1 0)
+    (cond (ltb 16384 (length s)) (Refused 1 0)
+    (withItem Refused (betweenAt 0 8 s 0) (λ ins n. withItem Refused (betweenAt 0 8 s n) (λ outs m. bodyAt ins outs s m))))

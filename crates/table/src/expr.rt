@@ -1,9 +1,9 @@
 // Expressions.
 ghost use mathlib.Core.Path.{_≡_};
-ghost use Prim.Native.Nat.{ℕ, _+_, _<_, _≤_};
-ghost use lib.ListN.{length};
-ghost use Rattle.table.specs.Exprs.{leafAt, exprAt, sidesAt, joined, withItem, Within};
-ghost use Rattle.table.specs.declared.expr.ExprRead.the-variants.{Expr};
+ghost use Prim.Native.Nat.{_+_, _<_, _≤_};
+ghost use Rattle.table.specs.Exprs.{leafAt, exprAt, sidesAt, joined, Within};
+ghost use Rattle.table.specs.declared.expr.ExprRead.the-variants.{Expr, Refused as NoExpr};
+ghost use Rattle.numbers.specs.Items.{withItem};
 
 // The place after an expression and the registers that it needs; or a refusal's number and place.
 pub enum ExprRead {
@@ -23,7 +23,7 @@ fn read_leaf(table: &[u8], at: usize, kind: u64, variables: u64) -> ExprRead
 
 // A refusal for the whole expression.
 fn no_expr(item: numbers::Item) -> ExprRead
-    ensures { λ r. ⌜ r ≡ withItem item (λ v n. Expr n 1) ⌝ }
+    ensures { λ r. ⌜ r ≡ withItem NoExpr item (λ v n. Expr n 1) ⌝ }
 {
     match item {
         numbers::Item::Item(v, next) => ExprRead::Expr(next, 1),

@@ -1,12 +1,14 @@
 // Statements: what one reading counts.
 ghost use mathlib.Core.Path.{_≡_};
-ghost use Prim.Native.Nat.{ℕ, _+_, _<_, _≤_, max};
+ghost use Prim.Native.Nat.{_+_, _<_, _≤_, max};
 ghost use lib.ListN.{length};
-ghost use Rattle.table.specs.Stmts.{firstOf, leaf, wholeAt, valueAt, takenAt, simpleAt, guardAt, headAt, itemS, stmtS, behind};
+ghost use Rattle.table.specs.Stmts.{firstOf, leaf, wholeAt, valueAt, takenAt, simpleAt, guardAt, headAt, behind, withStmt};
 ghost use Rattle.table.specs.Stmts.{added, gathered, parOf, declaring, SmallWords, Fits};
 ghost use Rattle.table.specs.Stmts.{partIn, mostAt, parAt, declaredAt, partsAt, stmtAt};
-ghost use Rattle.table.specs.declared.stmt.StmtRead.the-variants.{Stmt};
+ghost use Rattle.table.specs.declared.stmt.StmtRead.the-variants.{Stmt, Refused as NoStmt};
+ghost use Rattle.table.specs.declared.stmt.SumRead.the-variants.{Sum as Total};
 ghost use Rattle.table.specs.declared.stmt.First.the-variants.{Nowhere};
+ghost use Rattle.numbers.specs.Items.{withItem};
 
 // How many names are in scope: variables, channels with the outside ones, outside inputs and outputs.
 pub struct Names {
@@ -209,7 +211,7 @@ fn read_head(table: &[u8], at: usize, kind: u64, depth: u64, names: Names) -> He
 
 // A refusal for the whole statement.
 fn no_stmt(item: numbers::Item) -> StmtRead
-    ensures { λ r. ⌜ r ≡ itemS item (λ v n. leaf n 2 Nowhere) ⌝ }
+    ensures { λ r. ⌜ r ≡ withItem NoStmt item (λ v n. leaf n 2 Nowhere) ⌝ }
 {
     match item {
         numbers::Item::Item(v, next) => leaf_part(next, 2, First::Nowhere),
@@ -243,7 +245,7 @@ fn add(sum: Sum, part: Part) -> Sum
 
 // What is counted of a SEQ, an IF, a WHILE or an ALT.
 fn gather(kind: u64, sum: Sum) -> StmtRead
-    ensures { λ r. ⌜ r ≡ gathered kind sum ⌝ }
+    ensures { λ r. ⌜ r ≡ gathered kind (Total sum) ⌝ }
 {
     let least = if kind == 11 { 4 } else { 2 };
     let words = larger(least, sum.most);
@@ -281,7 +283,7 @@ fn close_par(place: usize, sum: Sum, bad: bool) -> StmtRead
 
 // A statement behind a head.
 fn behind_head(deep: First, read: StmtRead) -> StmtRead
-    ensures { λ r. ⌜ r ≡ stmtS read (λ p. Stmt (behind deep p)) ⌝ }
+    ensures { λ r. ⌜ r ≡ withStmt NoStmt read (λ p. Stmt (behind deep p)) ⌝ }
 {
     match read {
         StmtRead::Stmt(p) => {

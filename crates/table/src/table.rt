@@ -1,6 +1,6 @@
 // A whole table: the channel counts, the statement, and what is tested after it was read.
 ghost use mathlib.Core.Path.{_≡_};
-ghost use Prim.Native.Nat.{ℕ, _≤_};
+ghost use Prim.Native.Nat.{_≤_};
 ghost use lib.ListN.{length};
 ghost use Rattle.table.specs.Tables.{finished, bodyAt, tableAt};
 

@@ -1,9 +1,8 @@
 // What a branch of a PAR does to names declared outside the PAR, over its own stretch of the table.
 ghost use mathlib.Core.Path.{_≡_};
-ghost use Prim.Native.Nat.{ℕ, _+_, _<_, _≤_};
+ghost use Prim.Native.Nat.{_+_, _<_, _≤_};
 ghost use mathlib.Core.Bool.{_&&_};
 ghost use lib.Dec.{eqb};
-ghost use lib.ListN.{length};
 ghost use Rattle.table.specs.Uses.{used, skipAt, markAt, nameUsed, variableUsed, exprUsed, simpleUsed, guardUsed, headUsed};
 ghost use Rattle.table.specs.Uses.{manyUsed, partsUsed, stmtUsed, met, merged, checked, checkedAt};
 

@@ -12,10 +12,11 @@ use borrow.Author.Needs.{needs}
 use native.Mathlib.Omega.{arith}
 use borrow.Author.Tests.{lt-ltb, le-ltb, le-leb, lt-leb, eq-eqb, ne-eqb}
 use mathlib.Core.Path.{_≡_, refl, sym, _∙_}
+use mathlib.Core.Bool.{cond}
 use mathlib.Core.List.{List}
 use lib.ListN.{length, getD}
 use lib.Dec.{leb, ltb}
-use Rattle.numbers.specs.Items.{groupsAt, pickN, grouped}
+use Rattle.numbers.specs.Items.{groupsAt, grouped}
 use Rattle.numbers.specs.declared.NumberRead.{NumberRead}
 use Rattle.numbers.specs.declared.NumberRead.the-variants.{Number, Bad}
 
@@ -25,8 +26,8 @@ none k s at e = rw e
 
 -- `groupsAt` unrolled once, at a count above 0
 turn : (k : ℕ) (s : List ℕ) (at : ℕ) → (k ≡ 0 → ⊥) → groupsAt k s at
-    ≡ pickN (leb (length s) at) Bad
-    (pickN (ltb (getD s at 0) 128) (Number (getD s at 0) (at + 1)) (grouped (getD s at 0) (groupsAt (k - 1) s (at + 1))))
+    ≡ cond (leb (length s) at) Bad
+    (cond (ltb (getD s at 0) 128) (Number (getD s at 0) (at + 1)) (grouped (getD s at 0) (groupsAt (k - 1) s (at + 1))))
 unfolding groupsAt
 turn zero s at p = absurd (p refl)
 turn (suc k) s at p = let e : suc k - 1 ≡ k = omega arith in rw e

@@ -19,12 +19,12 @@ use Rattle.table.proofs.expr.+read_expr+read_sides.Tie.{close}
 use borrow.Author.Needs.{needs}
 use borrow.Author.Tests.{lt-ltb, le-ltb, eq-eqb, ne-eqb}
 use native.Mathlib.Omega.{arith}
-use mathlib.Core.Bool.{Bool, true, false}
+use mathlib.Core.Bool.{cond}
 use mathlib.Core.List.{List}
 use mathlib.Core.Path.{_≡_, refl, sym, _∙_}
 use lib.Dec.{ltb, eqb}
-use Rattle.numbers.specs.Items.{betweenAt, nameAt, deepAt, deepOf, groupsAt}
-use Rattle.table.specs.Exprs.{exprAt, leafAt, sidesAt, pickE, withItem, Within}
+use Rattle.numbers.specs.Items.{betweenAt, nameAt, deepAt, groupsAt, withNumber, withItem}
+use Rattle.table.specs.Exprs.{exprAt, leafAt, sidesAt, Within}
 use Rattle.numbers.specs.declared.Item.{Item}
 use Rattle.numbers.specs.declared.Item.the-variants.{Item as Found, Refused}
 use Rattle.numbers.specs.declared.NumberRead.{NumberRead}
@@ -32,39 +32,35 @@ use Rattle.numbers.specs.declared.NumberRead.the-variants.{Number, Bad}
 use Rattle.table.specs.declared.expr.ExprRead.{ExprRead}
 use Rattle.table.specs.declared.expr.ExprRead.the-variants.{Expr, Refused as NoExpr}
 
-none : (d vs : ℕ) (s : List ℕ) (at : ℕ) → d ≡ 0 → exprAt d vs s at ≡ withItem (deepAt s at) (λ v n. Expr n 1)
+none : (d vs : ℕ) (s : List ℕ) (at : ℕ) → d ≡ 0 → exprAt d vs s at ≡ withItem NoExpr (deepAt s at) (λ v n. Expr n 1)
 unfolding exprAt
 none d vs s at e = rw e
 
 -- what follows a kind, and `exprAt` unrolled once where there is depth left
 abbrev byKind : (d vs : ℕ) → List ℕ → ℕ → ℕ → ExprRead
 byKind d vs s k n =
-    pickE (ltb k 2) (leafAt k vs s n)
-    (pickE (eqb k 2) (exprAt (d - 1) vs s n) (withItem (betweenAt 0 7 s n) (λ o m. sidesAt d vs s m)))
+    cond (ltb k 2) (leafAt k vs s n)
+    (cond (eqb k 2) (exprAt (d - 1) vs s n) (withItem NoExpr (betweenAt 0 7 s n) (λ o m. sidesAt d vs s m)))
 
 turn : (d vs : ℕ) (s : List ℕ) (at : ℕ) → (d ≡ 0 → ⊥)
-    → exprAt d vs s at ≡ withItem (betweenAt 0 3 s at) (λ k n. byKind d vs s k n)
+    → exprAt d vs s at ≡ withItem NoExpr (betweenAt 0 3 s at) (λ k n. byKind d vs s k n)
 unfolding exprAt sidesAt
 turn zero vs s at p = absurd (p refl)
 turn (suc d) vs s at p = let e : suc d - 1 ≡ d = omega arith in rw e
 
 -- the registers of a refusal, a leaf and an expression one level in
-deep-within : (at d : ℕ) (x : NumberRead) → Within (withItem (deepOf at x) (λ v n. Expr n 1)) d
+deep-within : (at d : ℕ) (x : NumberRead) → Within (withItem NoExpr (withNumber (Refused 2 at) x (λ v n. Refused 4 at)) (λ v n. Expr n 1)) d
 deep-within at d (Number v n) = tt
 deep-within at d Bad = tt
 
-item-within : (d : ℕ) (i : Item) → (d ≡ 0 → ⊥) → Within (withItem i (λ v n. Expr n 1)) d
+item-within : (d : ℕ) (i : Item) → (d ≡ 0 → ⊥) → Within (withItem NoExpr i (λ v n. Expr n 1)) d
 item-within d (Found v n) p = omega arith
 item-within d (Refused k a) p = tt
-
-pick-within : (d : ℕ) (b : Bool) (x y : ExprRead) → Within x d → Within y d → Within (pickE b x y) d
-pick-within d true x y p q = p
-pick-within d false x y p q = q
 
 leaf-within : (d k vs : ℕ) (s : List ℕ) (at : ℕ) → (d ≡ 0 → ⊥) → Within (leafAt k vs s at) d
 unfolding leafAt
 leaf-within d k vs s at p =
-    pick-within d (eqb k 0) _ _ (item-within d (betweenAt 0 4294967295 s at) p) (item-within d (nameAt vs 0 0 s at) p)
+    item-within d (cond (eqb k 0) (betweenAt 0 4294967295 s at) (nameAt vs 0 0 s at)) p
 
 within-more : (d : ℕ) (x : ExprRead) → Within x (d - 1) → Within x d
 within-more d (Expr n r) p = omega arith
@@ -114,14 +110,14 @@ read-sides-claims t = (read-expr-below t, read-expr.Post, join-reads.Asked, join
 first : {t : ℕ} {x : Item} (c : read-expr-lts.After-read-between (read-expr-claims t) (read-expr-at t) read-expr.Post)
     → c .read-between .result ≡ x
     → let a = c .before .before .before .args in
-    exprAt (a .depth) (a .variables) (a .table .now) (a .at) ≡ withItem x (byKind (a .depth) (a .variables) (a .table .now))
+    exprAt (a .depth) (a .variables) (a .table .now) (a .at) ≡ withItem NoExpr x (byKind (a .depth) (a .variables) (a .table .now))
 first c e = turn _ _ _ _ (c .before .if1 .left) ∙ simp (sym (c .read-between .ensures) ∙ e)
 
 second : {t : ℕ} {x : Item} (c : read-expr-lts.After-read-between2 (read-expr-claims t) (read-expr-at t) read-expr.Post)
     → c .read-between2 .result ≡ x
     → let a = c .before .before .before .before .before .before .before .before .before .args in
     exprAt (a .depth) (a .variables) (a .table .now) (a .at)
-    ≡ withItem x (λ o m. sidesAt (a .depth) (a .variables) (a .table .now) m)
+    ≡ withItem NoExpr x (λ o m. sidesAt (a .depth) (a .variables) (a .table .now) m)
 second c e =
     let k = c .before .before .before .before in
     first (k .before .before) (k .kind .given .1)

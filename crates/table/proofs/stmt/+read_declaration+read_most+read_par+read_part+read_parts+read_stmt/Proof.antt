@@ -35,9 +35,9 @@ use Rattle.table.proofs.usage.check_branch.Reads as check-branch-reads
 use Rattle.table.proofs.stmt.+read_declaration+read_most+read_par+read_part+read_parts+read_stmt.{statement}
 use Rattle.table.proofs.stmt.+read_declaration+read_most+read_par+read_part+read_parts+read_stmt.Tie.{close}
 use borrow.Author.Needs.{needs}
-use borrow.Author.Tests.{lt-ltb, le-ltb, eq-eqb, ne-eqb, ltb-false}
+use borrow.Author.Tests.{lt-ltb, le-ltb, eq-eqb, ne-eqb}
 use native.Mathlib.Omega.{arith}
-use mathlib.Core.Bool.{Bool, true, false}
+use mathlib.Core.Bool.{Bool, cond}
 use mathlib.Core.List.{List, [], _∷_}
 use mathlib.Core.Logic.{⊎-elim}
 use mathlib.Core.Path.{_≡_, refl, ap, sym, _∙_}
@@ -45,14 +45,11 @@ use lib.Dec.{ltb, eqb}
 use lib.ListN.{length, take, drop}
 use lib.Seq.{take-nil}
 use Rattle.table.specs.Uses.{checked, checkedAt}
-use Rattle.numbers.specs.Items.{betweenAt, between, pickI, deepAt, groupsAt}
-use Rattle.table.specs.Stmts.{stmtAt, partIn, partAt, mostAt, parAt, declaredAt, partsAt, simpleAt, mostFrom, branchesFrom, itemS}
-use Rattle.table.specs.Stmts.{stmtS, stmtT, pickS, pickW, leaf, nothing, added, parOf, Branches, joinedBy, noBranches, moreNames}
+use Rattle.numbers.specs.Items.{betweenAt, deepAt, withItem}
+use Rattle.table.specs.Stmts.{stmtAt, partIn, partAt, mostAt, parAt, declaredAt, partsAt, simpleAt, mostFrom, branchesFrom, withStmt}
+use Rattle.table.specs.Stmts.{leaf, nothing, added, parOf, Branches, joinedBy, noBranches, moreNames}
 use Rattle.table.specs.Stmts.{Fits, SmallWords}
 use Rattle.numbers.specs.declared.Item.{Item}
-use Rattle.numbers.specs.declared.Item.the-variants.{Item as Found, Refused}
-use Rattle.numbers.specs.declared.NumberRead.{NumberRead}
-use Rattle.numbers.specs.declared.NumberRead.the-variants.{Number, Bad}
 use Rattle.table.specs.declared.stmt.Names.{Names}
 use Rattle.table.specs.declared.stmt.First.the-variants.{Nowhere}
 use Rattle.table.specs.declared.stmt.Part.{Part}
@@ -60,38 +57,16 @@ use Rattle.table.specs.declared.stmt.StmtRead.{StmtRead}
 use Rattle.table.specs.declared.stmt.StmtRead.the-variants.{Stmt, Refused as NoStmt}
 use Rattle.table.specs.declared.stmt.Sum.{Sum}
 use Rattle.table.specs.declared.stmt.SumRead.{SumRead}
-use Rattle.table.specs.declared.stmt.SumRead.the-variants.{Sum as Total}
-use Rattle.table.proofs.Small.{Small, stmt-small, part-small}
-
--- a count is at most what is asked for
-abbrev AtMost : ℕ → Item → Type 0
-AtMost hi (Found v n) = v ≤ hi
-AtMost hi (Refused k p) = Unit {0}
-
-pick-most : (hi : ℕ) (b : Bool) (x y : Item) → AtMost hi x → (b ≡ false → AtMost hi y) → AtMost hi (pickI b x y)
-pick-most hi true x y p q = p
-pick-most hi false x y p q = q refl
-
-between-most : (lo hi at : ℕ) (x : NumberRead) → AtMost hi (between lo hi at x)
-between-most lo hi at (Number v n) =
-    pick-most hi (ltb v lo) (Refused 3 at) (pickI (ltb hi v) (Refused 3 at) (Found v n)) tt
-    (λ e. pick-most hi (ltb hi v) (Refused 3 at) (Found v n) tt (ltb-false hi v))
-between-most lo hi at Bad = tt
-
-count-most : {v n : ℕ} (lo hi : ℕ) (s : List ℕ) (at : ℕ) → betweenAt lo hi s at ≡ Found v n → v ≤ hi
-unfolding betweenAt
-count-most lo hi s at e = rw e at (between-most lo hi at (groupsAt 5 s at))
+use Rattle.table.specs.declared.stmt.SumRead.the-variants.{Sum as Total, Refused as NoSum}
+use Rattle.model.proofs.Cases.{of-cond}
+use Rattle.table.proofs.Small.{Small, count-most, stmt-small, stmt-counts, part-counts}
 
 -- more names fit where there is depth left, and what is counted in a table fits
-pick-within : (b : Bool) (x y d m : ℕ) → x + d ≤ m → y + d ≤ m → pickW b x y + d ≤ m
-pick-within true x y d m p q = p
-pick-within false x y d m p q = q
-
 more-fits : (k n d : ℕ) (w : Names) → 0 < d → n ≤ 32 → Fits w d → Fits (moreNames k n w) (d - 1)
 more-fits k n d w p q f = (
   omega arith,
-  pick-within (eqb k 5) (w .variables + n) (w .variables) (32 * (d - 1)) 1024 (omega arith) (omega arith),
-  pick-within (eqb k 5) (w .channels) (w .channels + n) (32 * (d - 1)) 1040 (omega arith) (omega arith),
+  of-cond (λ m. m + 32 * (d - 1) ≤ 1024) (eqb k 5) (omega arith) (omega arith),
+  of-cond (λ m. m + 32 * (d - 1) ≤ 1040) (eqb k 5) (omega arith) (omega arith),
   omega arith,
   omega arith,
 )
@@ -99,15 +74,9 @@ more-fits k n d w p q f = (
 less-fits : (d : ℕ) (w : Names) → Fits w d → Fits w (d - 1)
 less-fits d w f = (omega arith, omega arith, omega arith, omega arith, omega arith)
 
-small-words : (x : StmtRead) (at len : ℕ) → len ≤ 16384 → Small x at len → SmallWords x
+small-words : (x : StmtRead) (at len : ℕ) → len ≤ 16384 → Small at len x → SmallWords x
 small-words (Stmt p) at len h f = omega arith
 small-words (NoStmt k p) at len h f = tt
-
-stmt-counts : {p : Part} (d : ℕ) (w : Names) (s : List ℕ) (at : ℕ) → stmtAt d w s at ≡ Stmt p → Small (Stmt p) at (length s)
-stmt-counts d w s at e = rw e at (stmt-small d w s at)
-
-part-counts : {p : Part} (k d : ℕ) (w : Names) (s : List ℕ) (at : ℕ) → partIn k d w s at ≡ Stmt p → Small (Stmt p) at (length s)
-part-counts k d w s at e = rw e at (part-small k d w s at)
 
 -- one more branch, over its stretch as the code has it
 stretch : (f t : ℕ) (l : List ℕ) → drop f (take t l) ≡ take (t - f) (drop f l)
@@ -124,15 +93,16 @@ joined-is : {t : Sum} {l : List ℕ} {r : Bool} (d : ℕ) (w : Names) (s : List 
 joined-is d w s b p e f = rw (e, stretch (b .total .next) (p .next) s, ← f)
 
 -- `stmtAt` at depth 0, and unrolled once where there is depth left
-none : (d : ℕ) (w : Names) (s : List ℕ) (at : ℕ) → d ≡ 0 → stmtAt d w s at ≡ itemS (deepAt s at) (λ v n. leaf n 2 Nowhere)
+none : (d : ℕ) (w : Names) (s : List ℕ) (at : ℕ) → d ≡ 0 → stmtAt d w s at ≡ withItem NoStmt (deepAt s at) (λ v n. leaf n 2 Nowhere)
 unfolding stmtAt
 none d w s at e = rw e
 
 abbrev byKind : (d : ℕ) → Names → List ℕ → (at : ℕ) → ℕ → ℕ → StmtRead
 byKind d w s at k n =
-    pickS (ltb k 5) (simpleAt k (d - 1) w s n) (pickS (ltb k 7) (declaredAt k d w s n) (partsAt at k d w s n))
+    cond (ltb k 5) (simpleAt k (d - 1) w s n) (cond (ltb k 7) (declaredAt k d w s n) (partsAt at k d w s n))
 
-turn : (d : ℕ) (w : Names) (s : List ℕ) (at : ℕ) → (d ≡ 0 → ⊥) → stmtAt d w s at ≡ itemS (betweenAt 0 11 s at) (λ k n. byKind d w s at k n)
+turn : (d : ℕ) (w : Names) (s : List ℕ) (at : ℕ) → (d ≡ 0 → ⊥)
+    → stmtAt d w s at ≡ withItem NoStmt (betweenAt 0 11 s at) (λ k n. byKind d w s at k n)
 unfolding stmtAt declaredAt partsAt mostAt parAt
 turn zero w s at p = absurd (p refl)
 turn (suc d) w s at p = let e : suc d - 1 ≡ d = omega arith in rw e
@@ -146,7 +116,7 @@ unfolding mostFrom
 most-none i k d w s t e = rw e
 
 most-turn : (i k d : ℕ) (w : Names) (s : List ℕ) (t : Sum) → 0 < i
-    → mostLeft i k d w s t ≡ stmtT (partIn k d w s (t .next)) (λ p. mostLeft (i - 1) k d w s (added t p))
+    → mostLeft i k d w s t ≡ withStmt NoSum (partIn k d w s (t .next)) (λ p. mostLeft (i - 1) k d w s (added t p))
 unfolding mostFrom partIn
 most-turn zero k d w s t h = absurd (omega arith)
 most-turn (suc i) k d w s t h = let e : suc i - 1 ≡ i = omega arith in rw e
@@ -159,7 +129,7 @@ unfolding branchesFrom
 branches-none i d at w s b e = rw e
 
 branches-turn : (i d at : ℕ) (w : Names) (s : List ℕ) (b : Branches) → 0 < i
-    → branchesLeft i d at w s b ≡ stmtS (stmtAt d w s (b .total .next)) (λ p. branchesLeft (i - 1) d at w s (joinedBy d w s b p))
+    → branchesLeft i d at w s b ≡ withStmt NoStmt (stmtAt d w s (b .total .next)) (λ p. branchesLeft (i - 1) d at w s (joinedBy d w s b p))
 unfolding branchesFrom
 branches-turn zero d at w s b h = absurd (omega arith)
 branches-turn (suc i) d at w s b h = let e : suc i - 1 ≡ i = omega arith in rw e
@@ -326,12 +296,12 @@ read-stmt-claims t = (
 -- what is counted of the part and of the branch that is read
 part : {t : ℕ} (c : read-most-lts.After-p (read-most-claims t) (read-most-at t) read-most.Post read-most-Inv-loop read-most-μ-loop)
     → let k = c .before .before .before .before in
-    Small (Stmt (c .p .given .0 .0)) (k .loop .sum .next) (length (k .before .before .args .table .now))
+    Small (k .loop .sum .next) (length (k .before .before .args .table .now)) (Stmt (c .p .given .0 .0))
 part c = part-counts _ _ _ _ _ (sym (c .before .before .read-part .ensures) ∙ c .p .given .1)
 
 branch : {t : ℕ} (c : read-par-lts.After-p (read-par-claims t) (read-par-at t) read-par.Post read-par-Inv-loop read-par-μ-loop)
     → let k = c .before .before .before .before in
-    Small (Stmt (c .p .given .0 .0)) (k .loop .sum .next) (length (k .before .before .args .table .now))
+    Small (k .loop .sum .next) (length (k .before .before .args .table .now)) (Stmt (c .p .given .0 .0))
 branch c = stmt-counts _ _ _ _ (sym (c .before .before .read-stmt .ensures) ∙ c .p .given .1)
 
 -- the count of a declaration, and the names that are then in scope
@@ -347,11 +317,11 @@ more-is c =
 
 -- how many parts a statement may have, and how many it has
 most-is : {t : ℕ} (c : read-parts-lts.Joined2 (read-parts-claims t) (read-parts-at t) read-parts.Post)
-    → c .if2 .most ≡ pickW (eqb (c .before .before .before .args .kind) 8) 16 32
+    → c .if2 .most ≡ cond (eqb (c .before .before .before .args .kind) 8) 16 32
 most-is c = ⊎-elim (λ w. w .1 ∙ simp (eq-eqb _ _ (w .0 .taken))) (λ w. w .1 ∙ simp (ne-eqb _ _ (w .0 .left))) (c .if2 .came)
 
 parts-count : {t : ℕ} (c : read-parts-lts.After-count (read-parts-claims t) (read-parts-at t) read-parts.Post)
-    → c .count .given .0 .0 ≤ pickW (eqb (c .before .before .before .before .before .before .args .kind) 8) 16 32
+    → c .count .given .0 .0 ≤ cond (eqb (c .before .before .before .before .before .before .args .kind) 8) 16 32
 parts-count c =
     rw (most-is (c .before .before .before)) at (count-most 0 _ _ _ (sym (c .before .before .read-between .ensures) ∙ c .count .given .1))
 
@@ -359,15 +329,15 @@ parts-count c =
 first : {t : ℕ} {x : Item} (c : read-stmt-lts.After-read-between (read-stmt-claims t) (read-stmt-at t) read-stmt.Post)
     → c .read-between .result ≡ x
     → let a = c .before .before .before .args in
-    stmtAt (a .depth) (a .names) (a .table .now) (a .at) ≡ itemS x (byKind (a .depth) (a .names) (a .table .now) (a .at))
+    stmtAt (a .depth) (a .names) (a .table .now) (a .at) ≡ withItem NoStmt x (byKind (a .depth) (a .names) (a .table .now) (a .at))
 first c e = turn _ _ _ _ (c .before .if1 .left) ∙ simp (sym (c .read-between .ensures) ∙ e)
 
 second : {t : ℕ} {x : Item} (c : read-parts-lts.After-read-between (read-parts-claims t) (read-parts-at t) read-parts.Post)
     → c .read-between .result ≡ x
     → let a = c .before .before .before .before .args in
     partsAt (a .place) (a .kind) (a .depth) (a .names) (a .table .now) (a .at)
-    ≡ itemS x (λ n m.
-    pickS (eqb (a .kind) 8) (parAt (a .place) n (a .depth - 1) (a .names) (a .table .now) m)
+    ≡ withItem NoStmt x (λ n m.
+    cond (eqb (a .kind) 8) (parAt (a .place) n (a .depth - 1) (a .names) (a .table .now) m)
     (mostAt (a .kind) n (a .depth - 1) (a .names) (a .table .now) m))
 unfolding partsAt
 second c e = simp (ne-eqb _ _ (c .before .before .if1 .left), ← most-is (c .before), sym (c .read-between .ensures) ∙ e)
@@ -379,7 +349,7 @@ one-part : {t : ℕ} {x : StmtRead}
     → let a = c .before .before .before .before .args in
     let l = c .before .before .loop in
     mostLeft (a .count) (a .kind) (a .depth) (a .names) (a .table .now) (nothing (a .at))
-    ≡ stmtT x (λ p. mostLeft (a .count - (l .i + 1)) (a .kind) (a .depth) (a .names) (a .table .now) (added (l .sum) p))
+    ≡ withStmt NoSum x (λ p. mostLeft (a .count - (l .i + 1)) (a .kind) (a .depth) (a .names) (a .table .now) (added (l .sum) p))
 one-part c e =
     let a = c .before .before .before .before .args in
     let l = c .before .before .loop in
@@ -393,7 +363,7 @@ one-branch : {t : ℕ} {x : StmtRead}
     → let a = c .before .before .before .before .args in
     let l = c .before .before .loop in
     branchesLeft (a .count) (a .depth) (a .place) (a .names) (a .table .now) (noBranches (a .at))
-    ≡ stmtS x (λ p. branchesLeft (a .count - (l .i + 1)) (a .depth) (a .place) (a .names) (a .table .now)
+    ≡ withStmt NoStmt x (λ p. branchesLeft (a .count - (l .i + 1)) (a .depth) (a .place) (a .names) (a .table .now)
     (joinedBy (a .depth) (a .names) (a .table .now) (record { total = l .sum; before = l .before; bad = l .bad }) p))
 one-branch c e =
     let a = c .before .before .before .before .args in

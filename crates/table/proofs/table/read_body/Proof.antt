@@ -12,11 +12,11 @@ use Rattle.table.specs.Tables.{bodyAt}
 use Rattle.table.specs.declared.stmt.Names.{Names}
 use Rattle.table.specs.declared.stmt.Part.{Part}
 use Rattle.table.specs.declared.stmt.StmtRead.the-variants.{Stmt}
-use Rattle.table.proofs.Small.{Small, stmt-small}
+use Rattle.table.proofs.Small.{stmt-counts}
 
 -- a statement's words are bounded by the table's bytes
 words-within : {p : Part} (w : Names) (s : List ℕ) (at : ℕ) → length s ≤ 16384 → stmtAt 32 w s at ≡ Stmt p → p .words ≤ 655360
-words-within {p} w s at h e = let b : Small (Stmt p) at (length s) = rw e at (stmt-small 32 w s at) in omega (arith, h, b .1, b .2)
+words-within {p} w s at h e = let b = stmt-counts {p = p} 32 w s at e in omega (arith, h, b .1, b .2)
 
 finish-requires : tie.Need-finish-requires
 finish-requires c κs = (

@@ -2,18 +2,10 @@
 use borrow.Author.Needs.{needs}
 use Rattle.table.proofs.table.read_table.Statement.{statement}
 use Rattle.table.proofs.table.read_table.Tie as tie
-use Prim.Native.Nat.{ℕ, _≤_}
 use borrow.Author.Tests.{lt-ltb, le-ltb, eq-eqb, ne-eqb}
-use mathlib.Core.List.{List}
-use mathlib.Core.Path.{_≡_, sym, _∙_}
-use Rattle.numbers.specs.Items.{betweenAt}
+use mathlib.Core.Path.{sym, _∙_}
 use Rattle.table.specs.Tables.{tableAt}
-use Rattle.numbers.specs.declared.Item.the-variants.{Item as Found}
-use Rattle.table.proofs.Small.{between-most}
-
--- a count is at most what is asked for
-count-most : {v n : ℕ} (s : List ℕ) (at : ℕ) → betweenAt 0 8 s at ≡ Found v n → v ≤ 8
-count-most s at e = rw e at (between-most 0 8 s at)
+use Rattle.table.proofs.Small.{count-most}
 
 returns : tie.Need-returns
 unfolding tableAt
@@ -27,8 +19,8 @@ read-body-requires : tie.Need-read-body-requires
 read-body-requires c κs =
     let i = c .before .before .before .before .before in
     let o = c .before in (
-      count-most _ _ (sym (i .before .before .read-between .ensures) ∙ i .ins .given .1),
-      count-most _ _ (sym (o .before .before .read-between2 .ensures) ∙ o .outs .given .1),
+      count-most 0 8 _ _ (sym (i .before .before .read-between .ensures) ∙ i .ins .given .1),
+      count-most 0 8 _ _ (sym (o .before .before .read-between2 .ensures) ∙ o .outs .given .1),
       i .before .before .before .if2 .left,
     )
 

@@ -15,9 +15,10 @@ use borrow.Author.Tests.{eq-eqb, ne-eqb}
 use native.Mathlib.Omega.{arith}
 use mathlib.Core.List.{List}
 use mathlib.Core.Path.{_≡_, refl, sym, _∙_}
+use mathlib.Core.Bool.{cond}
 use lib.Dec.{eqb}
-use Rattle.numbers.specs.Items.{groupsAt}
-use Rattle.table.specs.Uses.{Used, used, pickU, onNumber, thenUsed, skipAt, nameUsed, exprUsed}
+use Rattle.numbers.specs.Items.{groupsAt, withNumber}
+use Rattle.table.specs.Uses.{Used, used, thenUsed, skipAt, nameUsed, exprUsed}
 
 none : (d limit : ℕ) (s : List ℕ) (at : ℕ) (l : List ℕ) → d ≡ 0 → exprUsed d limit s at l ≡ used at l
 unfolding exprUsed
@@ -26,13 +27,13 @@ none d limit s at l e = rw e
 -- what follows a kind, and `exprUsed` unrolled once where there is depth left
 abbrev byKind : (d limit : ℕ) → List ℕ → List ℕ → ℕ → ℕ → Used
 byKind d limit s l k n =
-    pickU (eqb k 0) (used (skipAt s n) l)
-    (pickU (eqb k 1) (nameUsed 1024 limit s n l)
-    (pickU (eqb k 2) (exprUsed (d - 1) limit s n l)
+    cond (eqb k 0) (used (skipAt s n) l)
+    (cond (eqb k 1) (nameUsed 1024 limit s n l)
+    (cond (eqb k 2) (exprUsed (d - 1) limit s n l)
     (thenUsed (exprUsed (d - 1) limit s (skipAt s n) l) (λ m k2. exprUsed (d - 1) limit s m k2))))
 
 turn : (d limit : ℕ) (s : List ℕ) (at : ℕ) (l : List ℕ) → (d ≡ 0 → ⊥)
-    → exprUsed d limit s at l ≡ onNumber (groupsAt 5 s at) (λ k n. byKind d limit s l k n) (used at l)
+    → exprUsed d limit s at l ≡ withNumber (used at l) (groupsAt 5 s at) (λ k n. byKind d limit s l k n)
 unfolding exprUsed
 turn zero limit s at l p = absurd (p refl)
 turn (suc d) limit s at l p = let e : suc d - 1 ≡ d = omega arith in rw e

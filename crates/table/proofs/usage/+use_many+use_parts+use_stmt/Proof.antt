@@ -24,9 +24,10 @@ use borrow.Author.Tests.{lt-ltb, le-ltb, ne-eqb}
 use native.Mathlib.Omega.{arith}
 use mathlib.Core.List.{List}
 use mathlib.Core.Path.{_≡_, refl, sym, _∙_}
+use mathlib.Core.Bool.{cond}
 use lib.Dec.{ltb}
-use Rattle.numbers.specs.Items.{groupsAt}
-use Rattle.table.specs.Uses.{Used, used, pickU, onNumber, thenUsed, skipAt, simpleUsed, headUsed, repeated}
+use Rattle.numbers.specs.Items.{groupsAt, withNumber}
+use Rattle.table.specs.Uses.{Used, used, thenUsed, skipAt, simpleUsed, headUsed, repeated}
 use Rattle.table.specs.Uses.{stmtUsed, manyUsed, partsUsed}
 
 none : (d vs cs : ℕ) (s : List ℕ) (at : ℕ) (l : List ℕ) → d ≡ 0 → stmtUsed d vs cs s at l ≡ used at l
@@ -36,11 +37,11 @@ none d vs cs s at l e = rw e
 -- what follows a kind, and `stmtUsed` unrolled once where there is depth left
 abbrev byKind : (d vs cs : ℕ) → List ℕ → List ℕ → ℕ → ℕ → Used
 byKind d vs cs s l k n =
-    pickU (ltb k 5) (simpleUsed k (d - 1) vs cs s n l)
-    (pickU (ltb k 7) (stmtUsed (d - 1) vs cs s (skipAt s n) l) (partsUsed k d vs cs s n l))
+    cond (ltb k 5) (simpleUsed k (d - 1) vs cs s n l)
+    (cond (ltb k 7) (stmtUsed (d - 1) vs cs s (skipAt s n) l) (partsUsed k d vs cs s n l))
 
 turn : (d vs cs : ℕ) (s : List ℕ) (at : ℕ) (l : List ℕ) → (d ≡ 0 → ⊥)
-    → stmtUsed d vs cs s at l ≡ onNumber (groupsAt 5 s at) (λ k n. byKind d vs cs s l k n) (used at l)
+    → stmtUsed d vs cs s at l ≡ withNumber (used at l) (groupsAt 5 s at) (λ k n. byKind d vs cs s l k n)
 unfolding stmtUsed partsUsed manyUsed
 turn zero vs cs s at l p = absurd (p refl)
 turn (suc d) vs cs s at l p = let e : suc d - 1 ≡ d = omega arith in rw e

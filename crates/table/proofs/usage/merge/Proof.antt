@@ -6,10 +6,11 @@ use borrow.Author.Tests.{eq-eqb, ne-eqb}
 use native.Mathlib.Omega.{arith}
 use mathlib.Core.List.{List}
 use mathlib.Core.Path.{_≡_, refl, sym, _∙_}
+use mathlib.Core.Bool.{cond}
 use Prim.Native.Nat.{ℕ, zero, suc, _-_, _<_, _≤_}
 use lib.ListN.{getD, set}
 use lib.Dec.{eqb}
-use Rattle.table.specs.Uses.{merged, pickL}
+use Rattle.table.specs.Uses.{merged}
 
 none : (k : ℕ) (b n : List ℕ) → k ≤ 0 → merged k b n ≡ b
 unfolding merged
@@ -18,7 +19,7 @@ none (suc k) b n p = absurd (omega arith)
 
 -- `merged` unrolled once, at a count above 0
 turn : (k : ℕ) (b n : List ℕ) → 0 < k
-    → merged k b n ≡ merged (k - 1) (pickL (eqb (getD n (k - 1) 0) 1) (set b (k - 1) 1) b) n
+    → merged k b n ≡ merged (k - 1) (cond (eqb (getD n (k - 1) 0) 1) (set b (k - 1) 1) b) n
 unfolding merged
 turn zero b n p = absurd (omega arith)
 turn (suc k) b n p = let e : suc k - 1 ≡ k = omega arith in rw e
