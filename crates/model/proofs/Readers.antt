@@ -1,6 +1,6 @@
 -- What reading a table gives: a program that is well formed, with its declarations at places of the table.
 use Prim.Native.Nat.{ℕ, zero, suc, _+_, _^_, _≤_, _<_}
-use mathlib.Core.Path.{_≡_, refl}
+use mathlib.Core.Path.{_≡_, refl, _∙_}
 use mathlib.Core.Bool.{Bool, true, false}
 use mathlib.Core.List.{List, [], _∷_, List·Memᴰ, List·Memᴰ·head, List·Memᴰ·tail}
 use mathlib.Core.Option.{Option, none, some}
@@ -264,10 +264,16 @@ program-reads end =
     next (count-reads 0 8 0) λ at₁ ins le₁ gi. next (count-reads 0 8 at₁) λ at₂ outs le₂ go.
     next (stmt-reads 32 _ at₂) λ to s le₃ gs. done ((gi .1, go .1, gs .0), gs .1 0 (omega arith))
 
--- a program that was read is well formed, and its declarations stand at places of the table
-pub read-well : (table : List ℕ) (p : Program) → readTable table ≡ program p → WellProgram p × Placed 0 (length table) (p .body)
+-- a table that was read was read to its end, as a well-formed program whose declarations stand at places of the table
+pub record ReadWhole (table : List ℕ) (p : Program) : Type 0 where
+  pub reads : readProgram 0 table ≡ parsed p (length table) []
+  pub short : length table ≤ 16384
+  pub well : WellProgram p
+  pub placed : Placed 0 (length table) (p .body)
+
+pub read-whole : (table : List ℕ) (p : Program) → readTable table ≡ program p → ReadWhole table p
 unfolding readTable
-read-well table p h =
+read-whole table p h =
     let e₁ = is-true (leb 1 (length table)) (λ f. cc (rw f at h)) in
     let e₂ = is-true (leb (length table) 16384) (λ f. cc (rw (e₁, f) at h)) in
     by-parsed (readProgram 0 table)
@@ -276,5 +282,9 @@ read-well table p h =
     let same : q ≡ p = cc (rw (e₁, e₂, e) at h) in
     let g = rw e at (program-reads (length table) .holds table (omega arith)) in
     let all : to ≡ length table = omega (arith, g .1) in
-    rw (← same, ← all) (g .2))
+    let good : WellProgram p × Placed 0 (length table) (p .body) = rw (same, all) at (g .2) in
+    record { reads = e ∙ rw (same, all) refl; short = leb-true _ _ e₂; well = good .0; placed = good .1 })
     (λ q to b left f. never (cc (rw (e₁, e₂, f) at h)))
+
+pub read-well : (table : List ℕ) (p : Program) → readTable table ≡ program p → WellProgram p × Placed 0 (length table) (p .body)
+read-well table p h = let r = read-whole table p h in (r .well, r .placed)

@@ -1,6 +1,6 @@
 -- Numbers, counts, kinds and names as the reader answers them, by places of the table. proofs/ shows that these are the numbers, counts
 -- and names of the model's reader.
-use Prim.Native.Nat.{ℕ, zero, suc, _+_, _-_, _*_}
+use Prim.Native.Nat.{ℕ, zero, suc, _+_, _-_, _*_, _%_}
 use mathlib.Core.Bool.{cond}
 use mathlib.Core.List.{List}
 use lib.ListN.{length, getD}
@@ -8,6 +8,7 @@ use lib.Dec.{ltb, leb, eqb}
 use Rattle.numbers.specs.declared.NumberRead.{NumberRead}
 use Rattle.numbers.specs.declared.NumberRead.the-variants.{Number, Bad}
 use Rattle.numbers.specs.declared.Item.{Item}
+use Rattle.numbers.specs.declared.Value.{Value}
 use Rattle.numbers.specs.declared.Item.the-variants.{Item as Found, Refused}
 
 -- what follows a number; `bad` answers a bad one
@@ -44,3 +45,7 @@ nameAt count from to s at =
 -- what is too deep
 unfoldable pub deepAt : List ℕ → (at : ℕ) → Item
 deepAt s at = withNumber (Refused 2 at) (groupsAt 5 s at) (λ v n. Refused 4 at)
+
+-- a number of a table that was read before, and the place after it; 0 and the place itself where none stands
+unfoldable pub valueAt : List ℕ → (at : ℕ) → Value
+valueAt s at = withNumber (record { value = 0; next = at }) (groupsAt 5 s at) (λ v n. record { value = v % 4294967296; next = n })

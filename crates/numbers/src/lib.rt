@@ -1,7 +1,7 @@
 // The numbers of a table, counts, kinds and names.
 ghost use mathlib.Core.Path.{_≡_};
 ghost use Prim.Native.Nat.{_+_, _<_};
-ghost use Rattle.numbers.specs.Items.{groupsAt, betweenAt, nameAt, deepAt};
+ghost use Rattle.numbers.specs.Items.{groupsAt, betweenAt, nameAt, deepAt, valueAt};
 
 // A number and the place after it; Bad: cut short, too long or too large.
 pub enum NumberRead {
@@ -97,4 +97,31 @@ pub fn read_deep(table: &[u8], at: usize) -> Item
         NumberRead::Number(v, next) => Item::Refused(4, at),
         NumberRead::Bad => Item::Refused(2, at),
     }
+}
+
+// A number of a table that was read before, and the place after it.
+pub struct Value {
+    pub value: u32,
+    pub next: usize,
+}
+
+// The number at a place; 0 and the place itself where none stands.
+pub fn value_at(table: &[u8], at: usize) -> Value
+    ensures { λ r. ⌜ r ≡ valueAt (now (table .entry)) at ⌝ }
+{
+    match read_groups(table, at, 5) {
+        NumberRead::Number(v, next) => Value {
+            value: (v % 4294967296) as u32,
+            next: next,
+        },
+        NumberRead::Bad => Value { value: 0, next: at },
+    }
+}
+
+// The place after a number.
+pub fn skip(table: &[u8], at: usize) -> usize
+    ensures { λ r. ⌜ r ≡ valueAt (now (table .entry)) at .next ⌝ }
+{
+    let number = value_at(table, at);
+    number.next
 }

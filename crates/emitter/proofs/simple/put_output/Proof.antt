@@ -1,0 +1,32 @@
+-- `emitter::simple::put_output` meets its contract. Assumes nothing.
+use borrow.Author.Needs.{needs}
+use Rattle.emitter.proofs.simple.put_output.Statement.{statement}
+use Rattle.emitter.proofs.simple.put_output.Tie as tie
+use Rattle.emitter.specs.Simples.{outputInto}
+
+returns : tie.Need-returns
+unfolding outputInto
+returns c =
+    let fifth = c .before .before .before .before .before .before in
+    let fourth = fifth .before .before .before .before in
+    let third = fourth .before .before .before .before .before in
+    rw (
+      ← third .before .before .before .before .plain .ensures,
+      ← third .operation .ensures,
+      ← fourth .before .minus .ensures,
+      ← fourth .plain2 .ensures,
+      ← fifth .operation2 .ensures,
+    ) (c .before .before .plain3 .ensures)
+
+pub put-output-spec : {M : Type 1} → statement M
+put-output-spec =
+    tie.close
+    (tie.spec
+    (λ c κs. search needs)
+    (λ c κs. search needs)
+    (λ c κs. search needs)
+    (λ c κs. search needs)
+    (λ c κs. search needs)
+    (λ c κs. search needs)
+    (λ c. search needs)
+    returns)

@@ -1,0 +1,71 @@
+-- The place after a part, and the words that a statement needs, by places of the table.
+use Prim.Native.Nat.{ℕ, zero, suc, _+_, max}
+use mathlib.Core.Bool.{Bool, true, false, cond}
+use mathlib.Core.List.{List}
+use lib.Dec.{ltb, eqb}
+use Rattle.model.specs.Word.{low}
+use Rattle.numbers.specs.Items.{valueAt}
+use Rattle.emitter.specs.declared.extent.Extent.{Extent}
+
+abbrev pub nextOf : List ℕ → ℕ → ℕ
+nextOf s at = valueAt s at .next
+
+abbrev pub extended : (next need : ℕ) → Extent
+extended n d = record { next = n; need = d }
+
+-- the place after an expression
+unfoldable pub skipExpr : (depth : ℕ) → List ℕ → (at : ℕ) → ℕ
+skipExpr zero s at = at
+skipExpr (suc d) s at =
+    let k = valueAt s at in
+    cond (ltb (k .value) 2) (nextOf s (k .next))
+    (cond (eqb (k .value) 2) (skipExpr d s (k .next)) (skipExpr d s (skipExpr d s (nextOf s (k .next)))))
+
+-- what follows the kinds 0 to 4
+unfoldable pub simpleExtent : (kind depth : ℕ) → List ℕ → (at : ℕ) → Extent
+simpleExtent k d s at =
+    cond (ltb k 2) (extended at 2)
+    (cond (eqb k 3) (extended (nextOf s (nextOf s at)) 3) (extended (skipExpr d s (nextOf s at)) (cond (eqb k 2) 2 4)))
+
+-- the place after a guard
+unfoldable pub skipGuard : (depth : ℕ) → List ℕ → (at : ℕ) → ℕ
+skipGuard d s at =
+    let k = valueAt s at in
+    let c = skipExpr d s (k .next) in
+    cond (eqb (k .value) 0) (nextOf s (nextOf s c)) c
+
+-- the place after what stands before the statement of a part: nothing (7, 8), a condition (9, 10), a guard (11)
+unfoldable pub skipHead : (kind depth : ℕ) → List ℕ → (at : ℕ) → ℕ
+skipHead k d s at = cond (ltb k 9) at (cond (ltb k 11) (skipExpr d s at) (skipGuard d s at))
+
+-- what is needed with one more part: in a PAR the sum, else the most
+abbrev pub joined : (kind before part : ℕ) → ℕ
+joined k n m = cond (eqb k 8) (low (n + m)) (max n m)
+
+-- so many parts, behind some that need so many words
+unfoldable pub partsFrom : (left kind depth : ℕ) → (ℕ → Extent) → List ℕ → (at need : ℕ) → Extent
+partsFrom zero k d inner s at n = extended at n
+partsFrom (suc i) k d inner s at n =
+    let e = inner (skipHead k d s at) in
+    partsFrom i k d inner s (e .next) (joined k n (e .need))
+
+-- what follows the kinds 5 to 11
+abbrev pub insideFrom : (kind depth : ℕ) → (ℕ → Extent) → List ℕ → (at : ℕ) → Extent
+insideFrom k d inner s at =
+    let c = valueAt s at in
+    cond (eqb k 10) (partsFrom 1 k d inner s at 2)
+    (cond (ltb k 7) (let e = inner (c .next) in extended (e .next) (low (c .value + e .need)))
+    (partsFrom (c .value) k d inner s (c .next) (cond (eqb k 11) 4 2)))
+
+unfoldable pub extentAt : (depth : ℕ) → List ℕ → (at : ℕ) → Extent
+extentAt zero s at = extended at 2
+extentAt (suc d) s at =
+    let k = valueAt s at in
+    cond (ltb (k .value) 5) (simpleExtent (k .value) d s (k .next)) (insideFrom (k .value) d (λ i. extentAt d s i) s (k .next))
+
+-- the same by its parts
+unfoldable pub partsExtent : (left kind depth : ℕ) → List ℕ → (at need : ℕ) → Extent
+partsExtent i k d s at n = partsFrom i k d (λ j. extentAt d s j) s at n
+
+unfoldable pub insideExtent : (kind depth : ℕ) → List ℕ → (at : ℕ) → Extent
+insideExtent k d s at = insideFrom k d (λ j. extentAt d s j) s at

@@ -1,0 +1,4 @@
+pub mod Emits
+pub mod Exprs
+pub mod Extents
+pub mod Simples
