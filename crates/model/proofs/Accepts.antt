@@ -49,7 +49,7 @@ accept-passed table p h = accepted table p h .1
 
 -- compiled code is the scheme's code of the accepted program, and both are within their bounds
 pub compile-accepts : (table : List ℕ) (room : ℕ) (p : Program) (code : List ℕ) → compile table room ≡ compiled p code
-    → (accept table ≡ program p) × (code ≡ codeOf p) × (memoryWords p ≤ 4096) × (length code ≤ 16384)
+    → (accept table ≡ program p) × (code ≡ codeOf p) × (memoryWords p ≤ 4096) × (length code ≤ 16384) × (length code ≤ room)
 unfolding compile fitting
 compile-accepts table room p code h =
     by-read (accept table) (λ n at f. never (cc (rw f at h))) λ q e.
@@ -58,8 +58,13 @@ compile-accepts table room p code h =
     let e₃ = is-true (leb (length (codeOf q)) room) (λ f. cc (rw (e, e₁, e₂, f) at h)) in
     let all : compiled q (codeOf q) ≡ compiled p code = rw (e, e₁, e₂, e₃) at h in
     let same : q ≡ p = cc in
-    let same-code : codeOf q ≡ code = cc in
-    (cc, cc, rw same at (leb-true (memoryWords q) 4096 e₁), rw same-code at (leb-true (length (codeOf q)) 16384 e₂))
+    let same-code : codeOf q ≡ code = cc in (
+      cc,
+      cc,
+      rw same at (leb-true (memoryWords q) 4096 e₁),
+      rw same-code at (leb-true (length (codeOf q)) 16384 e₂),
+      rw same-code at (leb-true (length (codeOf q)) room e₃),
+    )
 
 -- a walk down `firstClash` and `firstDeep`
 pub orElse-none : (a b : Option ℕ) → orElse a b ≡ none → (a ≡ none) × (b ≡ none)

@@ -283,7 +283,7 @@ pub one-process : (table : List ℕ) → ((room : ℕ) (p : Program) (code : Lis
     → Demand3 table
 one-process table h room q memory p code s e b a =
     let one = h room p code e in
-    let (accepted, same, small, short) = compile-accepts table room p code e in
+    let (accepted, same, small, short, fits) = compile-accepts table room p code e in
     let (well, places) = read-well table p (accept-reads table p accepted) in
     let laid = program-laid 0 (length table) (base p) (p .body) places in
     let body = fine p (p .body) (outermost p) [] (base p) (λ x m. m) (one .sequential) (well .2) laid (accept-passed table p accepted .1)

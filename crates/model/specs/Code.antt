@@ -89,3 +89,18 @@ compiledAnswer (refused n r) = Refused n r
 abbrev pub bufferAfter : Compilation → (buffer : List ℕ) → List ℕ
 bufferAfter (compiled p code) buffer = code ++ drop (length code) buffer
 bufferAfter (refused n r) buffer = buffer
+
+-- what the entry gives back: the filled front of the lent code buffer; on a refusal the whole buffer, as it was
+abbrev pub givenBack : Compilation → (buffer : List ℕ) → List ℕ
+givenBack (compiled p code) buffer = code
+givenBack (refused n r) buffer = buffer
+
+-- 01's number of a refusal, 0 for none
+abbrev pub numberOf : Compilation → ℕ
+numberOf (compiled p code) = 0
+numberOf (refused n r) = n
+
+-- the code's length, or what the refusal returns
+abbrev pub returnedOf : Compilation → ℕ
+returnedOf (compiled p code) = length code
+returnedOf (refused n r) = r

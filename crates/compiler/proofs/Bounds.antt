@@ -1,0 +1,83 @@
+-- The code's size is bounded by the bytes of the table.
+use Prim.Native.Nat.{ℕ, _+_, _*_, _≤_}
+use native.Mathlib.Omega.{arith}
+use mathlib.Core.List.{List, [], _∷_}
+use lib.ListN.{length}
+use Rattle.model.specs.Syntax.{Site, Operator, PLUS, MINUS, TIMES, GT, EQ, AND, OR, XOR, Expr, Stmt, Stmts, noStmt, stmt, Pairs, Guards}
+use Rattle.model.specs.Reader.{Scope}
+use Rattle.model.specs.Instruction.{Instruction, plain, distance}
+use Rattle.model.specs.Code.{prefixesOf, bytesIn}
+use Rattle.model.specs.Scheme.{operatorSize, exprSize, howMany, size, sizeAll, sizePar, sizeEnds, sizePairs, sizeEnable, sizeDisable}
+use Rattle.model.specs.Scheme.{sizeBranches}
+use Rattle.model.proofs.RoundTrip.{fewest-fits}
+use Rattle.compiler.proofs.Spelled.{ExprAt, constantAt, variableAt, notAt, binaryAt, StmtAt}
+use Rattle.compiler.proofs.Spelled.{skipAt, stopAt, assignAt, inputAt, outputAt, varAt, chanAt, seqAt, parAt, ifAt, whileAt, altAt}
+use Rattle.compiler.proofs.Spelled.{StmtsAt, noStmtAt, stmtsAt, PairsAt, noPairAt, pairAt, GuardsAt, noGuardAt, inputGuardAt}
+use Rattle.compiler.proofs.Spelled.{skipGuardAt}
+
+operator-small : (op : Operator) → operatorSize op ≤ 2
+unfolding operatorSize
+operator-small PLUS = omega arith
+operator-small MINUS = omega arith
+operator-small TIMES = omega arith
+operator-small GT = omega arith
+operator-small EQ = omega arith
+operator-small AND = omega arith
+operator-small OR = omega arith
+operator-small XOR = omega arith
+
+par-ends : (ss : Stmts) → sizePar ss ≤ 7 + sizeEnds ss + 3 * howMany ss
+unfolding size howMany
+par-ends noStmt = omega arith
+par-ends (stmt b ss) = omega arith
+
+module _ (s : List ℕ) where
+  expr-bound : {vs : List Site} {d i n : ℕ} {e : Expr} → ExprAt s vs d i e n → exprSize e + i ≤ n
+  unfolding exprSize
+  expr-bound (constantAt v k t) = omega (arith, k .ahead, t .ahead)
+  expr-bound (variableAt k x) = omega (arith, k .ahead, x .there .ahead)
+  expr-bound (notAt k a) = omega (arith, k .ahead, expr-bound a)
+  expr-bound (binaryAt {op = op} k v a c) = omega (arith, k .ahead, v .there .ahead, expr-bound a, expr-bound c, operator-small op)
+
+  mutual
+    unfolding size howMany
+
+    pub stmt-bound : {w : Scope} {d i n : ℕ} {b : Stmt} → StmtAt s d w i b n → size b + 13 + 80 * i ≤ 80 * n
+    stmt-bound (skipAt k) = omega (arith, k .ahead)
+    stmt-bound (stopAt k) = omega (arith, k .ahead)
+    stmt-bound (assignAt k x e) = omega (arith, k .ahead, x .there .ahead, expr-bound (e .expr))
+    stmt-bound (inputAt k c x) = omega (arith, k .ahead, c .there .ahead, x .there .ahead)
+    stmt-bound (outputAt k c e) = omega (arith, k .ahead, c .there .ahead, expr-bound (e .expr))
+    stmt-bound (varAt k c a) = omega (arith, k .ahead, c .there .ahead, c .most, stmt-bound a)
+    stmt-bound (chanAt k c a) = omega (arith, k .ahead, c .there .ahead, c .most, stmt-bound a)
+    stmt-bound (seqAt k c a) = omega (arith, k .ahead, c .there .ahead, all-bound a)
+    stmt-bound (parAt {ss = ss} k c a) = omega (arith, k .ahead, c .there .ahead, par-ends ss, ends-bound a)
+    stmt-bound (ifAt k c a) = omega (arith, k .ahead, c .there .ahead, pairs-bound a)
+    stmt-bound (whileAt k e a) = omega (arith, k .ahead, expr-bound (e .expr), stmt-bound a)
+    stmt-bound (altAt k c a) = omega (arith, k .ahead, c .there .ahead, guards-bound a)
+
+    all-bound : {w : Scope} {d k i n : ℕ} {ss : Stmts} → StmtsAt s d w k i ss n → sizeAll ss + 80 * i ≤ 80 * n
+    all-bound noStmtAt = omega arith
+    all-bound (stmtsAt a c) = omega (arith, stmt-bound a, all-bound c)
+
+    ends-bound : {w : Scope} {d k i n : ℕ} {ss : Stmts} → StmtsAt s d w k i ss n → sizeEnds ss + 3 * howMany ss + 80 * i ≤ 80 * n
+    ends-bound noStmtAt = omega arith
+    ends-bound (stmtsAt a c) = omega (arith, stmt-bound a, ends-bound c)
+
+    pairs-bound : {w : Scope} {d k i n : ℕ} {ps : Pairs} → PairsAt s d w k i ps n → sizePairs ps + 80 * i ≤ 80 * n
+    pairs-bound noPairAt = omega arith
+    pairs-bound (pairAt e a c) = omega (arith, expr-bound (e .expr), stmt-bound a, pairs-bound c)
+
+    guards-bound : {w : Scope} {d k i n : ℕ} {gs : Guards} → GuardsAt s d w k i gs n
+        → sizeEnable gs + sizeDisable gs + sizeBranches gs + 80 * i ≤ 80 * n
+    guards-bound noGuardAt = omega arith
+    guards-bound (inputGuardAt k e c x a g) =
+        omega (arith, k .ahead, expr-bound (e .expr), c .there .ahead, x .there .ahead, stmt-bound a, guards-bound g)
+    guards-bound (skipGuardAt k e a g) = omega (arith, k .ahead, expr-bound (e .expr), stmt-bound a, guards-bound g)
+
+-- an instruction has at most eight bytes
+pub bytes-bound : (xs : List Instruction) → bytesIn xs ≤ 8 * length xs
+unfolding bytesIn prefixesOf
+bytes-bound [] = omega arith
+bytes-bound (plain f n ∷ xs) = omega (arith, fewest-fits n .1, bytes-bound xs)
+bytes-bound (distance f r u ∷ xs) = omega (arith, bytes-bound xs)

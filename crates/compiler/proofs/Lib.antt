@@ -1,0 +1,15 @@
+pub mod Spelled
+pub mod Fills
+pub mod ExprCode
+pub mod ExtentIs
+pub mod Compiles
+pub mod Declares
+pub mod Flows
+pub mod Pars
+pub mod Choices
+pub mod StmtCode
+pub mod Bounds
+pub mod TableCode
+pub mod Compiled
+pub mod Turns
+pub mod Decoded

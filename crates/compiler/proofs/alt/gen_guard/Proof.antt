@@ -1,0 +1,48 @@
+-- `compiler::alt::gen_guard` meets its contract. Assumes nothing.
+use borrow.Author.Needs.{needs}
+use borrow.Author.Tests.{eq-eqb, ne-eqb}
+use Rattle.compiler.proofs.alt.gen_guard.Statement.{statement}
+use Rattle.compiler.proofs.alt.gen_guard.Tie as tie
+use Rattle.compiler.specs.Alts.{guardInto}
+
+returns : tie.Need-returns
+unfolding guardInto
+returns c =
+    let o = c .before .before in
+    let p = o .before .before .before .before in
+    let v = p .before .before .before in
+    let e = v .before .before .before .before in
+    rw (
+      ← e .before .before .before .value-at .ensures,
+      ← e .before .gen-expr .ensures,
+      eq-eqb _ _ (v .before .if1 .taken),
+      ← v .value-at2 .ensures,
+      ← p .before .before .local .ensures,
+      ← p .plain .ensures,
+      ← o .operation .ensures,
+    )
+
+returns-2 : tie.Need-returns-2
+unfolding guardInto
+returns-2 c =
+    let e = c .before .before .before .before in
+    rw (
+      ← e .before .before .value-at .ensures,
+      ← e .gen-expr .ensures,
+      ne-eqb _ _ (c .if1 .left),
+    )
+
+pub gen-guard-spec : {M : Type 1} → statement M
+gen-guard-spec =
+    tie.close
+    (tie.spec
+    (λ c κs. search needs)
+    (λ c κs. search needs)
+    (λ c κs. search needs)
+    (λ c κs. search needs)
+    (λ c κs. search needs)
+    (λ c κs. search needs)
+    (λ c. search needs)
+    returns
+    (λ c. search needs)
+    returns-2)

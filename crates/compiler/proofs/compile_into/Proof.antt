@@ -1,0 +1,75 @@
+-- `compiler::compile_into` meets its contract. Assumes nothing.
+use borrow.Author.Needs.{needs}
+use Rattle.compiler.proofs.compile_into.Statement.{statement}
+use Rattle.compiler.proofs.compile_into.Tie as tie
+use mathlib.Core.Path.{refl, sym, ap, _∙_}
+use Rattle.compiler.proofs.Compiled.{accepted-as, compile-refused, words-refused, bytes-refused, room-refused, code-answered}
+use Rattle.compiler.proofs.Compiled.{code-written}
+use Rattle.model.specs.declared.Compiled.the-variants.{Code}
+
+returns : tie.Need-returns
+returns c =
+    let f = c .before .before .before in
+    let q = accepted-as _ _ (sym (f .before .before .read .ensures) ∙ f .facts .given .1) in
+    let k = f .before .before .before .before in
+    rw (words-refused _ _ (λ y. k .shared-slice-known .given y .fits) _ (q .0) (q .1) (q .2) (c .if1 .taken)) (refl, refl)
+
+returns-2 : tie.Need-returns-2
+returns-2 c =
+    let i = c .before .before in
+    let f = i .before .before .before in
+    let q = accepted-as _ _ (sym (f .before .before .read .ensures) ∙ f .facts .given .1) in
+    let k = f .before .before .before .before in
+    rw (bytes-refused _ _ (λ y. k .shared-slice-known .given y .fits) _ (q .0) (q .1) (q .2) (i .if1 .left) (rw (c .before .code-size .ensures) at (c .if2 .taken))) (refl, refl)
+
+returns-3 : tie.Need-returns-3
+returns-3 c =
+    let s = c .before .before in
+    let i = s .before in
+    let f = i .before .before .before in
+    let q = accepted-as _ _ (sym (f .before .before .read .ensures) ∙ f .facts .given .1) in
+    let k = f .before .before .before .before in
+    let e = s .code-size .ensures in
+    rw (
+      room-refused _ _ (λ y. k .shared-slice-known .given y .fits) _ (q .0) (q .1) (q .2) (i .if1 .left) (rw e at (c .before .if2 .left)) (rw e at (c .if3 .taken)),
+      ← e,
+    )
+    (refl, refl)
+
+returns-4 : tie.Need-returns-4
+returns-4 c =
+    let g = c .before .before in
+    let j = g .before .before in
+    let s = j .before .before in
+    let i = s .before in
+    let f = i .before .before .before in
+    let q = accepted-as _ _ (sym (f .before .before .read .ensures) ∙ f .facts .given .1) in
+    let k = f .before .before .before .before in
+    let e = s .code-size .ensures in
+    let small = rw e at (j .before .if2 .left) in
+    let room = rw e at (j .if3 .left) in (
+      ap Code e ∙ sym (code-answered _ _ (λ y. k .shared-slice-known .given y .fits) _ (q .0) (q .1) (q .2) (i .if1 .left) small room),
+      ap (λ x. x .out) (g .generate .ensures) ∙ code-written _ _ (λ y. k .shared-slice-known .given y .fits) _ (q .0) (q .1) (q .2) (i .if1 .left) small room _ refl,
+    )
+
+returns-5 : tie.Need-returns-5
+returns-5 c =
+    let n = c .before in
+    rw (compile-refused _ _ _ _ (sym (n .before .before .read .ensures) ∙ n .n .given .1)) (refl, refl)
+
+pub compile-into-spec : {M : Type 1} → statement M
+compile-into-spec =
+    tie.close
+    (tie.spec
+    (λ c κs. search needs)
+    (λ c. search needs)
+    returns
+    (λ c κs. search needs)
+    (λ c. search needs)
+    returns-2
+    returns-3
+    (λ c κs. search needs)
+    (λ c. search needs)
+    (λ c. search needs)
+    returns-4
+    returns-5)

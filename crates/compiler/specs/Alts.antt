@@ -1,0 +1,141 @@
+-- The code of ALT as the generator writes it, and the statements as a whole.
+use Prim.Native.Nat.{ℕ, zero, suc, _+_, _-_}
+use mathlib.Core.Bool.{Bool, true, false, cond}
+use mathlib.Core.List.{List}
+use lib.Dec.{ltb, eqb}
+use Rattle.model.specs.Word.{low, less, minus}
+use Rattle.numbers.specs.Items.{valueAt}
+use Rattle.emitter.specs.Emits.{Code, at, plainInto, distanceInto, operationInto, localOf}
+use Rattle.emitter.specs.Exprs.{Wrote, written, codeOf, exprInto}
+use Rattle.emitter.specs.Extents.{extentAt, nextOf}
+use Rattle.emitter.specs.Simples.{inInto, simpleInto}
+use Rattle.compiler.specs.Stmts.{Inner, declarationInto, bodyInto, seqInto, ifInto, whileInto, branchInto, branchesInto}
+use Rattle.compiler.specs.Stmts.{parInto}
+use Rattle.compiler.specs.declared.stmt.Scope.{Scope}
+use Rattle.compiler.specs.declared.alt.Guard.{Guard}
+use Rattle.compiler.specs.declared.alt.Enabled.{Enabled}
+
+-- a guard's code so far, and the buffer
+pub record Guarded : Type 0 where
+  pub guard : Guard
+  pub out : List ℕ
+
+abbrev pub guarded : Guard → List ℕ → Guarded
+guarded g o = record { guard = g; out = o }
+
+-- the condition, and for a guard that waits LDLP channel, REV
+unfoldable pub guardInto : (depth w : ℕ) → (vs cs : List ℕ) → List ℕ → (at : ℕ) → Code → Guarded
+guardInto d w vs cs s i c =
+    let k = valueAt s i in
+    let t = exprInto d w vs s (k .next) c in
+    let r = operationInto 0 (plainInto 0x10 (localOf cs (valueAt s (t .next) .value) w) (codeOf t)) in
+    cond (eqb (k .value) 0) (guarded (record { next = t .next; here = r .here; waits = true }) (r .out))
+    (guarded (record { next = t .next; here = t .here; waits = false }) (t .out))
+
+-- the place of a guard's statement
+unfoldable pub behindGuard : List ℕ → Guard → ℕ
+behindGuard s g = cond (g .waits) (nextOf s (nextOf s (g .next))) (g .next)
+
+-- what the enabling has come to, and the buffer
+pub record Enabling : Type 0 where
+  pub enabled : Enabled
+  pub out : List ℕ
+
+abbrev pub enabling : Enabled → List ℕ → Enabling
+enabling e o = record { enabled = e; out = o }
+
+-- the enabling: per guard condition, LDLP channel, REV, ENBC, or condition, ENBS; and the bytes of the disabling
+unfoldable pub enableInto : (left depth w : ℕ) → (vs cs : List ℕ) → List ℕ → (at disabling : ℕ) → Code → Enabling
+enableInto zero d w vs cs s i n c = enabling (record { next = i; here = c .here; disabling = n }) (c .out)
+enableInto (suc l) d w vs cs s i n c =
+    let g = guardInto d w vs cs s i c in
+    let e = operationInto (cond (g .guard .waits) 72 73) (at (g .guard .here) (g .out)) in
+    enableInto l d w vs cs s (extentAt d s (behindGuard s (g .guard)) .next) (low (n + low (less (g .guard .here) (c .here) + 6))) e
+
+-- the rest of a guard's disabling: LDC branch, DISC, or LDC branch, DISS
+unfoldable pub disableInto : Guard → (branch base : ℕ) → List ℕ → Code
+disableInto g branch base o = operationInto (cond (g .waits) 47 48) (distanceInto 0x40 branch base (at (g .here) o))
+
+-- a branch: AJW 1, the input if any, statement
+abbrev pub choiceInto : Guard → Inner → Scope → (vs cs : List ℕ) → List ℕ → Code → Wrote
+choiceInto g inner sc vs cs s c =
+    let a = plainInto 0xb0 1 c in
+    let i = inInto (sc .w) vs cs s (g .next) a in
+    cond (g .waits) (inner sc vs cs (i .next) (codeOf i)) (inner sc vs cs (g .next) a)
+
+-- the disabling and the branches: each branch ends with J end. `base` is the place after ALTEND
+unfoldable pub choicesInto : (left depth : ℕ) → Inner → Scope → (vs cs : List ℕ) → List ℕ → (at disable base : ℕ) → Code → Wrote
+choicesInto zero d inner sc vs cs s i dis base c = written i c
+choicesInto (suc l) d inner sc vs cs s i dis base c =
+    let g = guardInto d (sc .w - 1) vs cs s i (at dis (c .out)) in
+    let f = disableInto (g .guard) (c .here) base (g .out) in
+    let b = choiceInto (g .guard) inner sc vs cs s (at (c .here) (f .out)) in
+    let next = low (b .here + 4) in
+    let r = choicesInto l d inner sc vs cs s (b .next) (f .here) base (at next (b .out)) in
+    let j = distanceInto 0 (r .here) next (at (b .here) (r .out)) in
+    record { next = r .next; here = r .here; out = j .out }
+
+-- AJW -1, ALT, the enabling, ALTWT, the disabling, ALTEND, the branches
+abbrev pub altInto : (count depth : ℕ) → Inner → Scope → (vs cs : List ℕ) → List ℕ → (at : ℕ) → Code → Wrote
+altInto n d inner sc vs cs s i c =
+    let e = enableInto n d (sc .w - 1) vs cs s i 0 (operationInto 67 (plainInto 0xb0 (minus 1) c)) in
+    let wt = operationInto 68 (at (e .enabled .here) (e .out)) in
+    let end = operationInto 69 (at (low (wt .here + e .enabled .disabling)) (wt .out)) in
+    choicesInto n d inner sc vs cs s i (wt .here) (end .here) end
+
+-- what follows the kinds 5 to 11, with a generator of the statements inside, which have `depth` left
+abbrev pub insideInto : (kind depth : ℕ) → Inner → Scope → (vs cs : List ℕ) → List ℕ → (at : ℕ) → Code → Wrote
+insideInto k d inner sc vs cs s i c =
+    let n = valueAt s i in
+    cond (ltb k 7) (declarationInto k inner sc vs cs s i c)
+    (cond (eqb k 10) (whileInto d (sc .w) vs (inner sc vs cs) s i c)
+    (cond (eqb k 7) (seqInto (n .value) (inner sc vs cs) (n .next) c)
+    (cond (eqb k 8) (parInto (n .value) d inner sc vs cs s (n .next) c)
+    (cond (eqb k 9) (ifInto (n .value) d (sc .w) vs (inner sc vs cs) s (n .next) c) (altInto (n .value) d inner sc vs cs s (n .next) c)))))
+
+unfoldable pub stmtInto : (depth : ℕ) → Scope → (vs cs : List ℕ) → List ℕ → (at : ℕ) → Code → Wrote
+stmtInto zero sc vs cs s i c = written i c
+stmtInto (suc d) sc vs cs s i c =
+    let k = valueAt s i in
+    cond (ltb (k .value) 5) (simpleInto (k .value) d (sc .w) vs cs s (k .next) c)
+    (insideInto (k .value) d (λ sc vs cs j e. stmtInto d sc vs cs s j e) sc vs cs s (k .next) c)
+
+-- the same by its parts
+abbrev pub innerAt : (depth : ℕ) → List ℕ → Inner
+innerAt d s sc vs cs i c = stmtInto d sc vs cs s i c
+
+unfoldable pub bodyAt : (kind n depth : ℕ) → Scope → (vs cs : List ℕ) → List ℕ → (at : ℕ) → Code → Wrote
+bodyAt k n d sc vs cs s i c = bodyInto k n (innerAt d s) sc vs cs i c
+
+unfoldable pub declarationAt : (kind depth : ℕ) → Scope → (vs cs : List ℕ) → List ℕ → (at : ℕ) → Code → Wrote
+declarationAt k d sc vs cs s i c = declarationInto k (innerAt d s) sc vs cs s i c
+
+unfoldable pub seqAt : (left depth : ℕ) → Scope → (vs cs : List ℕ) → List ℕ → (at : ℕ) → Code → Wrote
+seqAt n d sc vs cs s i c = seqInto n (innerAt d s sc vs cs) i c
+
+unfoldable pub ifAt : (left depth : ℕ) → Scope → (vs cs : List ℕ) → List ℕ → (at : ℕ) → Code → Wrote
+ifAt n d sc vs cs s i c = ifInto n d (sc .w) vs (innerAt d s sc vs cs) s i c
+
+unfoldable pub whileAt : (depth : ℕ) → Scope → (vs cs : List ℕ) → List ℕ → (at : ℕ) → Code → Wrote
+whileAt d sc vs cs s i c = whileInto d (sc .w) vs (innerAt d s sc vs cs) s i c
+
+unfoldable pub branchAt : (d depth : ℕ) → Scope → (vs cs : List ℕ) → List ℕ → (at : ℕ) → Code → Wrote
+branchAt b d sc vs cs s i c = branchInto b (innerAt d s) sc vs cs i c
+
+unfoldable pub branchesAt : (left depth : ℕ) → Scope → (vs cs : List ℕ) → List ℕ → (at d start : ℕ) → Code → Wrote
+branchesAt n d sc vs cs s i b start c = branchesInto n d (innerAt d s) sc vs cs s i b start c
+
+unfoldable pub parAt : (count depth : ℕ) → Scope → (vs cs : List ℕ) → List ℕ → (at : ℕ) → Code → Wrote
+parAt n d sc vs cs s i c = parInto n d (innerAt d s) sc vs cs s i c
+
+unfoldable pub choiceAt : Guard → (depth : ℕ) → Scope → (vs cs : List ℕ) → List ℕ → Code → Wrote
+choiceAt g d sc vs cs s c = choiceInto g (innerAt d s) sc vs cs s c
+
+unfoldable pub choicesAt : (left depth : ℕ) → Scope → (vs cs : List ℕ) → List ℕ → (at disable base : ℕ) → Code → Wrote
+choicesAt n d sc vs cs s i dis base c = choicesInto n d (innerAt d s) sc vs cs s i dis base c
+
+unfoldable pub altAt : (count depth : ℕ) → Scope → (vs cs : List ℕ) → List ℕ → (at : ℕ) → Code → Wrote
+altAt n d sc vs cs s i c = altInto n d (innerAt d s) sc vs cs s i c
+
+unfoldable pub insideAt : (kind depth : ℕ) → Scope → (vs cs : List ℕ) → List ℕ → (at : ℕ) → Code → Wrote
+insideAt k d sc vs cs s i c = insideInto k d (innerAt d s) sc vs cs s i c

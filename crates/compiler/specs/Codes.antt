@@ -1,0 +1,23 @@
+-- The code of an accepted table as the generator writes it.
+use Prim.Native.Nat.{ℕ, _+_}
+use mathlib.Core.List.{List, [], _∷_}
+use lib.ListN.{replicate}
+use Rattle.model.specs.Word.{low, less}
+use Rattle.model.specs.declared.Facts.{Facts}
+use Rattle.emitter.specs.Emits.{Code, at, declaredWords}
+use Rattle.emitter.specs.Exprs.{codeOf}
+use Rattle.emitter.specs.Extents.{nextOf}
+use Rattle.compiler.specs.Stmts.{scoped}
+use Rattle.compiler.specs.Alts.{stmtInto}
+
+-- the code into a buffer, and its size
+unfoldable pub tableInto : List ℕ → Facts → (out : List ℕ) → Code
+tableInto s f o =
+    let outside = low (f .inputs + f .outputs) in
+    let w = less (f .words) outside in
+    let none : List ℕ = replicate 1024 0 in
+    codeOf (stmtInto 32 (scoped w 0 outside) none (declaredWords outside 0 w none) s (nextOf s (nextOf s 0)) (at 0 o))
+
+-- the code's size, as the place after it in any buffer
+unfoldable pub sizeOf : List ℕ → Facts → ℕ
+sizeOf s f = tableInto s f (0 ∷ []) .here

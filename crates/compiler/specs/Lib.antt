@@ -1,0 +1,3 @@
+pub mod Stmts
+pub mod Alts
+pub mod Codes

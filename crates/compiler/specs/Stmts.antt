@@ -1,0 +1,119 @@
+-- The code of statements as the generator writes it, by places of the table.
+use Prim.Native.Nat.{ℕ, zero, suc, _+_, _-_}
+use mathlib.Core.Bool.{Bool, true, false, cond}
+use mathlib.Core.List.{List}
+use lib.Dec.{ltb, eqb}
+use Rattle.model.specs.Word.{low, minus}
+use Rattle.model.specs.Prefix.{fewest}
+use Rattle.numbers.specs.Items.{valueAt}
+use Rattle.emitter.specs.Emits.{Code, at, plainInto, distanceInto, operationInto, declaredWords}
+use Rattle.emitter.specs.Exprs.{Wrote, written, codeOf, exprInto}
+use Rattle.emitter.specs.Extents.{extentAt}
+use Rattle.compiler.specs.declared.stmt.Scope.{Scope}
+
+-- LDC 0 (VAR) or MINT (CHAN)
+unfoldable pub firstInto : (kind : ℕ) → Code → Code
+firstInto k c = cond (eqb k 5) (plainInto 0x40 0 c) (operationInto 66 c)
+
+-- and STL j, for so many j from one on
+unfoldable pub initialInto : (left kind j : ℕ) → Code → Code
+initialInto zero k j c = c
+initialInto (suc n) k j c = initialInto n k (low (j + 1)) (plainInto 0xd0 j (firstInto k c))
+
+-- a generator of the statements inside
+abbrev pub Inner : Type 0
+Inner = Scope → (vs cs : List ℕ) → ℕ → Code → Wrote
+
+abbrev pub scoped : (w variables channels : ℕ) → Scope
+scoped w v c = record { w = w; variables = v; channels = c }
+
+abbrev pub lowered : ℕ → Scope → Scope
+lowered n sc = scoped (sc .w - n) (sc .variables) (sc .channels)
+
+-- the body of a VAR or CHAN of n names
+abbrev pub bodyInto : (kind n : ℕ) → Inner → Scope → (vs cs : List ℕ) → (at : ℕ) → Code → Wrote
+bodyInto k n inner sc vs cs at c =
+    let w = sc .w - n in
+    cond (eqb k 5) (inner (scoped w (low (sc .variables + n)) (sc .channels)) (declaredWords n (sc .variables) w vs) cs at c)
+    (inner (scoped w (sc .variables) (low (sc .channels + n))) vs (declaredWords n (sc .channels) w cs) at c)
+
+-- VAR and CHAN: AJW -n, the words, body, AJW n
+abbrev pub declarationInto : (kind : ℕ) → Inner → Scope → (vs cs : List ℕ) → List ℕ → (at : ℕ) → Code → Wrote
+declarationInto k inner sc vs cs s at c =
+    let n = valueAt s at in
+    let b = bodyInto k (n .value) inner sc vs cs (n .next) (initialInto (n .value) k 0 (plainInto 0xb0 (minus (n .value)) c)) in
+    written (b .next) (plainInto 0xb0 (n .value) (codeOf b))
+
+-- SEQ: so many parts
+unfoldable pub seqInto : (left : ℕ) → (ℕ → Code → Wrote) → (at : ℕ) → Code → Wrote
+seqInto zero inner at c = written at c
+seqInto (suc i) inner at c = let p = inner at c in seqInto i inner (p .next) (codeOf p)
+
+-- IF, for each pair: condition, CJ next, statement, J end; the last pair too
+unfoldable pub ifInto : (left depth w : ℕ) → List ℕ → (ℕ → Code → Wrote) → List ℕ → (at : ℕ) → Code → Wrote
+ifInto zero d w vs inner s i c = written i c
+ifInto (suc n) d w vs inner s i c =
+    let t = exprInto d w vs s i c in
+    let begin = low (t .here + 4) in
+    let b = inner (t .next) (at begin (t .out)) in
+    let next = low (b .here + 4) in
+    let r = ifInto n d w vs inner s (b .next) (at next (b .out)) in
+    let j = distanceInto 0 (r .here) next (at (b .here) (r .out)) in
+    let cj = distanceInto 0xa0 next begin (at (t .here) (j .out)) in
+    record { next = r .next; here = r .here; out = cj .out }
+
+-- WHILE: condition, CJ end, body, J start
+abbrev pub whileInto : (depth w : ℕ) → List ℕ → (ℕ → Code → Wrote) → List ℕ → (at : ℕ) → Code → Wrote
+whileInto d w vs inner s i c =
+    let t = exprInto d w vs s i c in
+    let begin = low (t .here + 4) in
+    let b = inner (t .next) (at begin (t .out)) in
+    let end = low (b .here + 4) in
+    let j = distanceInto 0 (c .here) end (at (b .here) (b .out)) in
+    let cj = distanceInto 0xa0 end begin (at (t .here) (j .out)) in
+    record { next = b .next; here = end; out = cj .out }
+
+-- the place after the starts of so many branches, the first of which runs d words below
+unfoldable pub startsEnd : (left depth : ℕ) → List ℕ → (at d here : ℕ) → ℕ
+startsEnd zero dp s i d h = h
+startsEnd (suc n) dp s i d h =
+    let e = extentAt dp s i in
+    startsEnd n dp s (e .next) (low (d + e .need)) (low (h + (fewest (minus d) + 6)))
+
+-- LDC start, LDLP -d, STARTP
+unfoldable pub startInto : (d start : ℕ) → Code → Code
+startInto d start c =
+    let e = operationInto 13 (plainInto 0x10 (minus d) (at (low (c .here + 4)) (c .out))) in
+    let f = distanceInto 0x40 start (e .here) (at (c .here) (e .out)) in
+    at (e .here) (f .out)
+
+-- a branch d words below: its code, LDLP d, ENDP
+abbrev pub branchInto : (d : ℕ) → Inner → Scope → (vs cs : List ℕ) → (at : ℕ) → Code → Wrote
+branchInto d inner sc vs cs i c =
+    let b = inner (lowered d sc) vs cs i c in
+    written (b .next) (operationInto 3 (plainInto 0x10 d (codeOf b)))
+
+-- so many branches from the second on, each with its start
+unfoldable pub branchesInto : (left depth : ℕ) → Inner → Scope → (vs cs : List ℕ) → List ℕ → (at d start : ℕ) → Code → Wrote
+branchesInto zero dp inner sc vs cs s i d start c = written i c
+branchesInto (suc n) dp inner sc vs cs s i d start c =
+    let st = startInto d (c .here) (at start (c .out)) in
+    let b = branchInto d inner sc vs cs i (at (c .here) (st .out)) in
+    branchesInto n dp inner sc vs cs s (b .next) (low (d + extentAt dp s i .need)) (st .here) (codeOf b)
+
+-- STL 0, LDC count, STL 1
+unfoldable pub headerInto : (count : ℕ) → Code → Code
+headerInto n c = plainInto 0xd0 1 (plainInto 0x40 n (plainInto 0xd0 0 c))
+
+-- PAR with branches: AJW -2; LDC end, LDPI, STL 0; LDC count, STL 1; the starts; the branches; AJW 2. PAR of none: no code
+abbrev pub parInto : (count depth : ℕ) → Inner → Scope → (vs cs : List ℕ) → List ℕ → (at : ℕ) → Code → Wrote
+parInto n dp inner sc vs cs s i c =
+    let a = plainInto 0xb0 (minus 2) c in
+    let u = operationInto 27 (at (low (a .here + 4)) (a .out)) in
+    let h = headerInto n u in
+    let e = extentAt dp s i in
+    let begin = startsEnd (n - 1) dp s (e .next) (e .need) (h .here) in
+    let one = branchInto 0 inner (lowered 2 sc) vs cs i (at begin (h .out)) in
+    let r = branchesInto (n - 1) dp inner (lowered 2 sc) vs cs s (one .next) (e .need) (h .here) (codeOf one) in
+    let l = distanceInto 0x40 (r .here) (u .here) (at (a .here) (r .out)) in
+    cond (eqb n 0) (written i c) (written (r .next) (plainInto 0xb0 2 (at (r .here) (l .out))))

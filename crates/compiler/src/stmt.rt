@@ -1,0 +1,688 @@
+// The code of statements.
+ghost use mathlib.Core.Path.{_≡_};
+ghost use Rattle.emitter.specs.Emits.{at as standing};
+ghost use Rattle.emitter.specs.Exprs.{wrote};
+ghost use Rattle.compiler.specs.Stmts.{firstInto, initialInto, startsEnd, startInto, headerInto};
+ghost use Rattle.compiler.specs.Alts.{stmtInto, bodyAt, declarationAt, seqAt, ifAt};
+ghost use Rattle.compiler.specs.Alts.{whileAt, branchAt, branchesAt, parAt, choiceAt, choicesAt};
+ghost use Rattle.compiler.specs.Alts.{altAt, insideAt};
+use crate::alt::Guard;
+use emitter::Done;
+
+// The workspace, and how many variables and channels are in scope.
+pub struct Scope {
+    pub w: u32,
+    pub variables: u32,
+    pub channels: u32,
+}
+
+// LDC 0 (VAR) or MINT (CHAN).
+fn put_first(out: &mut [u8], here: u32, kind: u32) -> u32
+    ensures { λ r. ⌜ standing r (now (out .exit)) ≡ firstInto kind (standing here (now (out .entry))) ⌝ }
+{
+    if kind == 5 {
+        return emitter::plain(out, here, instruction::codes::LDC, 0);
+    }
+    emitter::operation(out, here, instruction::codes::MINT)
+}
+
+// The same and STL j, for so many j.
+fn put_initial(out: &mut [u8], here: u32, kind: u32, j: u32, left: u32) -> u32
+    ensures { λ r. ⌜ standing r (now (out .exit)) ≡ initialInto left kind j (standing here (now (out .entry))) ⌝ }
+{
+    if left == 0 {
+        return here;
+    }
+    let second = put_first(out, here, kind);
+    let next = emitter::plain(out, second, instruction::codes::STL, j);
+    put_initial(out, next, kind, instruction::after(j, 1), left - 1)
+}
+
+// The body of a VAR or CHAN of n names.
+fn body(
+    table: &[u8],
+    at: usize,
+    kind: u32,
+    n: u32,
+    depth: u64,
+    scope: Scope,
+    variables: &[u32; 1024],
+    channels: &[u32; 1024],
+    out: &mut [u8],
+    here: u32,
+) -> Done
+    ensures { λ r.
+        ⌜ wrote r (now (out .exit))
+        ≡ bodyAt kind n depth scope (now (variables .entry)) (now (channels .entry)) (now (table .entry)) at
+        (standing here (now (out .entry))) ⌝ }
+{
+    let w = emitter::below(scope.w, n);
+    if kind == 5 {
+        let more = emitter::declared(variables, scope.variables, n, w);
+        let inner = Scope {
+            w: w,
+            variables: instruction::after(scope.variables, n),
+            channels: scope.channels,
+        };
+        return statement(table, at, depth, inner, &more, channels, out, here);
+    }
+    let more = emitter::declared(channels, scope.channels, n, w);
+    let inner = Scope {
+        w: w,
+        variables: scope.variables,
+        channels: instruction::after(scope.channels, n),
+    };
+    statement(table, at, depth, inner, variables, &more, out, here)
+}
+
+// VAR and CHAN: AJW -n, the words, body, AJW n.
+fn declaration(
+    table: &[u8],
+    at: usize,
+    kind: u32,
+    depth: u64,
+    scope: Scope,
+    variables: &[u32; 1024],
+    channels: &[u32; 1024],
+    out: &mut [u8],
+    here: u32,
+) -> Done
+    ensures { λ r.
+        ⌜ wrote r (now (out .exit))
+        ≡ declarationAt kind depth scope (now (variables .entry)) (now (channels .entry)) (now (table .entry)) at
+        (standing here (now (out .entry))) ⌝ }
+{
+    let count = numbers::value_at(table, at);
+    let n = count.value;
+    let first = emitter::plain(out, here, instruction::codes::AJW, emitter::minus(n));
+    let start = put_initial(out, first, kind, 0, n);
+    let body = body(
+        table,
+        count.next,
+        kind,
+        n,
+        depth,
+        scope,
+        variables,
+        channels,
+        out,
+        start,
+    );
+    let end = emitter::plain(out, body.here, instruction::codes::AJW, n);
+    Done {
+        next: body.next,
+        here: end,
+    }
+}
+
+// SEQ: so many parts.
+fn seq(
+    table: &[u8],
+    at: usize,
+    left: u32,
+    depth: u64,
+    scope: Scope,
+    variables: &[u32; 1024],
+    channels: &[u32; 1024],
+    out: &mut [u8],
+    here: u32,
+) -> Done
+    ensures { λ r.
+        ⌜ wrote r (now (out .exit))
+        ≡ seqAt left depth scope (now (variables .entry)) (now (channels .entry)) (now (table .entry)) at
+        (standing here (now (out .entry))) ⌝ }
+{
+    if left == 0 {
+        return Done {
+            next: at,
+            here: here,
+        };
+    }
+    let part = statement(table, at, depth, scope, variables, channels, out, here);
+    seq(
+        table,
+        part.next,
+        left - 1,
+        depth,
+        scope,
+        variables,
+        channels,
+        out,
+        part.here,
+    )
+}
+
+// IF, for each pair: condition, CJ next, statement, J end; the last pair too.
+fn pairs(
+    table: &[u8],
+    at: usize,
+    left: u32,
+    depth: u64,
+    scope: Scope,
+    variables: &[u32; 1024],
+    channels: &[u32; 1024],
+    out: &mut [u8],
+    here: u32,
+) -> Done
+    ensures { λ r.
+        ⌜ wrote r (now (out .exit))
+        ≡ ifAt left depth scope (now (variables .entry)) (now (channels .entry)) (now (table .entry)) at
+        (standing here (now (out .entry))) ⌝ }
+{
+    if left == 0 {
+        return Done {
+            next: at,
+            here: here,
+        };
+    }
+    let test = emitter::gen_expr(table, at, depth, scope.w, variables, out, here);
+    let begin = instruction::after(test.here, 4);
+    let body = statement(
+        table,
+        test.next,
+        depth,
+        scope,
+        variables,
+        channels,
+        out,
+        begin,
+    );
+    let next = instruction::after(body.here, 4);
+    let rest = pairs(
+        table,
+        body.next,
+        left - 1,
+        depth,
+        scope,
+        variables,
+        channels,
+        out,
+        next,
+    );
+    emitter::distance(out, body.here, instruction::codes::J, rest.here, next);
+    emitter::distance(out, test.here, instruction::codes::CJ, next, begin);
+    rest
+}
+
+// WHILE: condition, CJ end, body, J start.
+fn repetition(
+    table: &[u8],
+    at: usize,
+    depth: u64,
+    scope: Scope,
+    variables: &[u32; 1024],
+    channels: &[u32; 1024],
+    out: &mut [u8],
+    here: u32,
+) -> Done
+    ensures { λ r.
+        ⌜ wrote r (now (out .exit))
+        ≡ whileAt depth scope (now (variables .entry)) (now (channels .entry)) (now (table .entry)) at
+        (standing here (now (out .entry))) ⌝ }
+{
+    let test = emitter::gen_expr(table, at, depth, scope.w, variables, out, here);
+    let begin = instruction::after(test.here, 4);
+    let body = statement(
+        table,
+        test.next,
+        depth,
+        scope,
+        variables,
+        channels,
+        out,
+        begin,
+    );
+    let end = instruction::after(body.here, 4);
+    emitter::distance(out, body.here, instruction::codes::J, here, end);
+    emitter::distance(out, test.here, instruction::codes::CJ, end, begin);
+    Done {
+        next: body.next,
+        here: end,
+    }
+}
+
+// The place after the starts of so many branches, the first of which runs d words below.
+fn starts_end(table: &[u8], at: usize, left: u32, depth: u64, d: u32, here: u32) -> u32
+    ensures { λ r. ⌜ r ≡ startsEnd left depth (now (table .entry)) at d here ⌝ }
+{
+    if left == 0 {
+        return here;
+    }
+    let branch = emitter::measure(table, at, depth);
+    let size = instruction::fewest(emitter::minus(d)) + 6;
+    let below = instruction::after(d, branch.need);
+    starts_end(
+        table,
+        branch.next,
+        left - 1,
+        depth,
+        below,
+        instruction::after(here, size),
+    )
+}
+
+// LDC start, LDLP -d, STARTP.
+fn put_start(out: &mut [u8], here: u32, d: u32, start: u32) -> u32
+    ensures { λ r. ⌜ standing r (now (out .exit)) ≡ startInto d start (standing here (now (out .entry))) ⌝ }
+{
+    let second = instruction::after(here, 4);
+    let third = emitter::plain(out, second, instruction::codes::LDLP, emitter::minus(d));
+    let end = emitter::operation(out, third, instruction::codes::STARTP);
+    emitter::distance(out, here, instruction::codes::LDC, start, end);
+    end
+}
+
+// A branch d words below: its code, LDLP d, ENDP.
+fn branch(
+    table: &[u8],
+    at: usize,
+    d: u32,
+    depth: u64,
+    scope: Scope,
+    variables: &[u32; 1024],
+    channels: &[u32; 1024],
+    out: &mut [u8],
+    here: u32,
+) -> Done
+    ensures { λ r.
+        ⌜ wrote r (now (out .exit))
+        ≡ branchAt d depth scope (now (variables .entry)) (now (channels .entry)) (now (table .entry)) at
+        (standing here (now (out .entry))) ⌝ }
+{
+    let w = emitter::below(scope.w, d);
+    let inner = Scope {
+        w: w,
+        variables: scope.variables,
+        channels: scope.channels,
+    };
+    let body = statement(table, at, depth, inner, variables, channels, out, here);
+    let second = emitter::plain(out, body.here, instruction::codes::LDLP, d);
+    let end = emitter::operation(out, second, instruction::codes::ENDP);
+    Done {
+        next: body.next,
+        here: end,
+    }
+}
+
+// So many branches from the second on, each with its start.
+fn branches(
+    table: &[u8],
+    at: usize,
+    left: u32,
+    depth: u64,
+    scope: Scope,
+    variables: &[u32; 1024],
+    channels: &[u32; 1024],
+    out: &mut [u8],
+    d: u32,
+    start: u32,
+    here: u32,
+) -> Done
+    ensures { λ r.
+        ⌜ wrote r (now (out .exit))
+        ≡ branchesAt left depth scope (now (variables .entry)) (now (channels .entry)) (now (table .entry)) at d start
+        (standing here (now (out .entry))) ⌝ }
+{
+    if left == 0 {
+        return Done {
+            next: at,
+            here: here,
+        };
+    }
+    let next = put_start(out, start, d, here);
+    let branch = branch(table, at, d, depth, scope, variables, channels, out, here);
+    let own = emitter::measure(table, at, depth);
+    let below = instruction::after(d, own.need);
+    branches(
+        table,
+        branch.next,
+        left - 1,
+        depth,
+        scope,
+        variables,
+        channels,
+        out,
+        below,
+        next,
+        branch.here,
+    )
+}
+
+// STL 0, LDC count, STL 1.
+fn put_header(out: &mut [u8], here: u32, count: u32) -> u32
+    ensures { λ r. ⌜ standing r (now (out .exit)) ≡ headerInto count (standing here (now (out .entry))) ⌝ }
+{
+    let second = emitter::plain(out, here, instruction::codes::STL, 0);
+    let third = emitter::plain(out, second, instruction::codes::LDC, count);
+    emitter::plain(out, third, instruction::codes::STL, 1)
+}
+
+// PAR with branches: AJW -2; LDC end, LDPI, STL 0; LDC count, STL 1; the starts; the branches; AJW 2. PAR of none: no code.
+fn par(
+    table: &[u8],
+    at: usize,
+    count: u32,
+    depth: u64,
+    scope: Scope,
+    variables: &[u32; 1024],
+    channels: &[u32; 1024],
+    out: &mut [u8],
+    here: u32,
+) -> Done
+    ensures { λ r.
+        ⌜ wrote r (now (out .exit))
+        ≡ parAt count depth scope (now (variables .entry)) (now (channels .entry)) (now (table .entry)) at
+        (standing here (now (out .entry))) ⌝ }
+{
+    if count == 0 {
+        return Done {
+            next: at,
+            here: here,
+        };
+    }
+    let over = emitter::plain(out, here, instruction::codes::AJW, emitter::minus(2));
+    let user = emitter::operation(out, instruction::after(over, 4), instruction::codes::LDPI);
+    let starts = put_header(out, user, count);
+    let first = emitter::measure(table, at, depth);
+    let begin = starts_end(table, first.next, count - 1, depth, first.need, starts);
+    let w = emitter::below(scope.w, 2);
+    let inner = Scope {
+        w: w,
+        variables: scope.variables,
+        channels: scope.channels,
+    };
+    let one = branch(table, at, 0, depth, inner, variables, channels, out, begin);
+    let rest = branches(
+        table,
+        one.next,
+        count - 1,
+        depth,
+        inner,
+        variables,
+        channels,
+        out,
+        first.need,
+        starts,
+        one.here,
+    );
+    emitter::distance(out, over, instruction::codes::LDC, rest.here, user);
+    let end = emitter::plain(out, rest.here, instruction::codes::AJW, 2);
+    Done {
+        next: rest.next,
+        here: end,
+    }
+}
+
+// A branch: AJW 1, the input if any, statement.
+fn choice(
+    table: &[u8],
+    guard: Guard,
+    depth: u64,
+    scope: Scope,
+    variables: &[u32; 1024],
+    channels: &[u32; 1024],
+    out: &mut [u8],
+    here: u32,
+) -> Done
+    ensures { λ r.
+        ⌜ wrote r (now (out .exit))
+        ≡ choiceAt guard depth scope (now (variables .entry)) (now (channels .entry)) (now (table .entry))
+        (standing here (now (out .entry))) ⌝ }
+{
+    let start = emitter::plain(out, here, instruction::codes::AJW, 1);
+    if guard.waits {
+        let input = emitter::gen_input(table, guard.next, scope.w, variables, channels, out, start);
+        return statement(
+            table,
+            input.next,
+            depth,
+            scope,
+            variables,
+            channels,
+            out,
+            input.here,
+        );
+    }
+    statement(
+        table,
+        guard.next,
+        depth,
+        scope,
+        variables,
+        channels,
+        out,
+        start,
+    )
+}
+
+// The disabling and the branches: each branch ends with J end. `base` is the place after ALTEND.
+fn choices(
+    table: &[u8],
+    at: usize,
+    left: u32,
+    depth: u64,
+    scope: Scope,
+    variables: &[u32; 1024],
+    channels: &[u32; 1024],
+    out: &mut [u8],
+    disable: u32,
+    base: u32,
+    here: u32,
+) -> Done
+    ensures { λ r.
+        ⌜ wrote r (now (out .exit))
+        ≡ choicesAt left depth scope (now (variables .entry)) (now (channels .entry)) (now (table .entry)) at disable base
+        (standing here (now (out .entry))) ⌝ }
+{
+    if left == 0 {
+        return Done {
+            next: at,
+            here: here,
+        };
+    }
+    let w = emitter::below(scope.w, 1);
+    let guard = crate::alt::gen_guard(table, at, depth, w, variables, channels, out, disable);
+    let following = crate::alt::put_disable(out, guard, here, base);
+    let branch = choice(table, guard, depth, scope, variables, channels, out, here);
+    let next = instruction::after(branch.here, 4);
+    let rest = choices(
+        table,
+        branch.next,
+        left - 1,
+        depth,
+        scope,
+        variables,
+        channels,
+        out,
+        following,
+        base,
+        next,
+    );
+    emitter::distance(out, branch.here, instruction::codes::J, rest.here, next);
+    rest
+}
+
+// AJW -1, ALT, the enabling, ALTWT, the disabling, ALTEND, the branches.
+fn alt(
+    table: &[u8],
+    at: usize,
+    count: u32,
+    depth: u64,
+    scope: Scope,
+    variables: &[u32; 1024],
+    channels: &[u32; 1024],
+    out: &mut [u8],
+    here: u32,
+) -> Done
+    ensures { λ r.
+        ⌜ wrote r (now (out .exit))
+        ≡ altAt count depth scope (now (variables .entry)) (now (channels .entry)) (now (table .entry)) at
+        (standing here (now (out .entry))) ⌝ }
+{
+    let second = emitter::plain(out, here, instruction::codes::AJW, emitter::minus(1));
+    let start = emitter::operation(out, second, instruction::codes::ALT);
+    let w = emitter::below(scope.w, 1);
+    let enabled = crate::alt::gen_enable(
+        table,
+        at,
+        count,
+        depth,
+        w,
+        variables,
+        channels,
+        out,
+        start,
+        0,
+    );
+    let disable = emitter::operation(out, enabled.here, instruction::codes::ALTWT);
+    let end = instruction::after(disable, enabled.disabling);
+    let base = emitter::operation(out, end, instruction::codes::ALTEND);
+    choices(
+        table,
+        at,
+        count,
+        depth,
+        scope,
+        variables,
+        channels,
+        out,
+        disable,
+        base,
+        base,
+    )
+}
+
+// What follows the kinds 5 to 11; the statements inside have `depth` left.
+fn inside(
+    table: &[u8],
+    at: usize,
+    kind: u32,
+    depth: u64,
+    scope: Scope,
+    variables: &[u32; 1024],
+    channels: &[u32; 1024],
+    out: &mut [u8],
+    here: u32,
+) -> Done
+    ensures { λ r.
+        ⌜ wrote r (now (out .exit))
+        ≡ insideAt kind depth scope (now (variables .entry)) (now (channels .entry)) (now (table .entry)) at
+        (standing here (now (out .entry))) ⌝ }
+{
+    if kind < 7 {
+        return declaration(
+            table,
+            at,
+            kind,
+            depth,
+            scope,
+            variables,
+            channels,
+            out,
+            here,
+        );
+    }
+    if kind == 10 {
+        return repetition(table, at, depth, scope, variables, channels, out, here);
+    }
+    let count = numbers::value_at(table, at);
+    if kind == 7 {
+        return seq(
+            table,
+            count.next,
+            count.value,
+            depth,
+            scope,
+            variables,
+            channels,
+            out,
+            here,
+        );
+    }
+    if kind == 8 {
+        return par(
+            table,
+            count.next,
+            count.value,
+            depth,
+            scope,
+            variables,
+            channels,
+            out,
+            here,
+        );
+    }
+    if kind == 9 {
+        return pairs(
+            table,
+            count.next,
+            count.value,
+            depth,
+            scope,
+            variables,
+            channels,
+            out,
+            here,
+        );
+    }
+    alt(
+        table,
+        count.next,
+        count.value,
+        depth,
+        scope,
+        variables,
+        channels,
+        out,
+        here,
+    )
+}
+
+// A statement; the depth left falls at each call.
+pub fn statement(
+    table: &[u8],
+    at: usize,
+    depth: u64,
+    scope: Scope,
+    variables: &[u32; 1024],
+    channels: &[u32; 1024],
+    out: &mut [u8],
+    here: u32,
+) -> Done
+    ensures { λ r.
+        ⌜ wrote r (now (out .exit))
+        ≡ stmtInto depth scope (now (variables .entry)) (now (channels .entry)) (now (table .entry)) at
+        (standing here (now (out .entry))) ⌝ }
+{
+    if depth == 0 {
+        return Done {
+            next: at,
+            here: here,
+        };
+    }
+    let kind = numbers::value_at(table, at);
+    if kind.value < 5 {
+        return emitter::gen_simple(
+            table,
+            kind.next,
+            kind.value,
+            depth - 1,
+            scope.w,
+            variables,
+            channels,
+            out,
+            here,
+        );
+    }
+    inside(
+        table,
+        kind.next,
+        kind.value,
+        depth - 1,
+        scope,
+        variables,
+        channels,
+        out,
+        here,
+    )
+}
