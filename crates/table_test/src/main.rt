@@ -1,8 +1,11 @@
-// Reads tables as text from standard input, and writes what the reader answers, a line for each table.
+// Reads tables as text from standard input, and writes what the reader and the compiler answer: a line for each table, and for an accepted
+// one a second line with its code, or with the compiler's refusal.
 //
 // A line of the text is one table in hexadecimal, two digits to a byte; what is no digit stands between bytes. '#' begins a comment
 // up to the end of the line. A line that begins with '#' is no table; any other without a digit is the empty table. A table is
 // answered at its line's end, so the last line has one too.
+ghost use mathlib.Core.Path.{_≡_};
+ghost use lib.ListN.{length};
 
 // Where a line stands: at its first character, among the digits, in a comment behind them, or in a line that is all comment.
 enum Part {
@@ -50,21 +53,181 @@ fn print(name: &[u8], number: u64) {
     io::print_decimal(1, number);
 }
 
-// Writes the answer to a table.
+// Writes that a promise is broken, and which. No run should come here.
+fn wrong(what: &[u8]) {
+    io::write_all(1, b"wrong ");
+    io::write_all(1, what);
+    io::write_all(1, b"\n");
+}
+
+// Writes a refusal.
+fn print_refusal(number: u32, place: usize) {
+    print(b"refused ", number as u64);
+    print(b" at ", place as u64);
+    io::write_all(1, b"\n");
+}
+
+// Writes what the reader says of an accepted table.
+fn print_facts(facts: model::Facts) {
+    print(b"words ", facts.words as u64);
+    print(b" in ", facts.inputs as u64);
+    print(b" out ", facts.outputs as u64);
+    print(b" processes ", facts.processes as u64);
+    io::write_all(1, b"\n");
+}
+
+// Writes a byte as two digits.
+fn print_byte(byte: u8) {
+    io::print_hex(1, byte as u64, 2);
+}
+
+// Writes bytes, two digits for each.
+fn print_bytes(bytes: &[u8]) {
+    let mut i = 0;
+    while i < bytes.len() {
+        print_byte(bytes[i]);
+        i += 1;
+    }
+}
+
+// Writes a table's code.
+fn print_code(code: &[u8]) {
+    io::write_all(1, b"code");
+    if code.len() > 0 {
+        io::write_all(1, b" ");
+    }
+    print_bytes(code);
+    io::write_all(1, b"\n");
+}
+
+// A buffer as it is lent, as long as the longest code. No code has its byte: there is no direct function 9.
+fn blank() -> [u8; 16384]
+    ensures { λ r. ⌜ 16384 ≡ length r ⌝ }
+{
+    [0x99; 16384]
+}
+
+// Whether all bytes are as they were lent.
+fn is_blank(bytes: &[u8]) -> bool {
+    let mut i = 0;
+    while i < bytes.len() {
+        if bytes[i] != 0x99 {
+            return false;
+        }
+        i += 1;
+    }
+    true
+}
+
+// Whether two rows have the same bytes.
+fn same(left: &[u8], right: &[u8]) -> bool {
+    if left.len() != right.len() {
+        return false;
+    }
+    let mut i = 0;
+    while i < left.len() {
+        if left[i] != right[i] {
+            return false;
+        }
+        i += 1;
+    }
+    true
+}
+
+// Whether a table is refused so, and every byte of the lent buffer is kept.
+fn is_refused(table: &[u8], lent: &mut [u8], number: u32, place: usize) -> bool {
+    match compiler::compile_into(table, lent) {
+        model::Compiled::Code(_) => false,
+        model::Compiled::Refused(other, at) => other == number && at == place && is_blank(lent),
+    }
+}
+
+// Whether a table is compiled into that code, and the lent buffer is just long enough for it.
+fn is_compiled(table: &[u8], lent: &mut [u8], code: &[u8]) -> bool {
+    match compiler::compile_into(table, lent) {
+        model::Compiled::Code(length) => length == code.len() && same(code, lent),
+        model::Compiled::Refused(_, _) => false,
+    }
+}
+
+// With a byte less room than the code needs the answer is 11 and the code's length.
+fn check_short(table: &[u8], length: usize, buffer: &mut [u8]) {
+    if length == 0 {
+        return;
+    }
+    let room = length - 1;
+    if room > buffer.len() {
+        return;
+    }
+    if !is_refused(table, &mut buffer[0..room], 11, length) {
+        wrong(b"short room");
+    }
+}
+
+// Code needs no more than its own room.
+fn check_room(table: &[u8], code: &[u8], buffer: &mut [u8]) {
+    let length = code.len();
+    if length > buffer.len() {
+        return;
+    }
+    if !is_compiled(table, &mut buffer[0..length], code) {
+        wrong(b"room");
+    }
+}
+
+// Writes a table's code, which is the front of the buffer, and checks the rest of the buffer and the room.
+fn answer_code(table: &[u8], buffer: &[u8], length: usize) {
+    if length > buffer.len() {
+        wrong(b"length");
+        return;
+    }
+    let mut other = blank();
+    print_code(&buffer[0..length]);
+    if !is_blank(&buffer[length..]) {
+        wrong(b"rest");
+    }
+    check_short(table, length, &mut other);
+    check_room(table, &buffer[0..length], &mut other);
+}
+
+// Writes why an accepted table is not compiled. The buffer is as it was lent, and the refusal comes before the test of the room.
+fn answer_uncompiled(table: &[u8], buffer: &[u8], number: u32, place: usize) {
+    print_refusal(number, place);
+    if !is_blank(buffer) {
+        wrong(b"rest");
+    }
+    if !is_refused(table, &mut [], number, place) {
+        wrong(b"refusal without room");
+    }
+}
+
+// Compiles an accepted table, and writes its code or the refusal.
+fn answer_accepted(table: &[u8]) {
+    let mut buffer = blank();
+    match compiler::compile_into(table, &mut buffer) {
+        model::Compiled::Code(length) => answer_code(table, &buffer, length),
+        model::Compiled::Refused(number, place) => answer_uncompiled(table, &buffer, number, place),
+    }
+}
+
+// Writes the reader's refusal, which is the compiler's too.
+fn answer_refused(table: &[u8], number: u32, place: usize) {
+    let mut buffer = blank();
+    print_refusal(number, place);
+    if !is_refused(table, &mut buffer, number, place) {
+        wrong(b"refusal");
+    }
+}
+
+// Writes the answers to a table.
 fn answer(table: &[u8]) {
     match table::read(table) {
         model::Reading::Accepted(facts) => {
-            print(b"words ", facts.words as u64);
-            print(b" in ", facts.inputs as u64);
-            print(b" out ", facts.outputs as u64);
-            print(b" processes ", facts.processes as u64);
+            print_facts(facts);
+            answer_accepted(table);
         }
-        model::Reading::Refused(number, place) => {
-            print(b"refused ", number as u64);
-            print(b" at ", place as u64);
-        }
+        model::Reading::Refused(number, place) => answer_refused(table, number, place),
     }
-    io::write_all(1, b"\n");
 }
 
 // The end of a line: answers its table, if it has one.
