@@ -24,21 +24,21 @@ pub fn gen_guard(
     at: usize,
     depth: u64,
     w: u32,
-    variables: &[u32; 1024],
-    channels: &[u32; 1024],
+    vars: &[u32; 1024],
+    chans: &[u32; 1024],
     out: &mut [u8],
     here: u32,
 ) -> Guard
     ensures { λ r.
         ⌜ guarded r (now (out .exit))
-        ≡ guardInto depth w (now (variables .entry)) (now (channels .entry)) (now (table .entry)) at
+        ≡ guardInto depth w (now (vars .entry)) (now (chans .entry)) (now (table .entry)) at
         (standing here (now (out .entry))) ⌝ }
 {
     let kind = numbers::value_at(table, at);
-    let test = emitter::gen_expr(table, kind.next, depth, w, variables, out, here);
+    let test = emitter::gen_expr(table, kind.next, depth, w, vars, out, here);
     if kind.value == 0 {
         let channel = numbers::value_at(table, test.next);
-        let word = emitter::local(channels, channel.value, w);
+        let word = emitter::local(chans, channel.value, w);
         let second = emitter::plain(out, test.here, instruction::codes::LDLP, word);
         let end = emitter::operation(out, second, instruction::codes::REV);
         return Guard {
@@ -79,15 +79,15 @@ pub fn gen_enable(
     left: u32,
     depth: u64,
     w: u32,
-    variables: &[u32; 1024],
-    channels: &[u32; 1024],
+    vars: &[u32; 1024],
+    chans: &[u32; 1024],
     out: &mut [u8],
     here: u32,
     disabling: u32,
 ) -> Enabled
     ensures { λ r.
         ⌜ enabling r (now (out .exit))
-        ≡ enableInto left depth w (now (variables .entry)) (now (channels .entry)) (now (table .entry)) at disabling
+        ≡ enableInto left depth w (now (vars .entry)) (now (chans .entry)) (now (table .entry)) at disabling
         (standing here (now (out .entry))) ⌝ }
 {
     if left == 0 {
@@ -97,7 +97,7 @@ pub fn gen_enable(
             disabling: disabling,
         };
     }
-    let guard = gen_guard(table, at, depth, w, variables, channels, out, here);
+    let guard = gen_guard(table, at, depth, w, vars, chans, out, here);
     let code = either(
         guard.waits,
         instruction::codes::ENBC,
@@ -113,8 +113,8 @@ pub fn gen_enable(
         left - 1,
         depth,
         w,
-        variables,
-        channels,
+        vars,
+        chans,
         out,
         end,
         size,

@@ -46,33 +46,33 @@ fn body(
     n: u32,
     depth: u64,
     scope: Scope,
-    variables: &[u32; 1024],
-    channels: &[u32; 1024],
+    vars: &[u32; 1024],
+    chans: &[u32; 1024],
     out: &mut [u8],
     here: u32,
 ) -> Done
     ensures { λ r.
         ⌜ wrote r (now (out .exit))
-        ≡ bodyAt kind n depth scope (now (variables .entry)) (now (channels .entry)) (now (table .entry)) at
+        ≡ bodyAt kind n depth scope (now (vars .entry)) (now (chans .entry)) (now (table .entry)) at
         (standing here (now (out .entry))) ⌝ }
 {
     let w = emitter::below(scope.w, n);
     if kind == 5 {
-        let more = emitter::declared(variables, scope.variables, n, w);
+        let more = emitter::declared(vars, scope.variables, n, w);
         let inner = Scope {
             w: w,
             variables: instruction::after(scope.variables, n),
             channels: scope.channels,
         };
-        return statement(table, at, depth, inner, &more, channels, out, here);
+        return statement(table, at, depth, inner, &more, chans, out, here);
     }
-    let more = emitter::declared(channels, scope.channels, n, w);
+    let more = emitter::declared(chans, scope.channels, n, w);
     let inner = Scope {
         w: w,
         variables: scope.variables,
         channels: instruction::after(scope.channels, n),
     };
-    statement(table, at, depth, inner, variables, &more, out, here)
+    statement(table, at, depth, inner, vars, &more, out, here)
 }
 
 // VAR and CHAN: AJW -n, the words, body, AJW n.
@@ -82,14 +82,14 @@ fn declaration(
     kind: u32,
     depth: u64,
     scope: Scope,
-    variables: &[u32; 1024],
-    channels: &[u32; 1024],
+    vars: &[u32; 1024],
+    chans: &[u32; 1024],
     out: &mut [u8],
     here: u32,
 ) -> Done
     ensures { λ r.
         ⌜ wrote r (now (out .exit))
-        ≡ declarationAt kind depth scope (now (variables .entry)) (now (channels .entry)) (now (table .entry)) at
+        ≡ declarationAt kind depth scope (now (vars .entry)) (now (chans .entry)) (now (table .entry)) at
         (standing here (now (out .entry))) ⌝ }
 {
     let count = numbers::value_at(table, at);
@@ -103,8 +103,8 @@ fn declaration(
         n,
         depth,
         scope,
-        variables,
-        channels,
+        vars,
+        chans,
         out,
         start,
     );
@@ -122,14 +122,14 @@ fn seq(
     left: u32,
     depth: u64,
     scope: Scope,
-    variables: &[u32; 1024],
-    channels: &[u32; 1024],
+    vars: &[u32; 1024],
+    chans: &[u32; 1024],
     out: &mut [u8],
     here: u32,
 ) -> Done
     ensures { λ r.
         ⌜ wrote r (now (out .exit))
-        ≡ seqAt left depth scope (now (variables .entry)) (now (channels .entry)) (now (table .entry)) at
+        ≡ seqAt left depth scope (now (vars .entry)) (now (chans .entry)) (now (table .entry)) at
         (standing here (now (out .entry))) ⌝ }
 {
     if left == 0 {
@@ -138,15 +138,15 @@ fn seq(
             here: here,
         };
     }
-    let part = statement(table, at, depth, scope, variables, channels, out, here);
+    let part = statement(table, at, depth, scope, vars, chans, out, here);
     seq(
         table,
         part.next,
         left - 1,
         depth,
         scope,
-        variables,
-        channels,
+        vars,
+        chans,
         out,
         part.here,
     )
@@ -159,14 +159,14 @@ fn pairs(
     left: u32,
     depth: u64,
     scope: Scope,
-    variables: &[u32; 1024],
-    channels: &[u32; 1024],
+    vars: &[u32; 1024],
+    chans: &[u32; 1024],
     out: &mut [u8],
     here: u32,
 ) -> Done
     ensures { λ r.
         ⌜ wrote r (now (out .exit))
-        ≡ ifAt left depth scope (now (variables .entry)) (now (channels .entry)) (now (table .entry)) at
+        ≡ ifAt left depth scope (now (vars .entry)) (now (chans .entry)) (now (table .entry)) at
         (standing here (now (out .entry))) ⌝ }
 {
     if left == 0 {
@@ -175,18 +175,9 @@ fn pairs(
             here: here,
         };
     }
-    let test = emitter::gen_expr(table, at, depth, scope.w, variables, out, here);
+    let test = emitter::gen_expr(table, at, depth, scope.w, vars, out, here);
     let begin = instruction::after(test.here, 4);
-    let body = statement(
-        table,
-        test.next,
-        depth,
-        scope,
-        variables,
-        channels,
-        out,
-        begin,
-    );
+    let body = statement(table, test.next, depth, scope, vars, chans, out, begin);
     let next = instruction::after(body.here, 4);
     let rest = pairs(
         table,
@@ -194,8 +185,8 @@ fn pairs(
         left - 1,
         depth,
         scope,
-        variables,
-        channels,
+        vars,
+        chans,
         out,
         next,
     );
@@ -210,28 +201,19 @@ fn repetition(
     at: usize,
     depth: u64,
     scope: Scope,
-    variables: &[u32; 1024],
-    channels: &[u32; 1024],
+    vars: &[u32; 1024],
+    chans: &[u32; 1024],
     out: &mut [u8],
     here: u32,
 ) -> Done
     ensures { λ r.
         ⌜ wrote r (now (out .exit))
-        ≡ whileAt depth scope (now (variables .entry)) (now (channels .entry)) (now (table .entry)) at
+        ≡ whileAt depth scope (now (vars .entry)) (now (chans .entry)) (now (table .entry)) at
         (standing here (now (out .entry))) ⌝ }
 {
-    let test = emitter::gen_expr(table, at, depth, scope.w, variables, out, here);
+    let test = emitter::gen_expr(table, at, depth, scope.w, vars, out, here);
     let begin = instruction::after(test.here, 4);
-    let body = statement(
-        table,
-        test.next,
-        depth,
-        scope,
-        variables,
-        channels,
-        out,
-        begin,
-    );
+    let body = statement(table, test.next, depth, scope, vars, chans, out, begin);
     let end = instruction::after(body.here, 4);
     emitter::distance(out, body.here, instruction::codes::J, here, end);
     emitter::distance(out, test.here, instruction::codes::CJ, end, begin);
@@ -279,14 +261,14 @@ fn branch(
     d: u32,
     depth: u64,
     scope: Scope,
-    variables: &[u32; 1024],
-    channels: &[u32; 1024],
+    vars: &[u32; 1024],
+    chans: &[u32; 1024],
     out: &mut [u8],
     here: u32,
 ) -> Done
     ensures { λ r.
         ⌜ wrote r (now (out .exit))
-        ≡ branchAt d depth scope (now (variables .entry)) (now (channels .entry)) (now (table .entry)) at
+        ≡ branchAt d depth scope (now (vars .entry)) (now (chans .entry)) (now (table .entry)) at
         (standing here (now (out .entry))) ⌝ }
 {
     let w = emitter::below(scope.w, d);
@@ -295,7 +277,7 @@ fn branch(
         variables: scope.variables,
         channels: scope.channels,
     };
-    let body = statement(table, at, depth, inner, variables, channels, out, here);
+    let body = statement(table, at, depth, inner, vars, chans, out, here);
     let second = emitter::plain(out, body.here, instruction::codes::LDLP, d);
     let end = emitter::operation(out, second, instruction::codes::ENDP);
     Done {
@@ -311,8 +293,8 @@ fn branches(
     left: u32,
     depth: u64,
     scope: Scope,
-    variables: &[u32; 1024],
-    channels: &[u32; 1024],
+    vars: &[u32; 1024],
+    chans: &[u32; 1024],
     out: &mut [u8],
     d: u32,
     start: u32,
@@ -320,7 +302,7 @@ fn branches(
 ) -> Done
     ensures { λ r.
         ⌜ wrote r (now (out .exit))
-        ≡ branchesAt left depth scope (now (variables .entry)) (now (channels .entry)) (now (table .entry)) at d start
+        ≡ branchesAt left depth scope (now (vars .entry)) (now (chans .entry)) (now (table .entry)) at d start
         (standing here (now (out .entry))) ⌝ }
 {
     if left == 0 {
@@ -330,7 +312,7 @@ fn branches(
         };
     }
     let next = put_start(out, start, d, here);
-    let branch = branch(table, at, d, depth, scope, variables, channels, out, here);
+    let branch = branch(table, at, d, depth, scope, vars, chans, out, here);
     let own = emitter::measure(table, at, depth);
     let below = instruction::after(d, own.need);
     branches(
@@ -339,8 +321,8 @@ fn branches(
         left - 1,
         depth,
         scope,
-        variables,
-        channels,
+        vars,
+        chans,
         out,
         below,
         next,
@@ -364,14 +346,14 @@ fn par(
     count: u32,
     depth: u64,
     scope: Scope,
-    variables: &[u32; 1024],
-    channels: &[u32; 1024],
+    vars: &[u32; 1024],
+    chans: &[u32; 1024],
     out: &mut [u8],
     here: u32,
 ) -> Done
     ensures { λ r.
         ⌜ wrote r (now (out .exit))
-        ≡ parAt count depth scope (now (variables .entry)) (now (channels .entry)) (now (table .entry)) at
+        ≡ parAt count depth scope (now (vars .entry)) (now (chans .entry)) (now (table .entry)) at
         (standing here (now (out .entry))) ⌝ }
 {
     if count == 0 {
@@ -391,15 +373,15 @@ fn par(
         variables: scope.variables,
         channels: scope.channels,
     };
-    let one = branch(table, at, 0, depth, inner, variables, channels, out, begin);
+    let one = branch(table, at, 0, depth, inner, vars, chans, out, begin);
     let rest = branches(
         table,
         one.next,
         count - 1,
         depth,
         inner,
-        variables,
-        channels,
+        vars,
+        chans,
         out,
         first.need,
         starts,
@@ -419,40 +401,31 @@ fn choice(
     guard: Guard,
     depth: u64,
     scope: Scope,
-    variables: &[u32; 1024],
-    channels: &[u32; 1024],
+    vars: &[u32; 1024],
+    chans: &[u32; 1024],
     out: &mut [u8],
     here: u32,
 ) -> Done
     ensures { λ r.
         ⌜ wrote r (now (out .exit))
-        ≡ choiceAt guard depth scope (now (variables .entry)) (now (channels .entry)) (now (table .entry))
+        ≡ choiceAt guard depth scope (now (vars .entry)) (now (chans .entry)) (now (table .entry))
         (standing here (now (out .entry))) ⌝ }
 {
     let start = emitter::plain(out, here, instruction::codes::AJW, 1);
     if guard.waits {
-        let input = emitter::gen_input(table, guard.next, scope.w, variables, channels, out, start);
+        let input = emitter::gen_input(table, guard.next, scope.w, vars, chans, out, start);
         return statement(
             table,
             input.next,
             depth,
             scope,
-            variables,
-            channels,
+            vars,
+            chans,
             out,
             input.here,
         );
     }
-    statement(
-        table,
-        guard.next,
-        depth,
-        scope,
-        variables,
-        channels,
-        out,
-        start,
-    )
+    statement(table, guard.next, depth, scope, vars, chans, out, start)
 }
 
 // The disabling and the branches: each branch ends with J end. `base` is the place after ALTEND.
@@ -462,8 +435,8 @@ fn choices(
     left: u32,
     depth: u64,
     scope: Scope,
-    variables: &[u32; 1024],
-    channels: &[u32; 1024],
+    vars: &[u32; 1024],
+    chans: &[u32; 1024],
     out: &mut [u8],
     disable: u32,
     base: u32,
@@ -471,7 +444,7 @@ fn choices(
 ) -> Done
     ensures { λ r.
         ⌜ wrote r (now (out .exit))
-        ≡ choicesAt left depth scope (now (variables .entry)) (now (channels .entry)) (now (table .entry)) at disable base
+        ≡ choicesAt left depth scope (now (vars .entry)) (now (chans .entry)) (now (table .entry)) at disable base
         (standing here (now (out .entry))) ⌝ }
 {
     if left == 0 {
@@ -481,9 +454,9 @@ fn choices(
         };
     }
     let w = emitter::below(scope.w, 1);
-    let guard = crate::alt::gen_guard(table, at, depth, w, variables, channels, out, disable);
+    let guard = crate::alt::gen_guard(table, at, depth, w, vars, chans, out, disable);
     let following = crate::alt::put_disable(out, guard, here, base);
-    let branch = choice(table, guard, depth, scope, variables, channels, out, here);
+    let branch = choice(table, guard, depth, scope, vars, chans, out, here);
     let next = instruction::after(branch.here, 4);
     let rest = choices(
         table,
@@ -491,8 +464,8 @@ fn choices(
         left - 1,
         depth,
         scope,
-        variables,
-        channels,
+        vars,
+        chans,
         out,
         following,
         base,
@@ -509,31 +482,20 @@ fn alt(
     count: u32,
     depth: u64,
     scope: Scope,
-    variables: &[u32; 1024],
-    channels: &[u32; 1024],
+    vars: &[u32; 1024],
+    chans: &[u32; 1024],
     out: &mut [u8],
     here: u32,
 ) -> Done
     ensures { λ r.
         ⌜ wrote r (now (out .exit))
-        ≡ altAt count depth scope (now (variables .entry)) (now (channels .entry)) (now (table .entry)) at
+        ≡ altAt count depth scope (now (vars .entry)) (now (chans .entry)) (now (table .entry)) at
         (standing here (now (out .entry))) ⌝ }
 {
     let second = emitter::plain(out, here, instruction::codes::AJW, emitter::minus(1));
     let start = emitter::operation(out, second, instruction::codes::ALT);
     let w = emitter::below(scope.w, 1);
-    let enabled = crate::alt::gen_enable(
-        table,
-        at,
-        count,
-        depth,
-        w,
-        variables,
-        channels,
-        out,
-        start,
-        0,
-    );
+    let enabled = crate::alt::gen_enable(table, at, count, depth, w, vars, chans, out, start, 0);
     let disable = emitter::operation(out, enabled.here, instruction::codes::ALTWT);
     let end = instruction::after(disable, enabled.disabling);
     let base = emitter::operation(out, end, instruction::codes::ALTEND);
@@ -543,8 +505,8 @@ fn alt(
         count,
         depth,
         scope,
-        variables,
-        channels,
+        vars,
+        chans,
         out,
         disable,
         base,
@@ -559,83 +521,35 @@ fn inside(
     kind: u32,
     depth: u64,
     scope: Scope,
-    variables: &[u32; 1024],
-    channels: &[u32; 1024],
+    vars: &[u32; 1024],
+    chans: &[u32; 1024],
     out: &mut [u8],
     here: u32,
 ) -> Done
     ensures { λ r.
         ⌜ wrote r (now (out .exit))
-        ≡ insideAt kind depth scope (now (variables .entry)) (now (channels .entry)) (now (table .entry)) at
+        ≡ insideAt kind depth scope (now (vars .entry)) (now (chans .entry)) (now (table .entry)) at
         (standing here (now (out .entry))) ⌝ }
 {
     if kind < 7 {
-        return declaration(
-            table,
-            at,
-            kind,
-            depth,
-            scope,
-            variables,
-            channels,
-            out,
-            here,
-        );
+        return declaration(table, at, kind, depth, scope, vars, chans, out, here);
     }
     if kind == 10 {
-        return repetition(table, at, depth, scope, variables, channels, out, here);
+        return repetition(table, at, depth, scope, vars, chans, out, here);
     }
     let count = numbers::value_at(table, at);
+    let next = count.next;
+    let n = count.value;
     if kind == 7 {
-        return seq(
-            table,
-            count.next,
-            count.value,
-            depth,
-            scope,
-            variables,
-            channels,
-            out,
-            here,
-        );
+        return seq(table, next, n, depth, scope, vars, chans, out, here);
     }
     if kind == 8 {
-        return par(
-            table,
-            count.next,
-            count.value,
-            depth,
-            scope,
-            variables,
-            channels,
-            out,
-            here,
-        );
+        return par(table, next, n, depth, scope, vars, chans, out, here);
     }
     if kind == 9 {
-        return pairs(
-            table,
-            count.next,
-            count.value,
-            depth,
-            scope,
-            variables,
-            channels,
-            out,
-            here,
-        );
+        return pairs(table, next, n, depth, scope, vars, chans, out, here);
     }
-    alt(
-        table,
-        count.next,
-        count.value,
-        depth,
-        scope,
-        variables,
-        channels,
-        out,
-        here,
-    )
+    alt(table, next, n, depth, scope, vars, chans, out, here)
 }
 
 // A statement; the depth left falls at each call.
@@ -644,14 +558,14 @@ pub fn statement(
     at: usize,
     depth: u64,
     scope: Scope,
-    variables: &[u32; 1024],
-    channels: &[u32; 1024],
+    vars: &[u32; 1024],
+    chans: &[u32; 1024],
     out: &mut [u8],
     here: u32,
 ) -> Done
     ensures { λ r.
         ⌜ wrote r (now (out .exit))
-        ≡ stmtInto depth scope (now (variables .entry)) (now (channels .entry)) (now (table .entry)) at
+        ≡ stmtInto depth scope (now (vars .entry)) (now (chans .entry)) (now (table .entry)) at
         (standing here (now (out .entry))) ⌝ }
 {
     if depth == 0 {
@@ -668,8 +582,8 @@ pub fn statement(
             kind.value,
             depth - 1,
             scope.w,
-            variables,
-            channels,
+            vars,
+            chans,
             out,
             here,
         );
@@ -680,8 +594,8 @@ pub fn statement(
         kind.value,
         depth - 1,
         scope,
-        variables,
-        channels,
+        vars,
+        chans,
         out,
         here,
     )
