@@ -1,0 +1,5 @@
+// The machine over lent code and lent memory (document 01, "The machine", "When a call is turned down").
+mod begin;
+
+pub use begin::Begun;
+pub use begin::start;
