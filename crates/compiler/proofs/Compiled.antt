@@ -94,7 +94,8 @@ module _ (s : List ℕ) (room : ℕ) where
         rw (as-compiled h l m, written-is h o) (sets-eq c o 0 (omega (arith, size-is h)) ∙ rw zero-add)
 
 -- the answer is the code's length: what was compiled
-coded-as : (x : Compilation) (n : ℕ) → compiledAnswer x ≡ CodeOf n → (p : Program) × (code : List ℕ) × (x ≡ compiled p code) × (length code ≡ n)
+coded-as : (x : Compilation) (n : ℕ) → compiledAnswer x ≡ CodeOf n
+    → (p : Program) × (code : List ℕ) × (x ≡ compiled p code) × (length code ≡ n)
 coded-as (compiled p code) n e = (p, code, refl, cc)
 coded-as (refused k r) n e = never (cc)
 
