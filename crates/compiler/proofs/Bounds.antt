@@ -10,10 +10,9 @@ use Rattle.model.specs.Code.{prefixesOf, bytesIn}
 use Rattle.model.specs.Scheme.{operatorSize, exprSize, howMany, size, sizeAll, sizePar, sizeEnds, sizePairs, sizeEnable, sizeDisable}
 use Rattle.model.specs.Scheme.{sizeBranches}
 use Rattle.model.proofs.RoundTrip.{fewest-fits}
-use Rattle.compiler.proofs.Spelled.{ExprAt, constantAt, variableAt, notAt, binaryAt, StmtAt}
-use Rattle.compiler.proofs.Spelled.{skipAt, stopAt, assignAt, inputAt, outputAt, varAt, chanAt, seqAt, parAt, ifAt, whileAt, altAt}
-use Rattle.compiler.proofs.Spelled.{StmtsAt, noStmtAt, stmtsAt, PairsAt, noPairAt, pairAt, GuardsAt, noGuardAt, inputGuardAt}
-use Rattle.compiler.proofs.Spelled.{skipGuardAt}
+use Rattle.compiler.proofs.Spelled.{ExprAt, constantAt, variableAt, notAt, binaryAt, StmtAt, skipAt, stopAt, assignAt, inputAt}
+use Rattle.compiler.proofs.Spelled.{outputAt, varAt, chanAt, seqAt, parAt, ifAt, whileAt, altAt, StmtsAt, noStmtAt, stmtsAt, PairsAt}
+use Rattle.compiler.proofs.Spelled.{noPairAt, pairAt, GuardsAt, noGuardAt, inputGuardAt, skipGuardAt}
 
 operator-small : (op : Operator) → operatorSize op ≤ 2
 unfolding operatorSize

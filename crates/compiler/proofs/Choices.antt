@@ -2,8 +2,8 @@
 use Prim.Native.Nat.{ℕ, suc, _+_, _-_, _^_, _≤_, _<_}
 use native.Mathlib.Omega.{arith}
 use native.Mathlib.Nat.{add-zero, mod-eq-of-lt}
-use mathlib.Core.Path.{_≡_, refl, sym, ap, _∙_}
-use mathlib.Core.Bool.{true, false}
+use mathlib.Core.Path.{_≡_, refl, ap, _∙_}
+use mathlib.Core.Bool.{Bool, true, false, cond}
 use mathlib.Core.List.{List, [], _∷_, _++_, append-assoc}
 use lib.ListN.{length, length-append}
 use lib.Seq.{sets}
@@ -12,38 +12,62 @@ use Rattle.model.specs.Syntax.{Site, Whole, Stmt, ALT, Guards, noGuard, inputGu
 use Rattle.model.specs.Reader as M
 use Rattle.model.specs.Counts.{need, guardNeed}
 use Rattle.model.specs.Instruction as I
-use Rattle.model.specs.Instruction.{Instruction, plain, distance, operation, ldlp, ldc, ajw, rev, disc, diss, altwt, altend, enbc, enbs}
-use Rattle.model.specs.Instruction.{functionCode}
-use Rattle.model.specs.Instruction.{operationCode}
+use Rattle.model.specs.Instruction.{Operation, Instruction, plain, distance, operation, ldlp, ldc, ajw, rev, disc, diss, altwt, altend}
+use Rattle.model.specs.Instruction.{enbc, enbs, functionCode, operationCode}
 use Rattle.model.specs.Prefix.{fewest, fewestFrom, enough}
 use Rattle.model.specs.Code.{prefixesOf, bytesIn, encode}
 use Rattle.model.specs.Scheme.{size, sizeEnable, sizeDisable, sizeBranches, local, wholeCode, inputCode, code, codeEnable, codeDisable}
 use Rattle.model.specs.Scheme.{codeBranches}
-use Rattle.model.proofs.Well.{LaidGuards}
+use Rattle.model.proofs.Well.{Laid, LaidGuards}
 use Rattle.model.proofs.Sizes.{code-length, enable-length, disable-length, branches-length}
 use Rattle.emitter.specs.Emits.{at, operationInto}
-use Rattle.emitter.specs.Exprs.{written}
+use Rattle.emitter.specs.Extents.{extentAt}
 use Rattle.emitter.specs.Simples.{inInto, inputInto}
-use Rattle.compiler.specs.Alts.{stmtInto, innerAt, guardInto, guarded, behindGuard, enableInto, enabling, disableInto, choicesInto}
-use Rattle.compiler.proofs.Spelled.{NumeralAt, OneAt, WholeAt, CountAt, GuardsAt, noGuardAt, inputGuardAt, skipGuardAt}
-use Rattle.compiler.proofs.Fills.{bytes-append, fill-then, fill-before, fill-swap, Room, room-left}
-use Rattle.compiler.proofs.Fills.{emits-fills, emits-at, distance-fills, Stands, stands-first, stands-next, stands-both, stands-last}
-use Rattle.compiler.proofs.Fills.{gap-fills, then-distance, no-bytes, distance-bytes}
+use Rattle.compiler.specs.Alts.{stmtInto, innerAt, guardInto, guarded, behindGuard, enableInto, enabling, disableInto, choiceInto}
+use Rattle.compiler.specs.Alts.{choicesInto}
+use Rattle.compiler.specs.declared.alt.Guard.{Guard}
+use Rattle.compiler.proofs.Spelled.{NumeralAt, OneAt, WholeAt, CountAt, StmtAt, GuardsAt, noGuardAt, inputGuardAt, skipGuardAt}
+use Rattle.compiler.proofs.Fills.{bytes-append, fill-then, fill-before, fill-swap, Room, room-left, emits-fills, emits-at}
+use Rattle.compiler.proofs.Fills.{distance-fills, Stands, stands-first, stands-next, stands-both, stands-last, gap-fills}
+use Rattle.compiler.proofs.Fills.{then-distance, then-operation, emits, distance-bytes}
 use Rattle.compiler.proofs.ExprCode.{expr-code, local-is}
 use Rattle.compiler.proofs.ExtentIs.{next-is, extent-is}
-use Rattle.compiler.proofs.Compiles.{scopeOf, Scoped, Placed, Written, Compiles}
-use Rattle.compiler.proofs.Flows.{inner-scope}
+use Rattle.compiler.proofs.Compiles.{scopeOf, Scoped, inner-scope, Placed, Written, Compiles}
+
+-- a guard, its condition written
+abbrev guardOf : (next here : ℕ) → Bool → Guard
+guardOf n h waits = record { next = n; here = h; waits = waits }
+
+-- what ends a guard's disabling, in six bytes: LDC branch, DISC or DISS
+abbrev disabling : Operation → (b choice : ℕ) → List Instruction
+disabling op b choice = distance ldc b choice ∷ operation op ∷ []
+
+disc-bytes : (b choice : ℕ) → bytesIn (disabling disc b choice) ≡ 6
+unfolding bytesIn prefixesOf operationCode fewest fewestFrom enough
+disc-bytes b choice = refl
+
+diss-bytes : (b choice : ℕ) → bytesIn (disabling diss b choice) ≡ 6
+unfolding bytesIn prefixesOf operationCode fewest fewestFrom enough
+diss-bytes b choice = refl
+
+same-less : (h n : ℕ) → h + n < 2 ^ 32 → less (h + n) h ≡ n
+same-less h n l =
+    let e : h + n + 2 ^ 32 - h ≡ n + 2 ^ 32 = omega arith in
+    rw e (omega arith)
 
 module _ (word : Site → ℕ) (workspace : ℕ → ℕ) (off : ℕ → ℕ) (s : List ℕ) where
-  module _ {d : ℕ} {sc : M.Scope} {vs cs : List ℕ} (scope : Scoped word workspace off s (suc d) sc vs cs) where
+  -- a guard's enabling and its disabling begin with G
+  abbrev Begins : (depth : ℕ) (vs cs : List ℕ) (w i next h : ℕ) (o : List ℕ) → Bool → List Instruction → Type 0
+  Begins d vs cs w i n h o waits G =
+      Room h G → guardInto d w vs cs s i (at h o) ≡ guarded (guardOf n (h + bytesIn G) waits) (sets o h (encode off G))
+
+  module _ {d : ℕ} {sc : M.Scope} {vs cs : List ℕ} (scope : Scoped word (suc d) sc vs cs) where
     -- what enabling and disabling begin with: the condition, and for a guard that waits LDLP channel, REV
     abbrev waiting : (w : ℕ) → Whole → Site → List Instruction
     waiting w e c = wholeCode word w e ++ plain ldlp (local word w c) ∷ operation rev ∷ []
 
     waiting-fills : {i n m p : ℕ} {e : Whole} {c : Site} (w h : ℕ) (o : List ℕ) → NumeralAt s i 0 n → WholeAt s (sc .variables) d n e m
-        → OneAt s (sc .channels) m c p → Room h (waiting w e c)
-        → guardInto d w vs cs s i (at h o)
-        ≡ guarded (record { next = m; here = h + bytesIn (waiting w e c); waits = true }) (sets o h (encode off (waiting w e c)))
+        → OneAt s (sc .channels) m c p → Begins d vs cs w i m h o true (waiting w e c)
     unfolding guardInto functionCode operationCode operationInto
     waiting-fills {e = e} {c = c} w h o k x ch r =
         rw (
@@ -56,26 +80,9 @@ module _ (word : Site → ℕ) (workspace : ℕ → ℕ) (off : ℕ → ℕ) (s 
         refl
 
     skipping-fills : {i n m : ℕ} {e : Whole} (w h : ℕ) (o : List ℕ) → NumeralAt s i 1 n → WholeAt s (sc .variables) d n e m
-        → Room h (wholeCode word w e)
-        → guardInto d w vs cs s i (at h o)
-        ≡ guarded (record { next = m; here = h + bytesIn (wholeCode word w e); waits = false }) (sets o h (encode off (wholeCode word w e)))
+        → Begins d vs cs w i m h o false (wholeCode word w e)
     unfolding guardInto
     skipping-fills w h o k x r = rw (k .value, expr-code word off s (scope .variables) w (x .expr) h o r) refl
-
-    -- a guard's disabling takes six bytes behind what it begins with
-    disc-bytes : (b choice : ℕ) (xs : List Instruction) → bytesIn (distance ldc b choice ∷ operation disc ∷ xs) ≡ 6 + bytesIn xs
-    unfolding bytesIn prefixesOf operationCode fewest fewestFrom enough
-    disc-bytes b choice xs = omega arith
-
-    diss-bytes : (b choice : ℕ) (xs : List Instruction) → bytesIn (distance ldc b choice ∷ operation diss ∷ xs) ≡ 6 + bytesIn xs
-    unfolding bytesIn prefixesOf operationCode fewest fewestFrom enough
-    diss-bytes b choice xs = omega arith
-
-    disable-waits : (w choice b : ℕ) (e : Whole) (c x : Site) (y : Stmt) (gs : Guards)
-        → codeDisable word w choice b (inputGuard e c x y gs)
-        ≡ waiting w e c ++ distance ldc b choice ∷ operation disc ∷ codeDisable word w choice (b + 1 + 4 + size y + 1) gs
-    unfolding codeDisable
-    disable-waits w choice b e c x y gs = sym (append-assoc (wholeCode word w e) _ _)
 
     enable-waits : (w : ℕ) (e : Whole) (c x : Site) (y : Stmt) (gs : Guards)
         → codeEnable word w (inputGuard e c x y gs) ≡ waiting w e c ++ operation enbc ∷ [] ++ codeEnable word w gs
@@ -87,107 +94,76 @@ module _ (word : Site → ℕ) (workspace : ℕ → ℕ) (off : ℕ → ℕ) (s 
     unfolding codeEnable
     enable-skips w e y gs = simp append-assoc
 
-    skip-disabled : (w choice b : ℕ) (e : Whole) (y : Stmt) (gs : Guards)
-        → bytesIn (codeDisable word w choice b (skipGuard e y gs))
-        ≡ bytesIn (wholeCode word w e) + (6 + bytesIn (codeDisable word w choice (b + 1 + size y + 1) gs))
+    disable-waits : (w choice b : ℕ) (e : Whole) (c x : Site) (y : Stmt) (gs : Guards)
+        → codeDisable word w choice b (inputGuard e c x y gs)
+        ≡ waiting w e c ++ disabling disc b choice ++ codeDisable word w choice (b + 1 + 4 + size y + 1) gs
     unfolding codeDisable
-    skip-disabled w choice b e y gs = bytes-append (wholeCode word w e) _ ∙ rw (diss-bytes b choice _) refl
+    disable-waits w choice b e c x y gs = simp append-assoc
 
-    none-enabled : {i : ℕ} (w choice b h before : ℕ) (o : List ℕ) → enabling (record { next = i; here = h; disabling = before }) o
-        ≡ enabling
-        (record {
-          next = i;
-          here = h + bytesIn (codeEnable word w noGuard);
-          disabling = before + bytesIn (codeDisable word w choice b noGuard);
-        })
-        (sets o h (encode off (codeEnable word w noGuard)))
-    unfolding codeEnable codeDisable bytesIn encode
-    none-enabled w choice b h before o = rw (add-zero h, add-zero before)
+    disable-skips : (w choice b : ℕ) (e : Whole) (y : Stmt) (gs : Guards)
+        → codeDisable word w choice b (skipGuard e y gs)
+        ≡ wholeCode word w e ++ disabling diss b choice ++ codeDisable word w choice (b + 1 + size y + 1) gs
+    unfolding codeDisable
+    disable-skips w choice b e y gs = simp append-assoc
 
-    same-less : (h n : ℕ) → h + n < 2 ^ 32 → less (h + n) h ≡ n
-    same-less h n l =
-        let e : h + n + 2 ^ 32 - h ≡ n + 2 ^ 32 = omega arith in
-        rw e (omega arith)
+    -- the enabling of k guards is E, and their disabling has the bytes of D
+    record Enables (w k i n before h : ℕ) (o : List ℕ) (E D : List Instruction) : Type 0 where
+      enables : enableInto k d w vs cs s i before (at h o)
+          ≡ enabling (record { next = n; here = h + bytesIn E; disabling = before + bytesIn D }) (sets o h (encode off E))
 
-    enable-fills : {k i n : ℕ} {gs : Guards} (w choice b h before : ℕ) (o : List ℕ) → GuardsAt s d sc k i gs n → guardNeed gs ≤ 4096
+    none-enabled : {i : ℕ} (w choice b before h : ℕ) (o : List ℕ)
+        → Enables w 0 i i before h o (codeEnable word w noGuard) (codeDisable word w choice b noGuard)
+    unfolding enableInto codeEnable codeDisable bytesIn encode
+    none-enabled w choice b before h o = record { enables = rw (add-zero h, add-zero before) }
+
+    -- a guard that begins with G, and those behind it
+    enable-more : {k i m n q : ℕ} (waits : Bool) (op on : Operation) (w choice b before h : ℕ) (o : List ℕ) (G : List Instruction)
+        {E D C T : List Instruction} → C ≡ G ++ operation op ∷ [] ++ E → T ≡ G ++ disabling on b choice ++ D
+        → bytesIn (disabling on b choice) ≡ 6 → cond waits 72 73 ≡ operationCode op → Room h C → before + bytesIn T < 2 ^ 32
+        → Begins d vs cs w i m h o waits G
+        → extentAt d s (behindGuard s (guardOf m (h + bytesIn G) waits)) .next ≡ q
+        → ((before h : ℕ) (o : List ℕ) → Room h E → before + bytesIn D < 2 ^ 32 → Enables w k q n before h o E D)
+        → Enables w (suc k) i n before h o C T
+    unfolding enableInto
+    enable-more waits op on w choice b before h o G {E} {D} {C} {T} c-is t-is six op-is r l guard place rest =
+        let N = operation op ∷ [] in
+        let all : bytesIn C ≡ bytesIn (G ++ N) + bytesIn E = rw c-is (bytes-append (G ++ N) E) in
+        let front = bytes-append G N in
+        let X = disabling on b choice in
+        let disabled : bytesIn T ≡ bytesIn G + 6 + bytesIn D =
+        rw t-is (bytes-append (G ++ X) D ∙ omega (arith, bytes-append G X)) in
+        let same : less (h + bytesIn G) h ≡ bytesIn G = same-less h (bytesIn G) (omega arith) in
+        let more : low (bytesIn G + 6) ≡ bytesIn G + 6 = mod-eq-of-lt (omega arith) in
+        let sum : low (before + (bytesIn G + 6)) ≡ before + (bytesIn G + 6) = mod-eq-of-lt (omega arith) in
+        let placed : h + bytesIn C ≡ h + bytesIn (G ++ N) + bytesIn E = omega arith in
+        let left : before + bytesIn T ≡ before + (bytesIn G + 6) + bytesIn D = omega arith in
+        record {
+          enables = rw (
+            guard (omega arith),
+            then-operation off op _ h G o op-is (omega arith),
+            place,
+            same,
+            more,
+            sum,
+            rest (before + (bytesIn G + 6)) (h + bytesIn (G ++ N)) (sets o h (encode off (G ++ N))) (omega arith) (omega arith) .enables,
+          )
+              (rw (placed, left, c-is, ap (λ c. c .out) (fill-then off h (G ++ N) E o)));
+        }
+
+    enable-fills : {k i n : ℕ} {gs : Guards} (w choice b before h : ℕ) (o : List ℕ) → GuardsAt s d sc k i gs n → guardNeed gs ≤ 4096
         → Room h (codeEnable word w gs) → before + bytesIn (codeDisable word w choice b gs) < 2 ^ 32
-        → enableInto k d w vs cs s i before (at h o)
-        ≡ enabling
-        (record {
-          next = n;
-          here = h + bytesIn (codeEnable word w gs);
-          disabling = before + bytesIn (codeDisable word w choice b gs);
-        })
-        (sets o h (encode off (codeEnable word w gs)))
-    unfolding enableInto behindGuard guardNeed functionCode operationCode operationInto
-    enable-fills w choice b h before o noGuardAt few r l = none-enabled w choice b h before o
-    enable-fills w choice b h before o (inputGuardAt {e = e} {c = c} {x = x} {b = y} {gs = gs} k t ch v a g) few r l =
-        let G = waiting w e c in
-        let E = codeEnable word w gs in
-        let D = codeDisable word w choice (b + 1 + 4 + size y + 1) gs in
-        let N = operation enbc ∷ [] in
-        let r1 : Room h (G ++ N ++ E) = rw (enable-waits w e c x y gs) at r in
-        let disabled : bytesIn (codeDisable word w choice b (inputGuard e c x y gs)) ≡ bytesIn G + (6 + bytesIn D) =
-        rw (disable-waits w choice b e c x y gs) (bytes-append G _ ∙ rw (disc-bytes b choice D) refl) in
-        let all = bytes-append (G ++ N) E in
-        let front = bytes-append G N in
-        let same : less (h + bytesIn G) h ≡ bytesIn G = same-less h (bytesIn G) (omega (arith, r1, all, front)) in
-        let six : low (bytesIn G + 6) ≡ bytesIn G + 6 = mod-eq-of-lt (omega (arith, l, disabled)) in
-        let sum : low (before + (bytesIn G + 6)) ≡ before + (bytesIn G + 6) = mod-eq-of-lt (omega (arith, l, disabled)) in
-        rw (
-          waiting-fills w h o k t ch (omega (arith, r1, all, front)),
-          emits-fills off N h G o (omega (arith, r1, all)),
-          next-is s (ch .there),
-          next-is s (v .there),
-          extent-is s a (omega arith),
-          same,
-          six,
-          sum,
-          enable-fills w choice (b + 1 + 4 + size y + 1) (h + bytesIn (G ++ N)) (before + (bytesIn G + 6))
-              (sets o h (encode off (G ++ N))) g (omega arith) (omega (arith, r1, all)) (omega (arith, l, disabled)),
-        )
-        (let placed : h + bytesIn (G ++ N ++ E) ≡ h + bytesIn (G ++ N) + bytesIn E = omega (arith, all) in
-        let left : before + bytesIn (codeDisable word w choice b (inputGuard e c x y gs)) ≡ before + (bytesIn G + 6) + bytesIn D =
-        omega (arith, disabled) in
-        rw (enable-waits w e c x y gs, placed, left, ap (λ c. c .out) (fill-then off h (G ++ N) E o)))
-    enable-fills w choice b h before o (skipGuardAt {e = e} {b = y} {gs = gs} k t a g) few r l =
-        let G = wholeCode word w e in
-        let E = codeEnable word w gs in
-        let D = codeDisable word w choice (b + 1 + size y + 1) gs in
-        let N = operation enbs ∷ [] in
-        let r1 : Room h (G ++ N ++ E) = rw (enable-skips w e y gs) at r in
-        let disabled : bytesIn (codeDisable word w choice b (skipGuard e y gs)) ≡ bytesIn G + (6 + bytesIn D) =
-        skip-disabled w choice b e y gs in
-        let all = bytes-append (G ++ N) E in
-        let front = bytes-append G N in
-        let same : less (h + bytesIn G) h ≡ bytesIn G = same-less h (bytesIn G) (omega (arith, r1, all, front)) in
-        let six : low (bytesIn G + 6) ≡ bytesIn G + 6 = mod-eq-of-lt (omega (arith, l, disabled)) in
-        let sum : low (before + (bytesIn G + 6)) ≡ before + (bytesIn G + 6) = mod-eq-of-lt (omega (arith, l, disabled)) in
-        rw (
-          skipping-fills w h o k t (omega (arith, r1, all, front)),
-          emits-fills off N h G o (omega (arith, r1, all)),
-          extent-is s a (omega arith),
-          same,
-          six,
-          sum,
-          enable-fills w choice (b + 1 + size y + 1) (h + bytesIn (G ++ N)) (before + (bytesIn G + 6))
-              (sets o h (encode off (G ++ N))) g (omega arith) (omega (arith, r1, all)) (omega (arith, l, disabled)),
-        )
-        (let placed : h + bytesIn (G ++ N ++ E) ≡ h + bytesIn (G ++ N) + bytesIn E = omega (arith, all) in
-        let left : before + bytesIn (codeDisable word w choice b (skipGuard e y gs)) ≡ before + (bytesIn G + 6) + bytesIn D =
-        omega (arith, disabled) in
-        rw (enable-skips w e y gs, placed, left, ap (λ c. c .out) (fill-then off h (G ++ N) E o)))
-
-  disable-skips : (w choice b : ℕ) (e : Whole) (y : Stmt) (gs : Guards)
-      → codeDisable word w choice b (skipGuard e y gs)
-      ≡ wholeCode word w e ++ distance ldc b choice ∷ operation diss ∷ [] ++ codeDisable word w choice (b + 1 + size y + 1) gs
-  unfolding codeDisable
-  disable-skips w choice b e y gs = sym (append-assoc (wholeCode word w e) _ _)
-
-  none-chosen : {i : ℕ} (h dis : ℕ) (o : List ℕ)
-      → written i (at h o) ≡ record { next = i; here = h + bytesIn []; out = sets (sets o h (encode off [])) dis (encode off []) }
-  unfolding bytesIn encode
-  none-chosen h dis o = rw (add-zero h)
+        → Enables w k i n before h o (codeEnable word w gs) (codeDisable word w choice b gs)
+    unfolding behindGuard guardNeed operationCode
+    enable-fills w choice b before h o noGuardAt few r l = none-enabled w choice b before h o
+    enable-fills w choice b before h o (inputGuardAt {e = e} {c = c} {x = x} {b = y} {gs = gs} k t ch v a g) few r l =
+        enable-more true enbc disc w choice b before h o (waiting w e c) (enable-waits w e c x y gs)
+        (disable-waits w choice b e c x y gs) (disc-bytes b choice) refl r l (waiting-fills w h o k t ch)
+        (rw (next-is s (ch .there), next-is s (v .there), extent-is s a (omega arith)))
+        (λ before h o r l. enable-fills w choice (b + 1 + 4 + size y + 1) before h o g (omega arith) r l)
+    enable-fills w choice b before h o (skipGuardAt {e = e} {b = y} {gs = gs} k t a g) few r l =
+        enable-more false enbs diss w choice b before h o (wholeCode word w e) (enable-skips w e y gs)
+        (disable-skips w choice b e y gs) (diss-bytes b choice) refl r l (skipping-fills w h o k t) (rw (extent-is s a (omega arith)))
+        (λ before h o r l. enable-fills w choice (b + 1 + size y + 1) before h o g (omega arith) r l)
 
   -- one branch with its J, and its disabling, each in its own area
   choice-stores : (a : ℕ) (xs xs2 : List Instruction) (h : ℕ) (ys : List Instruction) (over leave : ℕ) (ys2 : List Instruction) (o : List ℕ)
@@ -211,130 +187,102 @@ module _ (word : Site → ℕ) (workspace : ℕ → ℕ) (off : ℕ → ℕ) (s 
       )
       (ap (λ c. c .out) (fill-then off a xs xs2 (sets o h (encode off (ys ++ J ∷ ys2)))))
 
-  module _ {d : ℕ} {sc : M.Scope} {vs cs : List ℕ} (w : ℕ) (fits : w ≤ 4096) (scope : Scoped word workspace off s (suc d) sc vs cs)
+  module _ {d : ℕ} {sc : M.Scope} {vs cs : List ℕ} (w : ℕ) (fits : w ≤ 4096) (scope : Scoped word (suc d) sc vs cs)
       (inner : Compiles word workspace off s d) where
-    choices-fill : {k i n : ℕ} {gs : Guards} (choice b dis over base h : ℕ) (o : List ℕ) → GuardsAt s d sc k i gs n
+    -- the disabling of k guards is D, in an area of its own, and their branches are B
+    record Chooses (k i n base dis h : ℕ) (o : List ℕ) (D B : List Instruction) : Type 0 where
+      chooses : choicesInto k d (innerAt d s) (scopeOf w sc) vs cs s i dis base (at h o)
+          ≡ record { next = n; here = h + bytesIn B; out = sets (sets o h (encode off B)) dis (encode off D) }
+
+    none-chosen : {i : ℕ} (choice b over base dis h : ℕ) (o : List ℕ)
+        → Chooses 0 i i base dis h o (codeDisable word (w - 1) choice b noGuard) (codeBranches word w b over noGuard)
+    unfolding choicesInto codeDisable codeBranches bytesIn encode
+    none-chosen choice b over base dis h o = record { chooses = rw (add-zero h) }
+
+    -- a guard that begins with G, whose branch is F and the code of y, and those behind it
+    choice-more : {k i m n z q : ℕ} {y : Stmt} (waits : Bool) (op : Operation) (choice b j over base dis h : ℕ) (o : List ℕ)
+        (G F : List Instruction) {D R C A : List Instruction} → C ≡ G ++ disabling op b choice ++ D
+        → A ≡ F ++ code word w j y ++ distance I.j over (j + size y) ∷ R → bytesIn (disabling op b choice) ≡ 6
+        → cond waits 47 48 ≡ operationCode op → off (suc choice) ≡ base → b + length F ≡ j → j + size y + 1 + length R ≡ over
+        → Laid workspace w y → need y ≤ 4096 → Stands off b h A → Room h A → dis + bytesIn C ≤ h
+        → Begins d vs cs (w - 1) i m dis o waits G
+        → ((o : List ℕ) → choiceInto (guardOf m (dis + bytesIn G) waits) (innerAt d s) (scopeOf w sc) vs cs s (at h o)
+        ≡ stmtInto d (scopeOf w sc) vs cs s z (emits off F (at h o))) → StmtAt s d sc z y q
+        → ((dis h : ℕ) (o : List ℕ) → Stands off (j + size y + 1) h R → Room h R → dis + bytesIn D ≤ h → Chooses k q n base dis h o D R)
+        → Chooses (suc k) i n base dis h o C A
+    unfolding choicesInto disableInto functionCode prefixesOf
+    choice-more {y = y} waits op choice b j over base dis h o G F {D} {R} {C} {A} c-is a-is six op-is user index end laid few p r l guard
+        branch a rest =
+        let leave = j + size y in
+        let T = distance ldc b choice in
+        let X = disabling op b choice in
+        let B = code word w j y in
+        let J = distance I.j over leave in
+        let O = sets o dis (encode off (G ++ X)) in
+        let d-bytes : bytesIn C ≡ bytesIn (G ++ X) + bytesIn D = rw c-is (bytes-append (G ++ X) D) in
+        let g-bytes = bytes-append G X in
+        let j-bytes : bytesIn (J ∷ R) ≡ 4 + bytesIn R = distance-bytes I.j over leave R in
+        let bytes : bytesIn A ≡ bytesIn (F ++ B) + 4 + bytesIn R = rw a-is (bytes-append (F ++ B) (J ∷ R) ∙ omega arith) in
+        let f-bytes = bytes-append F B in
+        let sides = stands-both off (F ++ B) (rw a-is at p) in
+        let body-stands : Stands off j (h + bytesIn F) B = rw index at (stands-both off F (sides .0) .1) in
+        let rest-index : suc (b + length (F ++ B)) ≡ leave + 1 = omega (arith, length-append F B, code-length word w j y) in
+        let rest-stands : Stands off (leave + 1) (h + bytesIn (F ++ B) + 4) R = rw rest-index at (stands-next off (sides .1)) in
+        let at-end : off over ≡ h + bytesIn (F ++ B) + 4 + bytesIn R = rw end at (stands-last off R rest-stands) in
+        let left : suc leave ≡ leave + 1 = omega arith in
+        let next : low (h + bytesIn (F ++ B) + 4) ≡ h + bytesIn (F ++ B) + 4 = mod-eq-of-lt (omega arith) in
+        let f-place : h + bytesIn F + bytesIn B ≡ h + bytesIn (F ++ B) = omega arith in
+        let both : G ++ T ∷ [] ++ operation op ∷ [] ≡ G ++ X = append-assoc G (T ∷ []) (operation op ∷ []) in
+        let x-room : Room dis (G ++ T ∷ [] ++ operation op ∷ []) = rw both (omega arith) in
+        let place : h + bytesIn A ≡ h + bytesIn (F ++ B) + 4 + bytesIn R = omega arith in
+        record {
+          chooses = rw (
+            guard (omega arith),
+            then-distance off ldc 0x40 b choice h base dis G o refl (stands-first off p) user (room-left dis (G ++ T ∷ []) _ x-room),
+            then-operation off op _ dis (G ++ T ∷ []) o op-is x-room,
+            both,
+            branch O,
+            emits-at off F h O (omega arith),
+            inner .compiles w j (h + bytesIn F) a (inner-scope scope)
+                (record { laid = laid; low = fits; few = few; stands = body-stands; room = omega arith }) (sets O h (encode off F)),
+            f-place,
+            ap (λ c. c .out) (fill-then off h F B O),
+            next,
+            rest (dis + bytesIn (G ++ X)) (h + bytesIn (F ++ B) + 4) (sets O h (encode off (F ++ B))) rest-stands (omega arith)
+                (omega arith) .chooses,
+            distance-fills off I.j 0 over leave (h + bytesIn (F ++ B) + 4 + bytesIn R) (h + bytesIn (F ++ B) + 4) (h + bytesIn (F ++ B))
+                _ refl at-end (rw left (stands-first off rest-stands)) (omega arith),
+          )
+              (rw (place, c-is, a-is, choice-stores dis (G ++ X) D h (F ++ B) over leave R o (omega arith)));
+        }
+
+    choices-fill : {k i n : ℕ} {gs : Guards} (choice b over base dis h : ℕ) (o : List ℕ) → GuardsAt s d sc k i gs n
         → LaidGuards workspace w gs → guardNeed gs ≤ 4096 → over ≡ b + sizeBranches gs → off (suc choice) ≡ base
         → Stands off b h (codeBranches word w b over gs) → Room h (codeBranches word w b over gs)
         → dis + bytesIn (codeDisable word (w - 1) choice b gs) ≤ h
-        → choicesInto k d (innerAt d s) (scopeOf w sc) vs cs s i dis base (at h o)
-        ≡ record {
-          next = n;
-          here = h + bytesIn (codeBranches word w b over gs);
-          out = sets (sets o h (encode off (codeBranches word w b over gs))) dis (encode off (codeDisable word (w - 1) choice b gs));
-        }
-    unfolding choicesInto disableInto codeBranches need size inInto inputInto functionCode operationCode operationInto prefixesOf
-    choices-fill choice b dis over base h o noGuardAt laid few is user p r l = none-chosen h dis o
-    choices-fill choice b dis over base h o (inputGuardAt {e = e} {c = c} {x = x} {b = y} {gs = gs} k t ch v a g) laid few is user p r l =
-        let leave = b + 1 + 4 + size y in
-        let G = waiting scope (w - 1) e c in
-        let T = distance ldc b choice in
-        let X = T ∷ operation disc ∷ [] in
-        let D = codeDisable word (w - 1) choice (leave + 1) gs in
-        let F = plain ajw 1 ∷ inputCode word w c x in
-        let B = code word w (b + 1 + 4) y in
-        let J = distance I.j over leave in
-        let R = codeBranches word w (leave + 1) over gs in
-        let O = sets o dis (encode off (G ++ X)) in
-        let disabled : codeDisable word (w - 1) choice b (inputGuard e c x y gs) ≡ G ++ X ++ D =
-        disable-waits scope (w - 1) choice b e c x y gs ∙ sym (append-assoc G X D) in
-        let d-bytes : bytesIn (codeDisable word (w - 1) choice b (inputGuard e c x y gs)) ≡ bytesIn (G ++ X) + bytesIn D =
-        rw disabled (bytes-append (G ++ X) D) in
-        let x-bytes : bytesIn X ≡ 6 = disc-bytes scope b choice [] ∙ rw (no-bytes) refl in
-        let g-bytes = bytes-append G X in
-        let j-bytes : bytesIn (J ∷ R) ≡ 4 + bytesIn R = distance-bytes I.j over leave R in
-        let bytes : bytesIn (F ++ B ++ J ∷ R) ≡ bytesIn (F ++ B) + 4 + bytesIn R = bytes-append (F ++ B) (J ∷ R) ∙ omega (arith, j-bytes) in
-        let f-bytes = bytes-append F B in
-        let sides = stands-both off (F ++ B) p in
-        let body-index : b + length F ≡ b + 1 + 4 = omega arith in
-        let body-stands : Stands off (b + 1 + 4) (h + bytesIn F) B = rw body-index at (stands-both off F (sides .0) .1) in
-        let rest-index : suc (b + length (F ++ B)) ≡ leave + 1 = omega (arith, length-append F B, code-length word w (b + 1 + 4) y) in
-        let rest-stands : Stands off (leave + 1) (h + bytesIn (F ++ B) + 4) R = rw rest-index at (stands-next off (sides .1)) in
-        let end-index : leave + 1 + length R ≡ over = omega (arith, is, branches-length word w (leave + 1) over gs) in
-        let at-end : off over ≡ h + bytesIn (F ++ B) + 4 + bytesIn R = rw end-index at (stands-last off R rest-stands) in
-        let left : suc leave ≡ leave + 1 = omega arith in
-        let next : low (h + bytesIn (F ++ B) + 4) ≡ h + bytesIn (F ++ B) + 4 = mod-eq-of-lt (omega (arith, bytes, r)) in
-        let f-place : h + bytesIn F + bytesIn B ≡ h + bytesIn (F ++ B) = omega (arith, f-bytes) in
-        let both : G ++ T ∷ [] ++ operation disc ∷ [] ≡ G ++ X = append-assoc G (T ∷ []) (operation disc ∷ []) in
-        let t-room : Room dis (G ++ T ∷ []) =
-        omega (arith, l, r, d-bytes, g-bytes, x-bytes, bytes-append G (T ∷ []), distance-bytes ldc b choice [], no-bytes) in
-        let x-room : Room dis (G ++ T ∷ [] ++ operation disc ∷ []) = rw both (omega (arith, l, d-bytes, r)) in
-        rw (
-          waiting-fills scope (w - 1) dis o k t ch (omega (arith, l, d-bytes, g-bytes, r)),
-          then-distance off ldc 0x40 b choice h base dis G o refl (stands-first off p) user t-room,
-          emits-fills off (operation disc ∷ []) dis (G ++ T ∷ []) o x-room,
-          both,
+        → Chooses k i n base dis h o (codeDisable word (w - 1) choice b gs) (codeBranches word w b over gs)
+    unfolding codeBranches need size inInto inputInto functionCode operationCode operationInto
+    choices-fill choice b over base dis h o noGuardAt laid few is user p r l = none-chosen choice b over base dis h o
+    choices-fill choice b over base dis h o (inputGuardAt {e = e} {c = c} {x = x} {b = y} {gs = gs} k t ch v a g) laid few is user p r l =
+        let after = b + 1 + 4 + size y + 1 in
+        choice-more true disc choice b (b + 1 + 4) over base dis h o (waiting scope (w - 1) e c) (plain ajw 1 ∷ inputCode word w c x)
+        (disable-waits scope (w - 1) choice b e c x y gs) refl (disc-bytes b choice) refl user
+        (omega arith) (omega (arith, branches-length word w after over gs)) (laid .0) (omega arith) p r l
+        (waiting-fills scope (w - 1) dis o k t ch)
+        (λ o. rw (
           ch .there .value,
           v .there .value,
           local-is word off s (scope .channels) w ch,
           local-is word off s (scope .variables) w v,
-          emits-at off F h O (omega (arith, bytes, f-bytes, r)),
-          inner .compiles w (b + 1 + 4) (h + bytesIn F) a (inner-scope word workspace off s scope)
-              (record { laid = laid .0; low = fits; few = omega arith; stands = body-stands; room = omega (arith, bytes, f-bytes, r) })
-              (sets O h (encode off F)),
-          f-place,
-          ap (λ c. c .out) (fill-then off h F B O),
-          next,
-          choices-fill choice (leave + 1) (dis + bytesIn (G ++ X)) over base (h + bytesIn (F ++ B) + 4) (sets O h (encode off (F ++ B))) g
-              (laid .1) (omega arith) (omega (arith, is)) user rest-stands (omega (arith, bytes, r)) (omega (arith, l, d-bytes)),
-          distance-fills off I.j 0 over leave (h + bytesIn (F ++ B) + 4 + bytesIn R) (h + bytesIn (F ++ B) + 4) (h + bytesIn (F ++ B))
-              _ refl at-end (rw left (stands-first off rest-stands)) (omega (arith, bytes, r)),
-        )
-        (let place : h + bytesIn (F ++ B ++ J ∷ R) ≡ h + bytesIn (F ++ B) + 4 + bytesIn R = omega (arith, bytes) in
-        rw (place, disabled, choice-stores dis (G ++ X) D h (F ++ B) over leave R o (omega (arith, l, d-bytes))))
-    choices-fill choice b dis over base h o (skipGuardAt {e = e} {b = y} {gs = gs} k t a g) laid few is user p r l =
-        let leave = b + 1 + size y in
-        let G = wholeCode word (w - 1) e in
-        let T = distance ldc b choice in
-        let X = T ∷ operation diss ∷ [] in
-        let D = codeDisable word (w - 1) choice (leave + 1) gs in
-        let F = plain ajw 1 ∷ [] in
-        let B = code word w (b + 1) y in
-        let J = distance I.j over leave in
-        let R = codeBranches word w (leave + 1) over gs in
-        let O = sets o dis (encode off (G ++ X)) in
-        let disabled : codeDisable word (w - 1) choice b (skipGuard e y gs) ≡ G ++ X ++ D =
-        disable-skips (w - 1) choice b e y gs in
-        let d-bytes : bytesIn (codeDisable word (w - 1) choice b (skipGuard e y gs)) ≡ bytesIn (G ++ X) + bytesIn D =
-        rw disabled (bytes-append (G ++ X) D) in
-        let x-bytes : bytesIn X ≡ 6 = diss-bytes scope b choice [] ∙ rw (no-bytes) refl in
-        let g-bytes = bytes-append G X in
-        let j-bytes : bytesIn (J ∷ R) ≡ 4 + bytesIn R = distance-bytes I.j over leave R in
-        let bytes : bytesIn (F ++ B ++ J ∷ R) ≡ bytesIn (F ++ B) + 4 + bytesIn R = bytes-append (F ++ B) (J ∷ R) ∙ omega (arith, j-bytes) in
-        let f-bytes = bytes-append F B in
-        let sides = stands-both off (F ++ B) p in
-        let body-index : b + length F ≡ b + 1 = omega arith in
-        let body-stands : Stands off (b + 1) (h + bytesIn F) B = rw body-index at (stands-both off F (sides .0) .1) in
-        let rest-index : suc (b + length (F ++ B)) ≡ leave + 1 = omega (arith, length-append F B, code-length word w (b + 1) y) in
-        let rest-stands : Stands off (leave + 1) (h + bytesIn (F ++ B) + 4) R = rw rest-index at (stands-next off (sides .1)) in
-        let end-index : leave + 1 + length R ≡ over = omega (arith, is, branches-length word w (leave + 1) over gs) in
-        let at-end : off over ≡ h + bytesIn (F ++ B) + 4 + bytesIn R = rw end-index at (stands-last off R rest-stands) in
-        let left : suc leave ≡ leave + 1 = omega arith in
-        let next : low (h + bytesIn (F ++ B) + 4) ≡ h + bytesIn (F ++ B) + 4 = mod-eq-of-lt (omega (arith, bytes, r)) in
-        let f-place : h + bytesIn F + bytesIn B ≡ h + bytesIn (F ++ B) = omega (arith, f-bytes) in
-        let both : G ++ T ∷ [] ++ operation diss ∷ [] ≡ G ++ X = append-assoc G (T ∷ []) (operation diss ∷ []) in
-        let t-room : Room dis (G ++ T ∷ []) =
-        omega (arith, l, r, d-bytes, g-bytes, x-bytes, bytes-append G (T ∷ []), distance-bytes ldc b choice [], no-bytes) in
-        let x-room : Room dis (G ++ T ∷ [] ++ operation diss ∷ []) = rw both (omega (arith, l, d-bytes, r)) in
-        rw (
-          skipping-fills scope (w - 1) dis o k t (omega (arith, l, d-bytes, g-bytes, r)),
-          then-distance off ldc 0x40 b choice h base dis G o refl (stands-first off p) user t-room,
-          emits-fills off (operation diss ∷ []) dis (G ++ T ∷ []) o x-room,
-          both,
-          emits-at off F h O (omega (arith, bytes, f-bytes, r)),
-          inner .compiles w (b + 1) (h + bytesIn F) a (inner-scope word workspace off s scope)
-              (record { laid = laid .0; low = fits; few = omega arith; stands = body-stands; room = omega (arith, bytes, f-bytes, r) })
-              (sets O h (encode off F)),
-          f-place,
-          ap (λ c. c .out) (fill-then off h F B O),
-          next,
-          choices-fill choice (leave + 1) (dis + bytesIn (G ++ X)) over base (h + bytesIn (F ++ B) + 4) (sets O h (encode off (F ++ B))) g
-              (laid .1) (omega arith) (omega (arith, is)) user rest-stands (omega (arith, bytes, r)) (omega (arith, l, d-bytes)),
-          distance-fills off I.j 0 over leave (h + bytesIn (F ++ B) + 4 + bytesIn R) (h + bytesIn (F ++ B) + 4) (h + bytesIn (F ++ B))
-              _ refl at-end (rw left (stands-first off rest-stands)) (omega (arith, bytes, r)),
-        )
-        (let place : h + bytesIn (F ++ B ++ J ∷ R) ≡ h + bytesIn (F ++ B) + 4 + bytesIn R = omega (arith, bytes) in
-        rw (place, disabled, choice-stores dis (G ++ X) D h (F ++ B) over leave R o (omega (arith, l, d-bytes))))
+        )) a
+        (λ dis h o p r l. choices-fill choice after over base dis h o g (laid .1) (omega arith) (omega arith) user p r l)
+    choices-fill choice b over base dis h o (skipGuardAt {e = e} {b = y} {gs = gs} k t a g) laid few is user p r l =
+        let after = b + 1 + size y + 1 in
+        choice-more false diss choice b (b + 1) over base dis h o (wholeCode word (w - 1) e) (plain ajw 1 ∷ [])
+        (disable-skips scope (w - 1) choice b e y gs) refl (diss-bytes b choice) refl user
+        (omega arith) (omega (arith, branches-length word w after over gs)) (laid .0) (omega arith) p r l
+        (skipping-fills scope (w - 1) dis o k t) (λ o. refl) a
+        (λ dis h o p r l. choices-fill choice after over base dis h o g (laid .1) (omega arith) (omega arith) user p r l)
 
     pub alt-code : {i n m q k : ℕ} {gs : Guards} (j h : ℕ) → NumeralAt s i 11 n → CountAt s 0 32 n k m → GuardsAt s d sc k m gs q
         → Placed word workspace off s w j h (ALT gs) → Written word workspace off s (suc d) sc vs cs w j h i q (ALT gs)
@@ -370,14 +318,14 @@ module _ (word : Site → ℕ) (workspace : ℕ → ℕ) (off : ℕ → ℕ) (s 
           t .value,
           c .there .value,
           emits-at off A h o (omega (arith, bytes, front, r)),
-          enable-fills scope (w - 1) choice (choice + 1) (h + bytesIn A) 0 (sets o h (encode off A)) a (omega (arith, p .few))
-              (omega (arith, bytes, front, r)) (omega (arith, bytes, r)),
+          enable-fills scope (w - 1) choice (choice + 1) 0 (h + bytesIn A) (sets o h (encode off A)) a (omega (arith, p .few))
+              (omega (arith, bytes, front, r)) (omega (arith, bytes, r)) .enables,
           fill-then off h A E o,
           emits-at off N (h + bytesIn (A ++ E)) P (omega (arith, bytes, r)),
           end,
           emits-at off Z hz Q (omega (arith, bytes, r)),
-          choices-fill choice (choice + 1) hd (choice + 1 + sizeBranches gs) hb hb (sets Q hz (encode off Z)) a (p .laid)
-              (omega (arith, p .few)) refl (rw user (stands-first off branches)) branches (omega (arith, bytes, r)) (omega arith),
+          choices-fill choice (choice + 1) (choice + 1 + sizeBranches gs) hb hd hb (sets Q hz (encode off Z)) a (p .laid)
+              (omega (arith, p .few)) refl (rw user (stands-first off branches)) branches (omega (arith, bytes, r)) (omega arith) .chooses,
         )
         (let place : hb + bytesIn B ≡ h + bytesIn (A ++ E ++ (N ++ (D ++ (Z ++ B)))) = omega (arith, bytes) in
         rw (

@@ -10,7 +10,8 @@ use borrow.Author.Tests.{le-leb, lt-leb}
 use Rattle.model.specs.Syntax.{Program}
 use Rattle.model.specs.Reader.{Read, program, refused as unread}
 use Rattle.model.specs.Accept.{accept, memoryWords, answerOf}
-use Rattle.model.specs.Code.{Compilation, codeOf, compiled, refused, fitting, compile, compiledAnswer, bufferAfter, givenBack, numberOf, returnedOf}
+use Rattle.model.specs.Code.{Compilation, codeOf, compiled, refused, fitting, compile, compiledAnswer, bufferAfter, givenBack, numberOf}
+use Rattle.model.specs.Code.{returnedOf}
 use Rattle.model.specs.declared.Facts.{Facts}
 use Rattle.model.specs.declared.Reading.the-variants.{Accepted, Refused}
 use Rattle.model.specs.declared.Compiled.the-variants.{Code as CodeOf, Refused as NoCode}

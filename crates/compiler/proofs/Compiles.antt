@@ -1,5 +1,6 @@
 -- What it is that the generator writes the model's code of a statement; statements without statements inside.
-use Prim.Native.Nat.{ℕ, suc, _+_, _*_, _≤_}
+use Prim.Native.Nat.{ℕ, suc, _≤_}
+use native.Mathlib.Omega.{arith}
 use mathlib.Core.Path.{_≡_, sym, ap}
 use mathlib.Core.List.{List, [], _∷_}
 use lib.ListN.{length}
@@ -18,24 +19,26 @@ use Rattle.compiler.specs.Stmts.{scoped}
 use Rattle.compiler.specs.Alts.{stmtInto}
 use Rattle.compiler.specs.declared.stmt.Scope.{Scope}
 use Rattle.compiler.proofs.Spelled.{NumeralAt, OneAt, WholeAt, StmtAt}
-use Rattle.compiler.proofs.Fills.{filled, fill-none, Room, room-left}
-use Rattle.compiler.proofs.Fills.{emits-fills, emits-at, Stands}
+use Rattle.compiler.proofs.Fills.{filled, fill-none, Room, room-left, emits-fills, emits-at, Stands}
 use Rattle.compiler.proofs.ExprCode.{Named, local-is, expr-code}
 
 -- the workspace, and the numbers of names in scope
 abbrev pub scopeOf : (w : ℕ) → M.Scope → Scope
 scopeOf w sc = scoped w (length (sc .variables)) (length (sc .channels))
 
-module _ (word : Site → ℕ) (workspace : ℕ → ℕ) (off : ℕ → ℕ) (s : List ℕ) where
-  -- the words of the names in scope, with room for those that `depth` levels may declare
-  pub record Scoped (depth : ℕ) (sc : M.Scope) (vs cs : List ℕ) : Type 0 where
-    pub variables : Named word (sc .variables) vs
-    pub channels : Named word (sc .channels) cs
-    pub variables-long : length vs ≡ 1024
-    pub channels-long : length cs ≡ 1024
-    pub variables-few : length (sc .variables) + 32 * depth ≤ 1056
-    pub channels-few : length (sc .channels) + 32 * depth ≤ 1056
+-- the words of the names in scope
+pub record Scoped (word : Site → ℕ) (depth : ℕ) (sc : M.Scope) (vs cs : List ℕ) : Type 0 where
+  pub variables : Named word depth (sc .variables) vs
+  pub channels : Named word depth (sc .channels) cs
 
+-- the same with one level less
+pub inner-names : {word : Site → ℕ} {d : ℕ} {sites : List Site} {ws : List ℕ} → Named word (suc d) sites ws → Named word d sites ws
+inner-names h = record { inside = h .inside; word-is = h .word-is; long = h .long; few = omega (arith, h .few) }
+
+pub inner-scope : {word : Site → ℕ} {d : ℕ} {sc : M.Scope} {vs cs : List ℕ} → Scoped word (suc d) sc vs cs → Scoped word d sc vs cs
+inner-scope h = record { variables = inner-names (h .variables); channels = inner-names (h .channels) }
+
+module _ (word : Site → ℕ) (workspace : ℕ → ℕ) (off : ℕ → ℕ) (s : List ℕ) where
   -- a statement laid out at w, whose code stands at index j and place h
   pub record Placed (w j h : ℕ) (b : Stmt) : Type 0 where
     pub laid : Laid workspace w b
@@ -51,10 +54,10 @@ module _ (word : Site → ℕ) (workspace : ℕ → ℕ) (off : ℕ → ℕ) (s 
 
   -- the generator writes the model's code of every statement that is spelt with `depth` left
   pub record Compiles (depth : ℕ) : Type 0 where
-    pub compiles : {sc : M.Scope} {i n : ℕ} {b : Stmt} {vs cs : List ℕ} (w j h : ℕ) → StmtAt s depth sc i b n → Scoped depth sc vs cs
+    pub compiles : {sc : M.Scope} {i n : ℕ} {b : Stmt} {vs cs : List ℕ} (w j h : ℕ) → StmtAt s depth sc i b n → Scoped word depth sc vs cs
         → Placed w j h b → Written depth sc vs cs w j h i n b
 
-  module _ {d : ℕ} {sc : M.Scope} {vs cs : List ℕ} (w j h : ℕ) (names : Scoped (suc d) sc vs cs) where
+  module _ {d : ℕ} {sc : M.Scope} {vs cs : List ℕ} (w j h : ℕ) (names : Scoped word (suc d) sc vs cs) where
     pub skip-code : {i n : ℕ} → NumeralAt s i 0 n → Placed w j h SKIP → Written (suc d) sc vs cs w j h i n SKIP
     unfolding stmtInto simpleInto code
     skip-code k p o = rw (k .value) (ap (written _) (sym (fill-none off h o)))

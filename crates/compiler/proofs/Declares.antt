@@ -4,7 +4,7 @@ use native.Mathlib.Omega.{arith}
 use native.Mathlib.Nat.{mod-eq-of-lt}
 use native.Mathlib.Decide.{decLe}
 use mathlib.Core.Path.{_≡_, refl, sym, ap, _∙_}
-use mathlib.Core.Logic.{_⊎_, ⊎-elim}
+use mathlib.Core.Logic.{⊎-elim}
 use mathlib.Core.List.{List, [], _∷_, _++_, append-assoc}
 use mathlib.Core.Option.{some}
 use lib.ListN.{length, length-append, length-set, getD, set, getElem?}
@@ -14,7 +14,6 @@ use Rattle.model.specs.Syntax.{Site, declared, Stmt, VAR, CHAN}
 use Rattle.model.specs.Reader as M
 use Rattle.model.specs.Reader.{names, withVariables, withChannels}
 use Rattle.model.specs.Counts.{need}
-use Rattle.model.specs.Instruction as I
 use Rattle.model.specs.Instruction.{Instruction, plain, operation, ldc, ajw, stl, mint, functionCode, operationCode}
 use Rattle.model.specs.Code.{bytesIn, encode}
 use Rattle.model.specs.Scheme.{initialise, code}
@@ -23,16 +22,15 @@ use Rattle.model.proofs.Points.{getElem-inside as inside}
 use Rattle.model.proofs.Sizes.{initialise-length}
 use Rattle.table.proofs.SameSimple.{numbered-at, lookup-append, length-numbered}
 use Rattle.emitter.specs.Emits.{Code, at, plainInto, operationInto, declaredWords}
-use Rattle.emitter.specs.Exprs.{Wrote, written, codeOf}
+use Rattle.emitter.specs.Exprs.{written, codeOf}
 use Rattle.compiler.specs.Stmts.{firstInto, initialInto}
 use Rattle.compiler.specs.Alts.{stmtInto}
 use Rattle.compiler.proofs.Spelled.{NumeralAt, CountAt, StmtAt, skipAt, stopAt, assignAt, inputAt, outputAt, varAt, chanAt, seqAt}
-use Rattle.compiler.proofs.Spelled.{parAt}
-use Rattle.compiler.proofs.Spelled.{ifAt, whileAt, altAt}
+use Rattle.compiler.proofs.Spelled.{parAt, ifAt, whileAt, altAt}
 use Rattle.compiler.proofs.Fills.{bytes-append, filled, fill-then, Room, room-left, room-right, emits, emits-fills, emits-at, Stands}
 use Rattle.compiler.proofs.Fills.{stands-both}
 use Rattle.compiler.proofs.ExprCode.{Named}
-use Rattle.compiler.proofs.Compiles.{scopeOf, Scoped, Placed, Written, Compiles}
+use Rattle.compiler.proofs.Compiles.{scopeOf, Scoped, inner-names, Placed, Written, Compiles}
 
 -- so many names from number k on stand in the words from w on; the others stay
 pub words-long : (n k w : ℕ) (ws : List ℕ) → length (declaredWords n k w ws) ≡ length ws
@@ -66,22 +64,30 @@ words-new (suc n) k w (suc j) ws l m r t =
     (words-new n (k + 1) (w + 1) j (set ws k w) (omega arith) (omega (arith, length-set ws k w)) (omega arith) (omega arith))
 
 -- the names of a declaration, whose body runs at w, behind those in scope
-named-more : (word : Site → ℕ) (p n w : ℕ) (sites : List Site) (ws : List ℕ) → ((j : ℕ) → word (declared p j) ≡ w + j)
-    → length sites + n ≤ 1024 → w + n < 2 ^ 32 → length ws ≡ 1024 → Named word sites ws
-    → Named word (sites ++ names p n) (declaredWords n (length sites) w ws)
-named-more word p n w sites ws at-p few fits long h = record {
-  inside = λ k x e. omega (arith, inside (sites ++ names p n) k e, length-append sites (names p n), length-numbered (declared p) n);
-  word-is = λ k x e.
-      ⊎-elim
-      (λ (g : getElem? sites k ≡ some x).
-      words-before n (length sites) w k ws (inside sites k g) (omega arith) ∙ h .word-is k x g)
-      (λ (g : (length sites ≤ k) × (getElem? (names p n) (k - length sites) ≡ some x)).
-      let q = numbered-at (declared p) n (k - length sites) x (g .1) in
-      let here : length sites + (k - length sites) ≡ k = omega (arith, g .0) in
-      rw here at (words-new n (length sites) w (k - length sites) ws (q .1) (omega (arith, long)) (omega arith) fits)
-      ∙ sym (rw (q .0) (at-p (k - length sites))))
-      (lookup-append sites (names p n) k x e);
-}
+module _ {word : Site → ℕ} {d : ℕ} {sites : List Site} {ws : List ℕ} (p n w : ℕ) (small : n ≤ 32) (h : Named word (suc d) sites ws) where
+  names-long : length (sites ++ names p n) ≡ length sites + n
+  names-long = length-append sites (names p n) ∙ rw (length-numbered (declared p) n) refl
+
+  names-counted : low (length sites + n) ≡ length (sites ++ names p n)
+  names-counted = mod-eq-of-lt (omega (arith, h .few)) ∙ sym names-long
+
+  named-more : ((j : ℕ) → word (declared p j) ≡ w + j) → w + n < 2 ^ 32 → 1 ≤ d
+      → Named word d (sites ++ names p n) (declaredWords n (length sites) w ws)
+  named-more at-p fits deep = record {
+    inside = λ k x e. omega (arith, inside (sites ++ names p n) k e, names-long, h .few);
+    word-is = λ k x e.
+        ⊎-elim
+        (λ (g : getElem? sites k ≡ some x).
+        words-before n (length sites) w k ws (inside sites k g) (omega (arith, h .few)) ∙ h .word-is k x g)
+        (λ (g : (length sites ≤ k) × (getElem? (names p n) (k - length sites) ≡ some x)).
+        let q = numbered-at (declared p) n (k - length sites) x (g .1) in
+        let here : length sites + (k - length sites) ≡ k = omega (arith, g .0) in
+        rw here at (words-new n (length sites) w (k - length sites) ws (q .1) (omega (arith, h .few, h .long)) (omega (arith, h .few)) fits)
+        ∙ sym (rw (q .0) (at-p (k - length sites))))
+        (lookup-append sites (names p n) k x e);
+    long = words-long n (length sites) w ws ∙ h .long;
+    few = omega (arith, names-long, h .few);
+  }
 
 module _ (off : ℕ → ℕ) where
   -- fewer words are initialised in fewer bytes
@@ -123,53 +129,6 @@ module _ (off : ℕ → ℕ) where
 
 module _ (word : Site → ℕ) (workspace : ℕ → ℕ) (off : ℕ → ℕ) (s : List ℕ)
     (declared-is : (p j : ℕ) → word (declared p j) ≡ workspace p + j) where
-  -- what VAR and CHAN have in common: AJW -n, the words, body, AJW n
-  abbrev declaration : (first : Instruction) (n : ℕ) → List Instruction → List Instruction
-  declaration first n body = plain ajw (minus n) ∷ initialise first n ++ body ++ plain ajw n ∷ []
-
-  declaration-code : (kind : ℕ) (first : Instruction) → ((c : Code) → firstInto kind c ≡ emits off (first ∷ []) c)
-      → (n h q : ℕ) (B : List Instruction) (body : Code → Wrote) (o : List ℕ) → n ≤ 32 → Room h (declaration first n B)
-      → ((o : List ℕ) → body (at (h + bytesIn (plain ajw (minus n) ∷ initialise first n)) o)
-      ≡ written q (filled off (h + bytesIn (plain ajw (minus n) ∷ initialise first n)) B o))
-      → let b = body (initialInto n kind 0 (plainInto 0xb0 (minus n) (at h o))) in
-      written (b .next) (plainInto 0xb0 n (codeOf b)) ≡ written q (filled off h (declaration first n B) o)
-  unfolding functionCode initialise
-  declaration-code kind first is n h q B body o l room does =
-      let F = plain ajw (minus n) ∷ [] in
-      let I = initialise first n in
-      let head = room-left h (F ++ I ++ B) (plain ajw n ∷ []) room in
-      let begin = room-left h (F ++ I) B head in
-      rw (
-        emits-at off F h o (room-left h F I begin),
-        initial-fills off kind first is n 0 n h F o (omega arith) (omega arith) begin,
-        does (sets o h (encode off (F ++ I))),
-        fill-then off h (F ++ I) B o,
-      )
-      (ap (written q) (emits-fills off (plain ajw n ∷ []) h (F ++ I ++ B) o room))
-
-  -- the code of a body behind the words
-  behind : (first : Instruction) (n j h : ℕ) (B : List Instruction) → Stands off j h (declaration first n B)
-      → Stands off (j + 1 + (n + n)) (h + bytesIn (plain ajw (minus n) ∷ initialise first n)) B
-  behind first n j h B p =
-      let I = plain ajw (minus n) ∷ initialise first n in
-      let e : j + length I ≡ j + 1 + (n + n) = omega (arith, initialise-length first n) in
-      rw e at (stands-both off I (stands-both off (I ++ B) p .0) .1)
-
-  body-placed : (first : Instruction) (k w j h : ℕ) (b : Stmt) → Laid workspace (w - k) b → w ≤ 4096 → k + need b ≤ 4096
-      → Stands off j h (declaration first k (code word (w - k) (j + 1 + (k + k)) b))
-      → Room h (declaration first k (code word (w - k) (j + 1 + (k + k)) b))
-      → Placed word workspace off s (w - k) (j + 1 + (k + k)) (h + bytesIn (plain ajw (minus k) ∷ initialise first k)) b
-  body-placed first k w j h b laid small few there room =
-      let I = plain ajw (minus k) ∷ initialise first k in
-      let B = code word (w - k) (j + 1 + (k + k)) b in
-      record {
-        laid = laid;
-        low = omega arith;
-        few = omega arith;
-        stands = behind first k j h B there;
-        room = room-right h I B (room-left h (I ++ B) (plain ajw k ∷ []) room);
-      }
-
   -- a statement is spelt where there is depth left
   pub some-depth : {d : ℕ} {sc : M.Scope} {i n : ℕ} {b : Stmt} → StmtAt s d sc i b n → 1 ≤ d
   some-depth (skipAt k) = omega arith
@@ -185,58 +144,60 @@ module _ (word : Site → ℕ) (workspace : ℕ → ℕ) (off : ℕ → ℕ) (s 
   some-depth (whileAt k e a) = omega arith
   some-depth (altAt k c a) = omega arith
 
-  module _ {d : ℕ} {sc : M.Scope} {vs cs : List ℕ} (w j h : ℕ) (scope : Scoped word workspace off s (suc d) sc vs cs)
+  -- what VAR and CHAN have in common: AJW -n, the words, body, AJW n
+  abbrev declaration : (first : Instruction) (n : ℕ) → List Instruction → List Instruction
+  declaration first n body = plain ajw (minus n) ∷ initialise first n ++ body ++ plain ajw n ∷ []
+
+  module _ {d : ℕ} {sc : M.Scope} {vs cs : List ℕ} (w j h : ℕ) (inner : Compiles word workspace off s d) where
+    declaration-code : (kind : ℕ) (first : Instruction) → ((c : Code) → firstInto kind c ≡ emits off (first ∷ []) c)
+        → {m q : ℕ} {b : Stmt} (n : ℕ) → n ≤ 32 → StmtAt s d sc m b q → Scoped word d sc vs cs → Laid workspace (w - n) b → w ≤ 4096
+        → n + need b ≤ 4096 → let X = declaration first n (code word (w - n) (j + 1 + (n + n)) b) in
+        Stands off j h X → Room h X → (o : List ℕ)
+        → let r = stmtInto d (scopeOf (w - n) sc) vs cs s m (initialInto n kind 0 (plainInto 0xb0 (minus n) (at h o))) in
+        written (r .next) (plainInto 0xb0 n (codeOf r)) ≡ written q (filled off h X o)
+    unfolding functionCode initialise
+    declaration-code kind first is {q = q} {b = b} n l a scope laid fits few p room o =
+        let F = plain ajw (minus n) ∷ [] in
+        let I = initialise first n in
+        let B = code word (w - n) (j + 1 + (n + n)) b in
+        let head = room-left h (F ++ I ++ B) (plain ajw n ∷ []) room in
+        let begin = room-left h (F ++ I) B head in
+        let index : j + length (F ++ I) ≡ j + 1 + (n + n) = omega (arith, initialise-length first n) in
+        let there = rw index at (stands-both off (F ++ I) (stands-both off (F ++ I ++ B) p .0) .1) in
+        rw (
+          emits-at off F h o (room-left h F I begin),
+          initial-fills off kind first is n 0 n h F o (omega arith) (omega arith) begin,
+          inner .compiles (w - n) (j + 1 + (n + n)) (h + bytesIn (F ++ I)) a scope
+              (record { laid = laid; low = omega arith; few = omega arith; stands = there; room = room-right h (F ++ I) B head })
+              (sets o h (encode off (F ++ I))),
+          fill-then off h (F ++ I) B o,
+        )
+        (ap (written q) (emits-fills off (plain ajw n ∷ []) h (F ++ I ++ B) o room))
+
+  module _ {d : ℕ} {sc : M.Scope} {vs cs : List ℕ} (w j h : ℕ) (scope : Scoped word (suc d) sc vs cs)
       (inner : Compiles word workspace off s d) where
     pub var-code : {i n m q k : ℕ} {b : Stmt} → NumeralAt s i 5 n → CountAt s 1 32 n k m → StmtAt s d (withVariables i k sc) m b q
         → Placed word workspace off s w j h (VAR i k b) → Written word workspace off s (suc d) sc vs cs w j h i q (VAR i k b)
     unfolding stmtInto code firstInto functionCode operationCode operationInto need
-    var-code {i} {n} {m} {q} {k} {b} t c a p o =
-        let I = plain ajw (minus k) ∷ initialise (plain ldc 0) k in
-        let B = code word (w - k) (j + 1 + (k + k)) b in
-        let many = length (sc .variables) in
-        let long : length (sc .variables ++ names i k) ≡ many + k =
-        length-append (sc .variables) (names i k) ∙ rw (length-numbered (declared i) k) refl in
-        let more : low (many + k) ≡ length (sc .variables ++ names i k) =
-        mod-eq-of-lt (omega (arith, scope .variables-few, c .most)) ∙ sym long in
-        let enough : many + k ≤ 1024 = omega (arith, scope .variables-few, c .most, some-depth a) in
-        rw (t .value, c .there .value, more)
-        (declaration-code 5 (plain ldc 0) (λ c. refl) k h q B
-        (λ y. stmtInto d (scopeOf (w - k) (withVariables i k sc)) (declaredWords k many (w - k) vs) cs s m y) o (c .most) (p .room)
-        (inner .compiles (w - k) (j + 1 + (k + k)) (h + bytesIn I) a
+    var-code {i} {k = k} t c a p o =
+        rw (t .value, c .there .value, names-counted i k (w - k) (c .most) (scope .variables))
+        (declaration-code w j h inner 5 (plain ldc 0) (λ c. refl) k (c .most) a
         (record {
-          variables = named-more word i k (w - k) (sc .variables) vs (λ y. declared-is i y ∙ ap (λ x. x + y) (p .laid .0)) enough
-              (omega (arith, p .low, c .most)) (scope .variables-long) (scope .variables);
-          channels = scope .channels;
-          variables-long = words-long k many (w - k) vs ∙ scope .variables-long;
-          channels-long = scope .channels-long;
-          variables-few = omega (arith, long, scope .variables-few, c .most);
-          channels-few = omega (arith, scope .channels-few);
+          variables = named-more i k (w - k) (c .most) (scope .variables) (λ y. declared-is i y ∙ ap (λ x. x + y) (p .laid .0))
+              (omega (arith, p .low, c .most)) (some-depth a);
+          channels = inner-names (scope .channels);
         })
-        (body-placed (plain ldc 0) k w j h b (p .laid .1) (p .low) (p .few) (p .stands) (p .room))))
+        (p .laid .1) (p .low) (p .few) (p .stands) (p .room) o)
 
     pub chan-code : {i n m q k : ℕ} {b : Stmt} → NumeralAt s i 6 n → CountAt s 1 32 n k m → StmtAt s d (withChannels i k sc) m b q
         → Placed word workspace off s w j h (CHAN i k b) → Written word workspace off s (suc d) sc vs cs w j h i q (CHAN i k b)
     unfolding stmtInto code firstInto functionCode operationCode operationInto need
-    chan-code {i} {n} {m} {q} {k} {b} t c a p o =
-        let I = plain ajw (minus k) ∷ initialise (operation mint) k in
-        let B = code word (w - k) (j + 1 + (k + k)) b in
-        let many = length (sc .channels) in
-        let long : length (sc .channels ++ names i k) ≡ many + k =
-        length-append (sc .channels) (names i k) ∙ rw (length-numbered (declared i) k) refl in
-        let more : low (many + k) ≡ length (sc .channels ++ names i k) =
-        mod-eq-of-lt (omega (arith, scope .channels-few, c .most)) ∙ sym long in
-        let enough : many + k ≤ 1024 = omega (arith, scope .channels-few, c .most, some-depth a) in
-        rw (t .value, c .there .value, more)
-        (declaration-code 6 (operation mint) (λ c. refl) k h q B
-        (λ y. stmtInto d (scopeOf (w - k) (withChannels i k sc)) vs (declaredWords k many (w - k) cs) s m y) o (c .most) (p .room)
-        (inner .compiles (w - k) (j + 1 + (k + k)) (h + bytesIn I) a
+    chan-code {i} {k = k} t c a p o =
+        rw (t .value, c .there .value, names-counted i k (w - k) (c .most) (scope .channels))
+        (declaration-code w j h inner 6 (operation mint) (λ c. refl) k (c .most) a
         (record {
-          variables = scope .variables;
-          channels = named-more word i k (w - k) (sc .channels) cs (λ y. declared-is i y ∙ ap (λ x. x + y) (p .laid .0)) enough
-              (omega (arith, p .low, c .most)) (scope .channels-long) (scope .channels);
-          variables-long = scope .variables-long;
-          channels-long = words-long k many (w - k) cs ∙ scope .channels-long;
-          variables-few = omega (arith, scope .variables-few);
-          channels-few = omega (arith, long, scope .channels-few, c .most);
+          variables = inner-names (scope .variables);
+          channels = named-more i k (w - k) (c .most) (scope .channels) (λ y. declared-is i y ∙ ap (λ x. x + y) (p .laid .0))
+              (omega (arith, p .low, c .most)) (some-depth a);
         })
-        (body-placed (operation mint) k w j h b (p .laid .1) (p .low) (p .few) (p .stands) (p .room))))
+        (p .laid .1) (p .low) (p .few) (p .stands) (p .room) o)

@@ -1,10 +1,10 @@
 -- The generator writes the model's code of expressions.
-use Prim.Native.Nat.{ℕ, suc, _+_, _^_, _<_}
+use Prim.Native.Nat.{ℕ, suc, _+_, _*_, _^_, _≤_, _<_}
 use native.Mathlib.Omega.{arith}
 use mathlib.Core.Path.{_≡_, refl, ap}
 use mathlib.Core.List.{List, [], _∷_, _++_}
 use mathlib.Core.Option.{some}
-use lib.ListN.{getD, getElem?}
+use lib.ListN.{length, getD, getElem?}
 use lib.Seq.{sets}
 use borrow.Author.Tests.{lt-ltb}
 use Rattle.model.specs.Syntax.{Site, Operator, Expr}
@@ -20,10 +20,12 @@ use Rattle.emitter.specs.Exprs.{written, operationFor, operatorInto, leafInto, 
 use Rattle.compiler.proofs.Spelled.{OneAt, ExprAt, constantAt, variableAt, notAt, binaryAt}
 use Rattle.compiler.proofs.Fills.{filled, fill-then, plain-fills, operation-fills, then-plain, Room, room-left, room-right}
 
--- each name's word stands at its number
-pub record Named (word : Site → ℕ) (sites : List Site) (ws : List ℕ) : Type 0 where
+-- each name's word stands at its number, with room for the names that `depth` levels may declare
+pub record Named (word : Site → ℕ) (depth : ℕ) (sites : List Site) (ws : List ℕ) : Type 0 where
   pub inside : (k : ℕ) (x : Site) → getElem? sites k ≡ some x → k < 1024
   pub word-is : (k : ℕ) (x : Site) → getElem? sites k ≡ some x → getD ws k 0 ≡ word x
+  pub long : length ws ≡ 1024
+  pub few : length sites + 32 * depth ≤ 1056
 
 module _ (word : Site → ℕ) (off : ℕ → ℕ) (s : List ℕ) where
   plain-bytes : (f : I.Function) (n : ℕ) → bytesIn (plain f n ∷ []) ≡ suc (fewest n)
@@ -59,7 +61,7 @@ module _ (word : Site → ℕ) (off : ℕ → ℕ) (s : List ℕ) where
       )
       e
 
-  module _ {vs : List Site} {ws : List ℕ} (names : Named word vs ws) (w : ℕ) where
+  module _ {k : ℕ} {vs : List Site} {ws : List ℕ} (names : Named word k vs ws) (w : ℕ) where
     pub local-is : {i n : ℕ} {x : Site} (a : OneAt s vs i x n) → localOf ws (a .index) w ≡ local word w x
     unfolding localOf
     local-is a =

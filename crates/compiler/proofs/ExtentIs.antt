@@ -10,10 +10,9 @@ use Rattle.model.specs.Reader.{Scope}
 use Rattle.model.specs.Counts.{need, mostNeed, sumNeed, pairNeed, guardNeed}
 use Rattle.numbers.specs.declared.Value.{Value}
 use Rattle.emitter.specs.Extents.{nextOf, extended, skipExpr, simpleExtent, skipGuard, skipHead, partsFrom, extentAt}
-use Rattle.compiler.proofs.Spelled.{NumeralAt, ExprAt, constantAt, variableAt, notAt, binaryAt, StmtAt}
-use Rattle.compiler.proofs.Spelled.{skipAt, stopAt, assignAt, inputAt, outputAt, varAt, chanAt, seqAt, parAt, ifAt, whileAt, altAt}
-use Rattle.compiler.proofs.Spelled.{StmtsAt, noStmtAt, stmtsAt, PairsAt, noPairAt, pairAt, GuardsAt, noGuardAt, inputGuardAt}
-use Rattle.compiler.proofs.Spelled.{skipGuardAt}
+use Rattle.compiler.proofs.Spelled.{NumeralAt, ExprAt, constantAt, variableAt, notAt, binaryAt, StmtAt, skipAt, stopAt, assignAt}
+use Rattle.compiler.proofs.Spelled.{inputAt, outputAt, varAt, chanAt, seqAt, parAt, ifAt, whileAt, altAt, StmtsAt, noStmtAt, stmtsAt}
+use Rattle.compiler.proofs.Spelled.{PairsAt, noPairAt, pairAt, GuardsAt, noGuardAt, inputGuardAt, skipGuardAt}
 
 module _ (s : List ℕ) where
   pub next-is : {i v n : ℕ} → NumeralAt s i v n → nextOf s i ≡ n

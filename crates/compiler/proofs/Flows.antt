@@ -11,35 +11,23 @@ use Rattle.model.specs.Syntax.{Site, Whole, Stmt, SEQ, IF, WHILE, Stmts, Pairs}
 use Rattle.model.specs.Reader as M
 use Rattle.model.specs.Counts.{need, mostNeed, pairNeed}
 use Rattle.model.specs.Instruction as I
-use Rattle.model.specs.Instruction.{distance, cj, functionCode}
+use Rattle.model.specs.Instruction.{Instruction, distance, cj, functionCode}
 use Rattle.model.specs.Code.{prefixesOf, bytesIn, encode}
 use Rattle.model.specs.Scheme.{wholeSize, size, sizePairs, wholeCode, code, codeAll, codePairs}
-use Rattle.model.proofs.Well.{LaidAll, LaidPairs}
+use Rattle.model.proofs.Well.{Laid, LaidAll, LaidPairs}
 use Rattle.model.proofs.Sizes.{expr-length, code-length, pairs-length}
-use Rattle.emitter.specs.Emits.{at}
-use Rattle.emitter.specs.Exprs.{written}
+use Rattle.emitter.specs.Emits.{Code, at, distanceInto}
+use Rattle.emitter.specs.Exprs.{Wrote, written, exprInto}
 use Rattle.compiler.specs.Stmts.{seqInto, ifInto}
 use Rattle.compiler.specs.Alts.{stmtInto}
 use Rattle.compiler.proofs.Spelled.{NumeralAt, WholeAt, CountAt, StmtAt, StmtsAt, noStmtAt, stmtsAt, PairsAt, noPairAt, pairAt}
-use Rattle.compiler.proofs.Fills.{bytes-append, filled, fill-then, fill-none, Room, room-left, room-right}
-use Rattle.compiler.proofs.Fills.{distance-fills, Stands, stands-first, stands-next, stands-both, stands-last, gap-fills}
+use Rattle.compiler.proofs.Fills.{bytes-append, filled, fill-then, fill-none, Room, room-left, room-right, distance-fills, Stands}
+use Rattle.compiler.proofs.Fills.{stands-first, stands-next, stands-both, stands-last, gap-fills}
 use Rattle.compiler.proofs.ExprCode.{expr-code}
-use Rattle.compiler.proofs.Compiles.{scopeOf, Scoped, Placed, Written, Compiles}
+use Rattle.compiler.proofs.Compiles.{scopeOf, Scoped, inner-scope, Placed, Written, Compiles}
 
 module _ (word : Site → ℕ) (workspace : ℕ → ℕ) (off : ℕ → ℕ) (s : List ℕ) where
-  -- the same names with one level less
-  pub inner-scope : {d : ℕ} {sc : M.Scope} {vs cs : List ℕ} → Scoped word workspace off s (suc d) sc vs cs
-      → Scoped word workspace off s d sc vs cs
-  inner-scope h = record {
-    variables = h .variables;
-    channels = h .channels;
-    variables-long = h .variables-long;
-    channels-long = h .channels-long;
-    variables-few = omega (arith, h .variables-few);
-    channels-few = omega (arith, h .channels-few);
-  }
-
-  module _ {d : ℕ} {sc : M.Scope} {vs cs : List ℕ} (w : ℕ) (fits : w ≤ 4096) (scope : Scoped word workspace off s (suc d) sc vs cs)
+  module _ {d : ℕ} {sc : M.Scope} {vs cs : List ℕ} (w : ℕ) (fits : w ≤ 4096) (scope : Scoped word (suc d) sc vs cs)
       (inner : Compiles word workspace off s d) where
     seq-parts : {k i n : ℕ} {ss : Stmts} (j h : ℕ) → StmtsAt s d sc k i ss n → LaidAll workspace w ss → mostNeed ss ≤ 4096
         → Stands off j h (codeAll word w j ss) → Room h (codeAll word w j ss) → (o : List ℕ)
@@ -63,116 +51,106 @@ module _ (word : Site → ℕ) (workspace : ℕ → ℕ) (off : ℕ → ℕ) (s 
     seq-code j h t c a p o =
         rw (t .value, c .there .value) (seq-parts j h a (p .laid) (omega (arith, p .few)) (p .stands) (p .room) o)
 
+    -- a tested body: condition, CJ behind the J, body, J; then the rest. The J reaches a place that the rest's end gives
+    abbrev testedInto : (reached : ℕ → ℕ) (rest : ℕ → Code → Wrote) (at : ℕ) → Code → Wrote
+    testedInto reached rest i c =
+        let t = exprInto d w vs s i c in
+        let begin = low (t .here + 4) in
+        let b = stmtInto d (scopeOf w sc) vs cs s (t .next) (at begin (t .out)) in
+        let next = low (b .here + 4) in
+        let r = rest (b .next) (at next (b .out)) in
+        let j = distanceInto 0 (reached (r .here)) next (at (b .here) (r .out)) in
+        let cj = distanceInto 0xa0 next begin (at (t .here) (j .out)) in
+        record { next = r .next; here = r .here; out = cj .out }
+
+    -- the place of the J that leaves a tested body
+    abbrev leaves : (j : ℕ) → Whole → Stmt → ℕ
+    leaves j e b = j + wholeSize e + 1 + size b
+
+    abbrev testedCode : (j over : ℕ) → Whole → Stmt → List Instruction → List Instruction
+    testedCode j over e b rest =
+        let test = j + wholeSize e in
+        wholeCode word w e
+        ++ distance cj (leaves j e b + 1) test
+        ∷ code word w (test + 1) b
+        ++ distance I.j over (leaves j e b)
+        ∷ rest
+
+    tested-code : {i m n q : ℕ} {e : Whole} {b : Stmt} (reached : ℕ → ℕ) (rest : ℕ → Code → Wrote) (j over h : ℕ) (P : List Instruction)
+        (o : List ℕ) → WholeAt s (sc .variables) d i e m → StmtAt s d sc m b n → Laid workspace w b → need b ≤ 4096
+        → Stands off j h (testedCode j over e b P) → Room h (testedCode j over e b P)
+        → ((h : ℕ) (o : List ℕ) → Stands off (leaves j e b + 1) h P → Room h P
+        → (off over ≡ reached (h + bytesIn P)) × (rest n (at h o) ≡ written q (filled off h P o)))
+        → testedInto reached rest i (at h o) ≡ written q (filled off h (testedCode j over e b P) o)
+    unfolding functionCode bytesIn prefixesOf
+    tested-code {e = e} {b = b} reached rest j over h P o c a laid few p r more =
+        let E = wholeCode word w e in
+        let test = j + wholeSize e in
+        let leave = leaves j e b in
+        let B = code word w (test + 1) b in
+        let T = distance cj (leave + 1) test in
+        let J = distance I.j over leave in
+        let long : length E ≡ wholeSize e = expr-length word w (e .expr) in
+        let size-is : length B ≡ size b = code-length word w (test + 1) b in
+        let sides = stands-both off (E ++ T ∷ B) p in
+        let front : bytesIn (E ++ T ∷ B) ≡ bytesIn E + 4 + bytesIn B = bytes-append E (T ∷ B) ∙ omega arith in
+        let bytes : bytesIn (E ++ T ∷ B ++ J ∷ P) ≡ bytesIn E + 4 + bytesIn B + 4 + bytesIn P =
+        bytes-append (E ++ T ∷ B) (J ∷ P) ∙ omega arith in
+        let begin = h + bytesIn E + 4 in
+        let next = begin + bytesIn B + 4 in
+        let begins : low begin ≡ begin = mod-eq-of-lt (omega arith) in
+        let goes : low next ≡ next = mod-eq-of-lt (omega arith) in
+        let body-index : suc (j + length E) ≡ test + 1 = omega arith in
+        let body-stands : Stands off (test + 1) begin B = rw body-index at (stands-next off (stands-both off E (sides .0) .1)) in
+        let rest-index : suc (j + length (E ++ T ∷ B)) ≡ leave + 1 = omega (arith, length-append E (T ∷ B)) in
+        let rest-place : h + bytesIn (E ++ T ∷ B) + 4 ≡ next = omega arith in
+        let rest-stands : Stands off (leave + 1) next P = rw (rest-index, rest-place) at (stands-next off (sides .1)) in
+        let O = sets o h (encode off E) in
+        let after = more next (sets O begin (encode off B)) rest-stands (omega arith) in
+        let left : suc leave ≡ leave + 1 = omega arith in
+        let tested : suc test ≡ test + 1 = omega arith in
+        let all : E ++ T ∷ B ++ J ∷ P ≡ E ++ T ∷ (B ++ J ∷ P) = append-assoc E (T ∷ B) (J ∷ P) in
+        let end : h + bytesIn (E ++ T ∷ B ++ J ∷ P) ≡ next + bytesIn P = omega arith in
+        rw (
+          expr-code word off s (scope .variables) w (c .expr) h o (omega arith),
+          begins,
+          inner .compiles w (test + 1) begin a (inner-scope scope)
+              (record { laid = laid; low = fits; few = few; stands = body-stands; room = omega arith }) O,
+          goes,
+          after .1,
+          distance-fills off I.j 0 over leave _ next (begin + bytesIn B) _ refl (after .0) (rw left (stands-first off rest-stands))
+              (omega arith),
+          distance-fills off cj 0xa0 (leave + 1) test _ begin (h + bytesIn E) _ refl (stands-first off rest-stands)
+              (rw tested (stands-first off body-stands)) (omega arith),
+          end,
+          all,
+          gap-fills off begin B I.j over leave P O,
+          gap-fills off h E cj (leave + 1) test (B ++ J ∷ P) o,
+        )
+        refl
+
     pub while-code : {i n m q : ℕ} {e : Whole} {b : Stmt} (j h : ℕ) → NumeralAt s i 10 n → WholeAt s (sc .variables) d n e m
         → StmtAt s d sc m b q → Placed word workspace off s w j h (WHILE e b)
         → Written word workspace off s (suc d) sc vs cs w j h i q (WHILE e b)
-    unfolding stmtInto code need functionCode bytesIn prefixesOf
-    while-code {e = e} {b = b} j h t c a p o =
-        let E = wholeCode word w e in
-        let test = j + wholeSize e in
-        let back = test + 1 + size b in
-        let B = code word w (test + 1) b in
-        let T = distance cj (back + 1) test in
-        let J = distance I.j j back in
-        let long : length E ≡ wholeSize e = expr-length word w (e .expr) in
-        let size-is : length B ≡ size b = code-length word w (test + 1) b in
-        let sides = stands-both off (E ++ T ∷ B) (p .stands) in
-        let behind = stands-both off E (sides .0) .1 in
-        let bytes : bytesIn (E ++ T ∷ B ++ J ∷ []) ≡ bytesIn E + 4 + bytesIn B + 4 =
-        bytes-append (E ++ T ∷ B) (J ∷ []) ∙ omega (arith, bytes-append E (T ∷ B)) in
-        let begin : low (h + bytesIn E + 4) ≡ h + bytesIn E + 4 = mod-eq-of-lt (omega (arith, bytes, p .room)) in
-        let end : low (h + bytesIn E + 4 + bytesIn B + 4) ≡ h + bytesIn E + 4 + bytesIn B + 4 =
-        mod-eq-of-lt (omega (arith, bytes, p .room)) in
-        let body-index : suc (j + length E) ≡ test + 1 = omega (arith, long) in
-        let body-stands : Stands off (test + 1) (h + bytesIn E + 4) B = rw body-index at (stands-next off behind) in
-        let end-index : j + length (E ++ T ∷ B ++ J ∷ []) ≡ back + 1 =
-        omega (arith, length-append (E ++ T ∷ B) (J ∷ []), length-append E (T ∷ B), long, size-is) in
-        let end-place : h + bytesIn (E ++ T ∷ B ++ J ∷ []) ≡ h + bytesIn E + 4 + bytesIn B + 4 = omega (arith, bytes) in
-        let at-end : off (back + 1) ≡ h + bytesIn E + 4 + bytesIn B + 4 = rw (end-index, end-place) at (stands-last off _ (p .stands)) in
-        let user : suc back ≡ back + 1 = omega arith in
-        let tested : suc test ≡ test + 1 = omega arith in
-        let all : E ++ T ∷ B ++ J ∷ [] ≡ E ++ T ∷ (B ++ J ∷ []) = append-assoc E (T ∷ B) (J ∷ []) in
-        rw (
-          t .value,
-          expr-code word off s (scope .variables) w (c .expr) h o (omega (arith, bytes, p .room)),
-          begin,
-          inner .compiles w (test + 1) (h + bytesIn E + 4) a (inner-scope scope)
-              (record {
-                laid = p .laid;
-                low = fits;
-                few = omega (arith, p .few);
-                stands = body-stands;
-                room = omega (arith, bytes, p .room);
-              })
-              (sets o h (encode off E)),
-          end,
-          distance-fills off I.j 0 j back h (h + bytesIn E + 4 + bytesIn B + 4) (h + bytesIn E + 4 + bytesIn B)
-              (sets (sets o h (encode off E)) (h + bytesIn E + 4) (encode off B)) refl (stands-first off (p .stands)) (rw user at-end)
-              (omega (arith, bytes, p .room)),
-          distance-fills off cj 0xa0 (back + 1) test (h + bytesIn E + 4 + bytesIn B + 4) (h + bytesIn E + 4) (h + bytesIn E) _ refl at-end
-              (rw tested (stands-first off body-stands)) (omega (arith, bytes, p .room)),
-        )
-        (rw (
-          end-place,
-          all,
-          ap (λ c. c .out) (fill-then off (h + bytesIn E + 4) B (J ∷ []) (sets o h (encode off E))),
-          gap-fills off h E cj (back + 1) test (B ++ J ∷ []) o,
-        ))
+    unfolding stmtInto code need
+    while-code j h t c a p o =
+        rw (t .value)
+        (tested-code (λ x. h) (λ i c. written i c) j j h [] o c a (p .laid) (omega (arith, p .few)) (p .stands) (p .room)
+        (λ k o q r. (stands-first off (p .stands), ap (written _) (sym (fill-none off k o)))))
 
     if-parts : {k i n : ℕ} {ps : Pairs} (j over h : ℕ) → over ≡ j + sizePairs ps → PairsAt s d sc k i ps n → LaidPairs workspace w ps
         → pairNeed ps ≤ 4096 → Stands off j h (codePairs word w j over ps) → Room h (codePairs word w j over ps) → (o : List ℕ)
         → ifInto k d w vs (λ i c. stmtInto d (scopeOf w sc) vs cs s i c) s i (at h o)
         ≡ written n (filled off h (codePairs word w j over ps) o)
-    unfolding ifInto codePairs pairNeed sizePairs functionCode bytesIn prefixesOf
+    unfolding ifInto codePairs pairNeed sizePairs
     if-parts j over h is noPairAt laid few p r o = ap (written _) (sym (fill-none off h o))
-    if-parts j over h is (pairAt {e = e} {b = b} {ps = ps} c a g) laid few p r o =
-        let E = wholeCode word w e in
-        let test = j + wholeSize e in
-        let leave = test + 1 + size b in
-        let B = code word w (test + 1) b in
-        let P = codePairs word w (leave + 1) over ps in
-        let T = distance cj (leave + 1) test in
-        let J = distance I.j over leave in
-        let long : length E ≡ wholeSize e = expr-length word w (e .expr) in
-        let size-is : length B ≡ size b = code-length word w (test + 1) b in
-        let rest-is : length P ≡ sizePairs ps = pairs-length word w (leave + 1) over ps in
-        let sides = stands-both off (E ++ T ∷ B) p in
-        let bytes : bytesIn (E ++ T ∷ B ++ J ∷ P) ≡ bytesIn E + 4 + bytesIn B + 4 + bytesIn P =
-        bytes-append (E ++ T ∷ B) (J ∷ P) ∙ omega (arith, bytes-append E (T ∷ B)) in
-        let begin : low (h + bytesIn E + 4) ≡ h + bytesIn E + 4 = mod-eq-of-lt (omega (arith, bytes, r)) in
-        let next : low (h + bytesIn E + 4 + bytesIn B + 4) ≡ h + bytesIn E + 4 + bytesIn B + 4 = mod-eq-of-lt (omega (arith, bytes, r)) in
-        let body-index : suc (j + length E) ≡ test + 1 = omega (arith, long) in
-        let body-stands : Stands off (test + 1) (h + bytesIn E + 4) B =
-        rw body-index at (stands-next off (stands-both off E (sides .0) .1)) in
-        let rest-index : suc (j + length (E ++ T ∷ B)) ≡ leave + 1 = omega (arith, length-append E (T ∷ B), long, size-is) in
-        let rest-place : h + bytesIn (E ++ T ∷ B) + 4 ≡ h + bytesIn E + 4 + bytesIn B + 4 = omega (arith, bytes-append E (T ∷ B)) in
-        let rest-stands : Stands off (leave + 1) (h + bytesIn E + 4 + bytesIn B + 4) P =
-        rw (rest-index, rest-place) at (stands-next off (sides .1)) in
-        let end-index : leave + 1 + length P ≡ over = omega (arith, is, rest-is) in
-        let at-end : off over ≡ h + bytesIn E + 4 + bytesIn B + 4 + bytesIn P = rw end-index at (stands-last off P rest-stands) in
-        let left : suc leave ≡ leave + 1 = omega arith in
-        let tested : suc test ≡ test + 1 = omega arith in
-        let all : E ++ T ∷ B ++ J ∷ P ≡ E ++ T ∷ (B ++ J ∷ P) = append-assoc E (T ∷ B) (J ∷ P) in
-        let end-place : h + bytesIn (E ++ T ∷ B ++ J ∷ P) ≡ h + bytesIn E + 4 + bytesIn B + 4 + bytesIn P = omega (arith, bytes) in
-        rw (
-          expr-code word off s (scope .variables) w (c .expr) h o (omega (arith, bytes, r)),
-          begin,
-          inner .compiles w (test + 1) (h + bytesIn E + 4) a (inner-scope scope)
-              (record { laid = laid .0; low = fits; few = omega (arith, few); stands = body-stands; room = omega (arith, bytes, r) })
-              (sets o h (encode off E)),
-          next,
-          if-parts (leave + 1) over (h + bytesIn E + 4 + bytesIn B + 4) (omega (arith, is)) g (laid .1) (omega (arith, few)) rest-stands
-              (omega (arith, bytes, r)) (sets (sets o h (encode off E)) (h + bytesIn E + 4) (encode off B)),
-          distance-fills off I.j 0 over leave _ (h + bytesIn E + 4 + bytesIn B + 4) (h + bytesIn E + 4 + bytesIn B) _ refl at-end
-              (rw left (stands-first off rest-stands)) (omega (arith, bytes, r)),
-          distance-fills off cj 0xa0 (leave + 1) test _ (h + bytesIn E + 4) (h + bytesIn E) _ refl (stands-first off rest-stands)
-              (rw tested (stands-first off body-stands)) (omega (arith, bytes, r)),
-          end-place,
-          all,
-          gap-fills off (h + bytesIn E + 4) B I.j over leave P (sets o h (encode off E)),
-          gap-fills off h E cj (leave + 1) test (B ++ J ∷ P) o,
-        )
-        refl
+    if-parts j over h is (pairAt {k = k} {e = e} {b = b} {ps = ps} c a g) laid few p r o =
+        let next = leaves j e b + 1 in
+        let P = codePairs word w next over ps in
+        let end : next + length P ≡ over = omega (arith, is, pairs-length word w next over ps) in
+        tested-code (λ x. x) (λ i c. ifInto k d w vs (λ i c. stmtInto d (scopeOf w sc) vs cs s i c) s i c) j over h P o c a (laid .0)
+        (omega arith) p r
+        (λ h o p r. (rw end at (stands-last off P p), if-parts next over h (omega (arith, is)) g (laid .1) (omega arith) p r o))
 
     pub if-code : {i n m q k : ℕ} {ps : Pairs} (j h : ℕ) → NumeralAt s i 9 n → CountAt s 0 32 n k m → PairsAt s d sc k m ps q
         → Placed word workspace off s w j h (IF ps) → Written word workspace off s (suc d) sc vs cs w j h i q (IF ps)

@@ -23,12 +23,11 @@ use Rattle.emitter.specs.Exprs.{written}
 use Rattle.compiler.specs.Stmts.{startsEnd, startInto, branchesInto, headerInto, parInto}
 use Rattle.compiler.specs.Alts.{stmtInto, innerAt}
 use Rattle.compiler.proofs.Spelled.{NumeralAt, CountAt, StmtAt, StmtsAt, noStmtAt, stmtsAt}
-use Rattle.compiler.proofs.Fills.{bytes-append, filled, fill-then, fill-before, fill-none, Room, room-left, room-right}
-use Rattle.compiler.proofs.Fills.{emits-fills, emits-at, distance-fills, Stands, stands-first, stands-next, stands-both, stands-last}
-use Rattle.compiler.proofs.Fills.{gap-fills, areas-fill, no-bytes, no-code, distance-bytes}
+use Rattle.compiler.proofs.Fills.{bytes-append, filled, fill-then, fill-before, fill-none, Room, room-left, room-right, emits-fills}
+use Rattle.compiler.proofs.Fills.{emits-at, distance-fills, Stands, stands-first, stands-next, stands-both, stands-last, gap-fills}
+use Rattle.compiler.proofs.Fills.{areas-fill, no-bytes, no-code, distance-bytes}
 use Rattle.compiler.proofs.ExtentIs.{extent-is}
-use Rattle.compiler.proofs.Compiles.{scopeOf, Scoped, Placed, Written, Compiles}
-use Rattle.compiler.proofs.Flows.{inner-scope}
+use Rattle.compiler.proofs.Compiles.{scopeOf, Scoped, inner-scope, Placed, Written, Compiles}
 
 module _ (word : Site → ℕ) (workspace : ℕ → ℕ) (off : ℕ → ℕ) (s : List ℕ) where
   -- the start of a branch: LDC start, LDLP -d, STARTP
@@ -70,7 +69,7 @@ module _ (word : Site → ℕ) (workspace : ℕ → ℕ) (off : ℕ → ℕ) (s 
       (rw (fill-before off st (distance ldc b (j + 2) ∷ []) two o)
       (ap (λ x. at x (sets o st (encode off (start d j b)))) (omega arith)))
 
-  module _ {d : ℕ} {sc : M.Scope} {vs cs : List ℕ} (w : ℕ) (fits : w ≤ 4096) (scope : Scoped word workspace off s (suc d) sc vs cs)
+  module _ {d : ℕ} {sc : M.Scope} {vs cs : List ℕ} (w : ℕ) (fits : w ≤ 4096) (scope : Scoped word (suc d) sc vs cs)
       (inner : Compiles word workspace off s d) where
     -- a branch m words below: its code, LDLP m, ENDP
     abbrev branch : (m j : ℕ) → Stmt → List Instruction
@@ -80,7 +79,7 @@ module _ (word : Site → ℕ) (workspace : ℕ → ℕ) (off : ℕ → ℕ) (s 
         → Stands off j h (branch m j b) → Room h (branch m j b) → Written word workspace off s d sc vs cs (w - m) j h i n b
     body-written {b = b} m j h a laid few p r =
         let B = code word (w - m) j b in
-        inner .compiles (w - m) j h a (inner-scope word workspace off s scope)
+        inner .compiles (w - m) j h a (inner-scope scope)
         (record { laid = laid; low = omega arith; few = few; stands = stands-both off B p .0; room = room-left h B _ r })
 
     -- the starts and the branches, from the second on
@@ -125,7 +124,7 @@ module _ (word : Site → ℕ) (workspace : ℕ → ℕ) (off : ℕ → ℕ) (s 
         (let place : h + bytesIn (B ++ B2) ≡ h + bytesIn B + bytesIn B2 = omega (arith, bodies) in
         rw (place, areas-fill off st S S2 h B B2 o (omega (arith, starts, l))))
 
-  module _ {d : ℕ} {sc : M.Scope} {vs cs : List ℕ} (w : ℕ) (fits : w ≤ 4096) (scope : Scoped word workspace off s (suc d) sc vs cs)
+  module _ {d : ℕ} {sc : M.Scope} {vs cs : List ℕ} (w : ℕ) (fits : w ≤ 4096) (scope : Scoped word (suc d) sc vs cs)
       (inner : Compiles word workspace off s d) where
     branches-code : {k i m n : ℕ} {b : Stmt} {ss : Stmts} (j h : ℕ) (o : List ℕ) → StmtAt s d sc i b m → StmtsAt s d sc k m ss n
         → howMany ss ≡ k → LaidBranches workspace (w - 2) (stmt b ss) → 2 + sumNeed (stmt b ss) ≤ 4096
@@ -191,7 +190,7 @@ module _ (word : Site → ℕ) (workspace : ℕ → ℕ) (off : ℕ → ℕ) (s 
           one-less,
           starts-end (need b) (j + 6) (first + size b + 2) hs c (omega arith) (omega (arith, bytes, r2)),
           zero-less,
-          inner .compiles (w - 2) first hc a (inner-scope word workspace off s scope)
+          inner .compiles (w - 2) first hc a (inner-scope scope)
               (record {
                 laid = laid .0;
                 low = omega arith;

@@ -16,7 +16,7 @@ use Rattle.compiler.proofs.Choices.{alt-code}
 module _ (word : Site → ℕ) (workspace : ℕ → ℕ) (off : ℕ → ℕ) (s : List ℕ)
     (declared-is : (p j : ℕ) → word (declared p j) ≡ workspace p + j) where
   by-kind : {d : ℕ} {sc : M.Scope} {i n : ℕ} {b : Stmt} {vs cs : List ℕ} (w j h : ℕ) → Compiles word workspace off s d
-      → StmtAt s (suc d) sc i b n → Scoped word workspace off s (suc d) sc vs cs → Placed word workspace off s w j h b
+      → StmtAt s (suc d) sc i b n → Scoped word (suc d) sc vs cs → Placed word workspace off s w j h b
       → Written word workspace off s (suc d) sc vs cs w j h i n b
   by-kind w j h inner (skipAt k) q p = skip-code word workspace off s w j h q k p
   by-kind w j h inner (stopAt k) q p = stop-code word workspace off s w j h q k p

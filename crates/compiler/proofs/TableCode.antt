@@ -3,7 +3,7 @@ use Prim.Native.Nat.{ℕ, suc, _+_, _-_, _≤_, _<_}
 use native.Mathlib.Omega.{arith}
 use native.Mathlib.Nat.{mod-eq-of-lt}
 use mathlib.Core.Path.{_≡_, refl, ap, _∙_}
-use mathlib.Core.Logic.{_⊎_, ⊎-elim}
+use mathlib.Core.Logic.{⊎-elim}
 use mathlib.Core.List.{List, [], _∷_, _++_, append-assoc}
 use mathlib.Core.Option.{some}
 use lib.ListN.{length, length-append, length-replicate, replicate, getD, getElem?}
@@ -65,15 +65,19 @@ spelt (parses p n h) = h
 accepted-spelt : (s : List ℕ) (p : Program) → Bytes s → readTable s ≡ program p → ProgramAt s p (length s)
 accepted-spelt s p b e = spelt (rw (read-whole s p e .reads) at (program-spelled s b))
 
--- the words of the outside channels
+-- the outside channels, and their words
+outside-long : (p : Program) → length (outermost p .channels) ≡ p .inputs + p .outputs
+outside-long p =
+    length-append (numbered inputOf (p .inputs)) (numbered outputOf (p .outputs))
+    ∙ rw (length-numbered inputOf (p .inputs), length-numbered outputOf (p .outputs)) refl
+
 outside-named : (p : Program) (ws : List ℕ) → p .inputs ≤ 8 → p .outputs ≤ 8 → base p ≤ 4096 → length ws ≡ 1024
-    → Named (wordOf p) (outermost p .channels) (declaredWords (p .inputs + p .outputs) 0 (base p) ws)
+    → Named (wordOf p) 32 (outermost p .channels) (declaredWords (p .inputs + p .outputs) 0 (base p) ws)
 unfolding wordOf
 outside-named p ws hi ho hw long =
     let ins = numbered inputOf (p .inputs) in
     let outs = numbered outputOf (p .outputs) in
-    let many : length (ins ++ outs) ≡ p .inputs + p .outputs =
-    length-append ins outs ∙ rw (length-numbered inputOf (p .inputs), length-numbered outputOf (p .outputs)) refl in
+    let many = outside-long p in
     let value : (k : ℕ) → k < p .inputs + p .outputs → getD (declaredWords (p .inputs + p .outputs) 0 (base p) ws) k 0 ≡ base p + k =
     λ k l. let here : 0 + k ≡ k = omega arith in
     rw here at (words-new (p .inputs + p .outputs) 0 (base p) k ws l (omega (arith, long)) (omega arith) (omega arith)) in
@@ -86,6 +90,8 @@ outside-named p ws hi ho hw long =
           rw (numbered-at outputOf (p .outputs) (k - length ins) x (g .1) .0)
           (omega (arith, g .0, length-numbered inputOf (p .inputs))))
           (lookup-append ins outs k x e);
+      long = words-long (p .inputs + p .outputs) 0 (base p) ws ∙ long;
+      few = omega arith;
     }
 
 -- `placeOf` gives each instruction of a list its place
@@ -119,19 +125,12 @@ body-code : (s : List ℕ) (p : Program) → ReadWhole s p → (q : ProgramAt s 
 unfolding scheme wordOf bytesIn
 body-code s p whole q few none long o =
     let workspace : ℕ → ℕ = λ x. workspaceOf x (layout (base p) (p .body)) in
-    let many : length (outermost p .channels) ≡ p .inputs + p .outputs =
-    length-append (numbered inputOf (p .inputs)) (numbered outputOf (p .outputs))
-    ∙ rw (length-numbered inputOf (p .inputs), length-numbered outputOf (p .outputs)) refl in
     let ws = declaredWords (p .inputs + p .outputs) 0 (base p) none in
-    rw many at
+    rw (outside-long p) at
     (compiles-all (wordOf p) workspace (placeOf (scheme p)) s (λ x j. refl) 32 .compiles {vs = none} {cs = ws} (base p) 0 0 (q .body)
     (record {
-      variables = record { inside = λ k x e. never cc; word-is = λ k x e. never cc };
+      variables = record { inside = λ k x e. never cc; word-is = λ k x e. never cc; long = long; few = omega arith };
       channels = outside-named p none (whole .well .0) (whole .well .1) few long;
-      variables-long = long;
-      channels-long = words-long (p .inputs + p .outputs) 0 (base p) none ∙ long;
-      variables-few = omega arith;
-      channels-few = omega (arith, many, whole .well);
     })
     (record {
       laid = program-laid 0 (length s) (base p) (p .body) (whole .placed);

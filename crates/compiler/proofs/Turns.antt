@@ -15,9 +15,8 @@ use Rattle.emitter.specs.Extents.{extentAt}
 use Rattle.emitter.specs.Simples.{inInto, simpleInto}
 use Rattle.emitter.specs.declared.extent.Extent.{Extent}
 use Rattle.compiler.specs.Stmts.{scoped, initialInto, startsEnd, startInto, headerInto, seqInto, ifInto, branchesInto}
-use Rattle.compiler.specs.Alts.{Guarded, guardInto, Enabling, enableInto, disableInto, choicesInto}
-use Rattle.compiler.specs.Alts.{stmtInto, bodyAt, declarationAt, seqAt, ifAt, whileAt, branchAt, branchesAt, parAt, choiceAt}
-use Rattle.compiler.specs.Alts.{choicesAt, altAt, insideAt}
+use Rattle.compiler.specs.Alts.{Guarded, guardInto, Enabling, enableInto, disableInto, choicesInto, stmtInto, bodyAt, declarationAt}
+use Rattle.compiler.specs.Alts.{seqAt, ifAt, whileAt, branchAt, branchesAt, parAt, choiceAt, choicesAt, altAt, insideAt}
 use Rattle.compiler.specs.declared.stmt.Scope.{Scope}
 use Rattle.compiler.specs.declared.alt.Guard.{Guard}
 

@@ -1,6 +1,6 @@
--- The code of ALT as the generator writes it, and the statements as a whole.
+-- The code of ALT as the generator writes it, and the statements as a whole (01, "Workspace and code").
 use Prim.Native.Nat.{ℕ, zero, suc, _+_, _-_}
-use mathlib.Core.Bool.{Bool, true, false, cond}
+use mathlib.Core.Bool.{true, false, cond}
 use mathlib.Core.List.{List}
 use lib.Dec.{ltb, eqb}
 use Rattle.model.specs.Word.{low, less, minus}
@@ -9,8 +9,7 @@ use Rattle.emitter.specs.Emits.{Code, at, plainInto, distanceInto, operationInt
 use Rattle.emitter.specs.Exprs.{Wrote, written, codeOf, exprInto}
 use Rattle.emitter.specs.Extents.{extentAt, nextOf}
 use Rattle.emitter.specs.Simples.{inInto, simpleInto}
-use Rattle.compiler.specs.Stmts.{Inner, declarationInto, bodyInto, seqInto, ifInto, whileInto, branchInto, branchesInto}
-use Rattle.compiler.specs.Stmts.{parInto}
+use Rattle.compiler.specs.Stmts.{Inner, declarationInto, bodyInto, seqInto, ifInto, whileInto, branchInto, branchesInto, parInto}
 use Rattle.compiler.specs.declared.stmt.Scope.{Scope}
 use Rattle.compiler.specs.declared.alt.Guard.{Guard}
 use Rattle.compiler.specs.declared.alt.Enabled.{Enabled}
@@ -20,10 +19,11 @@ pub record Guarded : Type 0 where
   pub guard : Guard
   pub out : List ℕ
 
+-- the same from what a function answers, and the buffer
 abbrev pub guarded : Guard → List ℕ → Guarded
 guarded g o = record { guard = g; out = o }
 
--- the condition, and for a guard that waits LDLP channel, REV
+-- what enabling and disabling begin with. 01: condition, LDLP channel, REV (a guard that waits), or condition
 unfoldable pub guardInto : (depth w : ℕ) → (vs cs : List ℕ) → List ℕ → (at : ℕ) → Code → Guarded
 guardInto d w vs cs s i c =
     let k = valueAt s i in
@@ -41,10 +41,11 @@ pub record Enabling : Type 0 where
   pub enabled : Enabled
   pub out : List ℕ
 
+-- the same from what a function answers, and the buffer
 abbrev pub enabling : Enabled → List ℕ → Enabling
 enabling e o = record { enabled = e; out = o }
 
--- the enabling: per guard condition, LDLP channel, REV, ENBC, or condition, ENBS; and the bytes of the disabling
+-- 01, per guard: condition, LDLP channel, REV, ENBC, or condition, ENBS. And the bytes of the disabling so far
 unfoldable pub enableInto : (left depth w : ℕ) → (vs cs : List ℕ) → List ℕ → (at disabling : ℕ) → Code → Enabling
 enableInto zero d w vs cs s i n c = enabling (record { next = i; here = c .here; disabling = n }) (c .out)
 enableInto (suc l) d w vs cs s i n c =
@@ -52,18 +53,18 @@ enableInto (suc l) d w vs cs s i n c =
     let e = operationInto (cond (g .guard .waits) 72 73) (at (g .guard .here) (g .out)) in
     enableInto l d w vs cs s (extentAt d s (behindGuard s (g .guard)) .next) (low (n + low (less (g .guard .here) (c .here) + 6))) e
 
--- the rest of a guard's disabling: LDC branch, DISC, or LDC branch, DISS
+-- the rest of a guard's disabling. 01: LDC branch, DISC, or LDC branch, DISS
 unfoldable pub disableInto : Guard → (branch base : ℕ) → List ℕ → Code
 disableInto g branch base o = operationInto (cond (g .waits) 47 48) (distanceInto 0x40 branch base (at (g .here) o))
 
--- a branch: AJW 1, the input if any, statement
+-- 01, per branch: AJW 1, the input if any, statement
 abbrev pub choiceInto : Guard → Inner → Scope → (vs cs : List ℕ) → List ℕ → Code → Wrote
 choiceInto g inner sc vs cs s c =
     let a = plainInto 0xb0 1 c in
     let i = inInto (sc .w) vs cs s (g .next) a in
     cond (g .waits) (inner sc vs cs (i .next) (codeOf i)) (inner sc vs cs (g .next) a)
 
--- the disabling and the branches: each branch ends with J end. `base` is the place after ALTEND
+-- the disabling and the branches. 01: each branch ends with J end. `base` is the place after ALTEND
 unfoldable pub choicesInto : (left depth : ℕ) → Inner → Scope → (vs cs : List ℕ) → List ℕ → (at disable base : ℕ) → Code → Wrote
 choicesInto zero d inner sc vs cs s i dis base c = written i c
 choicesInto (suc l) d inner sc vs cs s i dis base c =
@@ -75,7 +76,7 @@ choicesInto (suc l) d inner sc vs cs s i dis base c =
     let j = distanceInto 0 (r .here) next (at (b .here) (r .out)) in
     record { next = r .next; here = r .here; out = j .out }
 
--- AJW -1, ALT, the enabling, ALTWT, the disabling, ALTEND, the branches
+-- 01, ALT: AJW -1, ALT, the enabling, ALTWT, the disabling, ALTEND, the branches
 abbrev pub altInto : (count depth : ℕ) → Inner → Scope → (vs cs : List ℕ) → List ℕ → (at : ℕ) → Code → Wrote
 altInto n d inner sc vs cs s i c =
     let e = enableInto n d (sc .w - 1) vs cs s i 0 (operationInto 67 (plainInto 0xb0 (minus 1) c)) in
@@ -93,6 +94,7 @@ insideInto k d inner sc vs cs s i c =
     (cond (eqb k 8) (parInto (n .value) d inner sc vs cs s (n .next) c)
     (cond (eqb k 9) (ifInto (n .value) d (sc .w) vs (inner sc vs cs) s (n .next) c) (altInto (n .value) d inner sc vs cs s (n .next) c)))))
 
+-- a statement, by its kind
 unfoldable pub stmtInto : (depth : ℕ) → Scope → (vs cs : List ℕ) → List ℕ → (at : ℕ) → Code → Wrote
 stmtInto zero sc vs cs s i c = written i c
 stmtInto (suc d) sc vs cs s i c =
@@ -100,42 +102,54 @@ stmtInto (suc d) sc vs cs s i c =
     cond (ltb (k .value) 5) (simpleInto (k .value) d (sc .w) vs cs s (k .next) c)
     (insideInto (k .value) d (λ sc vs cs j e. stmtInto d sc vs cs s j e) sc vs cs s (k .next) c)
 
--- the same by its parts
+-- the generator of the statements inside, which have `depth` left; below, each part of a statement over it
 abbrev pub innerAt : (depth : ℕ) → List ℕ → Inner
 innerAt d s sc vs cs i c = stmtInto d sc vs cs s i c
 
+-- the body of a VAR or CHAN of n names
 unfoldable pub bodyAt : (kind n depth : ℕ) → Scope → (vs cs : List ℕ) → List ℕ → (at : ℕ) → Code → Wrote
 bodyAt k n d sc vs cs s i c = bodyInto k n (innerAt d s) sc vs cs i c
 
+-- VAR and CHAN
 unfoldable pub declarationAt : (kind depth : ℕ) → Scope → (vs cs : List ℕ) → List ℕ → (at : ℕ) → Code → Wrote
 declarationAt k d sc vs cs s i c = declarationInto k (innerAt d s) sc vs cs s i c
 
+-- SEQ: so many parts
 unfoldable pub seqAt : (left depth : ℕ) → Scope → (vs cs : List ℕ) → List ℕ → (at : ℕ) → Code → Wrote
 seqAt n d sc vs cs s i c = seqInto n (innerAt d s sc vs cs) i c
 
+-- IF: so many pairs
 unfoldable pub ifAt : (left depth : ℕ) → Scope → (vs cs : List ℕ) → List ℕ → (at : ℕ) → Code → Wrote
 ifAt n d sc vs cs s i c = ifInto n d (sc .w) vs (innerAt d s sc vs cs) s i c
 
+-- WHILE
 unfoldable pub whileAt : (depth : ℕ) → Scope → (vs cs : List ℕ) → List ℕ → (at : ℕ) → Code → Wrote
 whileAt d sc vs cs s i c = whileInto d (sc .w) vs (innerAt d s sc vs cs) s i c
 
+-- a branch of a PAR, d words below
 unfoldable pub branchAt : (d depth : ℕ) → Scope → (vs cs : List ℕ) → List ℕ → (at : ℕ) → Code → Wrote
 branchAt b d sc vs cs s i c = branchInto b (innerAt d s) sc vs cs i c
 
+-- so many branches of a PAR
 unfoldable pub branchesAt : (left depth : ℕ) → Scope → (vs cs : List ℕ) → List ℕ → (at d start : ℕ) → Code → Wrote
 branchesAt n d sc vs cs s i b start c = branchesInto n d (innerAt d s) sc vs cs s i b start c
 
+-- PAR
 unfoldable pub parAt : (count depth : ℕ) → Scope → (vs cs : List ℕ) → List ℕ → (at : ℕ) → Code → Wrote
 parAt n d sc vs cs s i c = parInto n d (innerAt d s) sc vs cs s i c
 
+-- a branch of an ALT
 unfoldable pub choiceAt : Guard → (depth : ℕ) → Scope → (vs cs : List ℕ) → List ℕ → Code → Wrote
 choiceAt g d sc vs cs s c = choiceInto g (innerAt d s) sc vs cs s c
 
+-- the disabling and the branches of an ALT
 unfoldable pub choicesAt : (left depth : ℕ) → Scope → (vs cs : List ℕ) → List ℕ → (at disable base : ℕ) → Code → Wrote
 choicesAt n d sc vs cs s i dis base c = choicesInto n d (innerAt d s) sc vs cs s i dis base c
 
+-- ALT
 unfoldable pub altAt : (count depth : ℕ) → Scope → (vs cs : List ℕ) → List ℕ → (at : ℕ) → Code → Wrote
 altAt n d sc vs cs s i c = altInto n d (innerAt d s) sc vs cs s i c
 
+-- what follows the kinds 5 to 11
 unfoldable pub insideAt : (kind depth : ℕ) → Scope → (vs cs : List ℕ) → List ℕ → (at : ℕ) → Code → Wrote
 insideAt k d sc vs cs s i c = insideInto k d (innerAt d s) sc vs cs s i c

@@ -1,4 +1,4 @@
--- The code of an accepted table as the generator writes it.
+-- The code of an accepted table as the generator writes it (01, "Workspace and code").
 use Prim.Native.Nat.{ℕ, _+_}
 use mathlib.Core.List.{List, [], _∷_}
 use lib.ListN.{replicate}
@@ -10,7 +10,7 @@ use Rattle.emitter.specs.Extents.{nextOf}
 use Rattle.compiler.specs.Stmts.{scoped}
 use Rattle.compiler.specs.Alts.{stmtInto}
 
--- the code into a buffer, and its size
+-- the code into a buffer, and its size. 01: W = the need; outside channel k is word W + k
 unfoldable pub tableInto : List ℕ → Facts → (out : List ℕ) → Code
 tableInto s f o =
     let outside = low (f .inputs + f .outputs) in

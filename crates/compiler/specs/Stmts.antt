@@ -1,8 +1,8 @@
--- The code of statements as the generator writes it, by places of the table.
+-- The code of statements as the generator writes it, by places of the table (01, "Workspace and code").
 use Prim.Native.Nat.{ℕ, zero, suc, _+_, _-_}
-use mathlib.Core.Bool.{Bool, true, false, cond}
+use mathlib.Core.Bool.{cond}
 use mathlib.Core.List.{List}
-use lib.Dec.{ltb, eqb}
+use lib.Dec.{eqb}
 use Rattle.model.specs.Word.{low, minus}
 use Rattle.model.specs.Prefix.{fewest}
 use Rattle.numbers.specs.Items.{valueAt}
@@ -11,11 +11,11 @@ use Rattle.emitter.specs.Exprs.{Wrote, written, codeOf, exprInto}
 use Rattle.emitter.specs.Extents.{extentAt}
 use Rattle.compiler.specs.declared.stmt.Scope.{Scope}
 
--- LDC 0 (VAR) or MINT (CHAN)
+-- what a declared word starts as. 01: VAR LDC 0, CHAN the same with MINT
 unfoldable pub firstInto : (kind : ℕ) → Code → Code
 firstInto k c = cond (eqb k 5) (plainInto 0x40 0 c) (operationInto 66 c)
 
--- and STL j, for so many j from one on
+-- so many words from the j-th on. 01: then STL j
 unfoldable pub initialInto : (left kind j : ℕ) → Code → Code
 initialInto zero k j c = c
 initialInto (suc n) k j c = initialInto n k (low (j + 1)) (plainInto 0xd0 j (firstInto k c))
@@ -24,9 +24,11 @@ initialInto (suc n) k j c = initialInto n k (low (j + 1)) (plainInto 0xd0 j (fir
 abbrev pub Inner : Type 0
 Inner = Scope → (vs cs : List ℕ) → ℕ → Code → Wrote
 
+-- the workspace, and how many variables and channels are in scope
 abbrev pub scoped : (w variables channels : ℕ) → Scope
 scoped w v c = record { w = w; variables = v; channels = c }
 
+-- the same n words below
 abbrev pub lowered : ℕ → Scope → Scope
 lowered n sc = scoped (sc .w - n) (sc .variables) (sc .channels)
 
@@ -37,7 +39,7 @@ bodyInto k n inner sc vs cs at c =
     cond (eqb k 5) (inner (scoped w (low (sc .variables + n)) (sc .channels)) (declaredWords n (sc .variables) w vs) cs at c)
     (inner (scoped w (sc .variables) (low (sc .channels + n))) vs (declaredWords n (sc .channels) w cs) at c)
 
--- VAR and CHAN: AJW -n, the words, body, AJW n
+-- 01, VAR and CHAN: AJW -n, the words, body, AJW n
 abbrev pub declarationInto : (kind : ℕ) → Inner → Scope → (vs cs : List ℕ) → List ℕ → (at : ℕ) → Code → Wrote
 declarationInto k inner sc vs cs s at c =
     let n = valueAt s at in
@@ -49,7 +51,7 @@ unfoldable pub seqInto : (left : ℕ) → (ℕ → Code → Wrote) → (at : ℕ
 seqInto zero inner at c = written at c
 seqInto (suc i) inner at c = let p = inner at c in seqInto i inner (p .next) (codeOf p)
 
--- IF, for each pair: condition, CJ next, statement, J end; the last pair too
+-- 01, IF, per pair: condition, CJ next, statement, J end; the last pair too
 unfoldable pub ifInto : (left depth w : ℕ) → List ℕ → (ℕ → Code → Wrote) → List ℕ → (at : ℕ) → Code → Wrote
 ifInto zero d w vs inner s i c = written i c
 ifInto (suc n) d w vs inner s i c =
@@ -62,7 +64,7 @@ ifInto (suc n) d w vs inner s i c =
     let cj = distanceInto 0xa0 next begin (at (t .here) (j .out)) in
     record { next = r .next; here = r .here; out = cj .out }
 
--- WHILE: condition, CJ end, body, J start
+-- 01, WHILE: condition, CJ end, body, J start
 abbrev pub whileInto : (depth w : ℕ) → List ℕ → (ℕ → Code → Wrote) → List ℕ → (at : ℕ) → Code → Wrote
 whileInto d w vs inner s i c =
     let t = exprInto d w vs s i c in
@@ -80,14 +82,14 @@ startsEnd (suc n) dp s i d h =
     let e = extentAt dp s i in
     startsEnd n dp s (e .next) (low (d + e .need)) (low (h + (fewest (minus d) + 6)))
 
--- LDC start, LDLP -d, STARTP
+-- 01, for each branch from the second: LDC start, LDLP -d, STARTP
 unfoldable pub startInto : (d start : ℕ) → Code → Code
 startInto d start c =
     let e = operationInto 13 (plainInto 0x10 (minus d) (at (low (c .here + 4)) (c .out))) in
     let f = distanceInto 0x40 start (e .here) (at (c .here) (e .out)) in
     at (e .here) (f .out)
 
--- a branch d words below: its code, LDLP d, ENDP
+-- a branch d words below. 01: its code, LDLP d, ENDP
 abbrev pub branchInto : (d : ℕ) → Inner → Scope → (vs cs : List ℕ) → (at : ℕ) → Code → Wrote
 branchInto d inner sc vs cs i c =
     let b = inner (lowered d sc) vs cs i c in
@@ -101,11 +103,11 @@ branchesInto (suc n) dp inner sc vs cs s i d start c =
     let b = branchInto d inner sc vs cs i (at (c .here) (st .out)) in
     branchesInto n dp inner sc vs cs s (b .next) (low (d + extentAt dp s i .need)) (st .here) (codeOf b)
 
--- STL 0, LDC count, STL 1
+-- what follows LDPI. 01: STL 0; LDC count, STL 1
 unfoldable pub headerInto : (count : ℕ) → Code → Code
 headerInto n c = plainInto 0xd0 1 (plainInto 0x40 n (plainInto 0xd0 0 c))
 
--- PAR with branches: AJW -2; LDC end, LDPI, STL 0; LDC count, STL 1; the starts; the branches; AJW 2. PAR of none: no code
+-- 01, PAR with branches: AJW -2; LDC end, LDPI, STL 0; LDC count, STL 1; the starts; the branches; AJW 2. PAR of none: no code
 abbrev pub parInto : (count depth : ℕ) → Inner → Scope → (vs cs : List ℕ) → List ℕ → (at : ℕ) → Code → Wrote
 parInto n dp inner sc vs cs s i c =
     let a = plainInto 0xb0 (minus 2) c in

@@ -1,15 +1,17 @@
--- The place after a part, and the words that a statement needs, by places of the table.
+-- The place after a part, and the words that a statement needs, by places of the table (01, "Workspace and code").
 use Prim.Native.Nat.{ℕ, zero, suc, _+_, max}
-use mathlib.Core.Bool.{Bool, true, false, cond}
+use mathlib.Core.Bool.{cond}
 use mathlib.Core.List.{List}
 use lib.Dec.{ltb, eqb}
 use Rattle.model.specs.Word.{low}
 use Rattle.numbers.specs.Items.{valueAt}
 use Rattle.emitter.specs.declared.extent.Extent.{Extent}
 
+-- the place after a number
 abbrev pub nextOf : List ℕ → ℕ → ℕ
 nextOf s at = valueAt s at .next
 
+-- the place after a statement, and the words that it needs
 abbrev pub extended : (next need : ℕ) → Extent
 extended n d = record { next = n; need = d }
 
@@ -21,7 +23,7 @@ skipExpr (suc d) s at =
     cond (ltb (k .value) 2) (nextOf s (k .next))
     (cond (eqb (k .value) 2) (skipExpr d s (k .next)) (skipExpr d s (skipExpr d s (nextOf s (k .next)))))
 
--- what follows the kinds 0 to 4
+-- what follows the kinds 0 to 4. 01: SKIP, STOP, assignment 2; input 3; output 4
 unfoldable pub simpleExtent : (kind depth : ℕ) → List ℕ → (at : ℕ) → Extent
 simpleExtent k d s at =
     cond (ltb k 2) (extended at 2)
@@ -38,7 +40,7 @@ skipGuard d s at =
 unfoldable pub skipHead : (kind depth : ℕ) → List ℕ → (at : ℕ) → ℕ
 skipHead k d s at = cond (ltb k 9) at (cond (ltb k 11) (skipExpr d s at) (skipGuard d s at))
 
--- what is needed with one more part: in a PAR the sum, else the most
+-- what is needed with one more part. 01: PAR the sum of branches; SEQ, IF, WHILE, ALT the most of the parts
 abbrev pub joined : (kind before part : ℕ) → ℕ
 joined k n m = cond (eqb k 8) (low (n + m)) (max n m)
 
@@ -49,7 +51,8 @@ partsFrom (suc i) k d inner s at n =
     let e = inner (skipHead k d s at) in
     partsFrom i k d inner s (e .next) (joined k n (e .need))
 
--- what follows the kinds 5 to 11
+-- what follows the kinds 5 to 11, with what measures the statements inside. 01: VAR or CHAN count + body; SEQ, IF, WHILE at least 2;
+-- ALT at least 4; PAR 2 + the sum of branches
 abbrev pub insideFrom : (kind depth : ℕ) → (ℕ → Extent) → List ℕ → (at : ℕ) → Extent
 insideFrom k d inner s at =
     let c = valueAt s at in
@@ -57,15 +60,17 @@ insideFrom k d inner s at =
     (cond (ltb k 7) (let e = inner (c .next) in extended (e .next) (low (c .value + e .need)))
     (partsFrom (c .value) k d inner s (c .next) (cond (eqb k 11) 4 2)))
 
+-- a statement, by its kind; below, what its kinds have in common, where `depth` is left inside
 unfoldable pub extentAt : (depth : ℕ) → List ℕ → (at : ℕ) → Extent
 extentAt zero s at = extended at 2
 extentAt (suc d) s at =
     let k = valueAt s at in
     cond (ltb (k .value) 5) (simpleExtent (k .value) d s (k .next)) (insideFrom (k .value) d (λ i. extentAt d s i) s (k .next))
 
--- the same by its parts
+-- so many parts, behind some that need so many words
 unfoldable pub partsExtent : (left kind depth : ℕ) → List ℕ → (at need : ℕ) → Extent
 partsExtent i k d s at n = partsFrom i k d (λ j. extentAt d s j) s at n
 
+-- what follows the kinds 5 to 11
 unfoldable pub insideExtent : (kind depth : ℕ) → List ℕ → (at : ℕ) → Extent
 insideExtent k d s at = insideFrom k d (λ j. extentAt d s j) s at

@@ -1,4 +1,4 @@
--- The code of statements without statements inside as the emitter writes it, by places of the table.
+-- The code of statements without statements inside as the emitter writes it, by places of the table (01, "Workspace and code").
 use Prim.Native.Nat.{ℕ}
 use mathlib.Core.Bool.{cond}
 use mathlib.Core.List.{List}
@@ -8,34 +8,36 @@ use Rattle.numbers.specs.Items.{valueAt}
 use Rattle.emitter.specs.Emits.{Code, plainInto, operationInto, localOf}
 use Rattle.emitter.specs.Exprs.{Wrote, written, codeOf, exprInto}
 
--- LDLP variable, LDLP channel, LDC 4, IN
+-- 01, input: LDLP variable, LDLP channel, LDC 4, IN
 unfoldable pub inputInto : (channel variable : ℕ) → Code → Code
 inputInto ch x c = operationInto 7 (plainInto 0x40 4 (plainInto 0x10 ch (plainInto 0x10 x c)))
 
--- LDLP channel, REV, AJW -1, OUTWORD, AJW 1, behind the value
+-- 01, output, behind the value: LDLP channel, REV, AJW -1, OUTWORD, AJW 1
 unfoldable pub outputInto : (channel : ℕ) → Code → Code
 outputInto ch c = plainInto 0xb0 1 (operationInto 15 (plainInto 0xb0 (minus 1) (operationInto 0 (plainInto 0x10 ch c))))
 
--- assignment: value, STL
+-- 01, assign: value, STL
 unfoldable pub assignInto : (depth w : ℕ) → List ℕ → List ℕ → (at : ℕ) → Code → Wrote
 assignInto d w vs s at c =
     let x = valueAt s at in
     let e = exprInto d w vs s (x .next) c in
     written (e .next) (plainInto 0xd0 (localOf vs (x .value) w) (codeOf e))
 
+-- an input: channel and variable of the table
 unfoldable pub inInto : (w : ℕ) → (vs cs : List ℕ) → List ℕ → (at : ℕ) → Code → Wrote
 inInto w vs cs s at c =
     let ch = valueAt s at in
     let x = valueAt s (ch .next) in
     written (x .next) (inputInto (localOf cs (ch .value) w) (localOf vs (x .value) w) c)
 
+-- an output: channel and value of the table
 unfoldable pub outInto : (depth w : ℕ) → (vs cs : List ℕ) → List ℕ → (at : ℕ) → Code → Wrote
 outInto d w vs cs s at c =
     let ch = valueAt s at in
     let e = exprInto d w vs s (ch .next) c in
     written (e .next) (outputInto (localOf cs (ch .value) w) (codeOf e))
 
--- kinds 0 to 4
+-- kinds 0 to 4: SKIP has no code. 01: STOP is STOPP
 unfoldable pub simpleInto : (kind depth w : ℕ) → (vs cs : List ℕ) → List ℕ → (at : ℕ) → Code → Wrote
 simpleInto k d w vs cs s at c =
     cond (eqb k 0) (written at c)

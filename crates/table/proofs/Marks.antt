@@ -15,8 +15,8 @@ use Rattle.model.proofs.Cases.{by-bool, by-option, never}
 use Rattle.model.specs.Syntax.{Site}
 use Rattle.model.specs.Usage.{Usage, nothing, _⊕_, changing, same, isIn}
 use Rattle.model.proofs.Sites.{same-eq}
-use Rattle.numbers.specs.Items.{groupsAt, grouped}
-use Rattle.table.specs.Uses.{Used, skipAt, markAt, nameUsed, variableUsed}
+use Rattle.numbers.specs.Items.{groupsAt, grouped, valueAt}
+use Rattle.table.specs.Uses.{Used, markAt, nameUsed, variableUsed}
 use Rattle.numbers.specs.declared.Item.{Item}
 use Rattle.numbers.specs.declared.NumberRead.{NumberRead}
 use Rattle.numbers.specs.declared.NumberRead.the-variants.{Number, Bad}
@@ -319,8 +319,8 @@ variable-used {vs = vs} {cs} {inner} {l = l} {x} t fresh h =
     rw (number-in (t .there) h) (record { next = refl; marks = marked-both first second })
 
 pub skip-used : {s : List ℕ} {vs cs : List Site} {at v n from to : ℕ} {l : List ℕ} → NumberAt s at v n → Stretch s vs cs at n from to l
-    → skipAt (slice from to s) (at - from) ≡ n - from
-unfolding skipAt
+    → valueAt (slice from to s) (at - from) .next ≡ n - from
+unfolding valueAt
 skip-used t h = rw (number-in t h) refl
 
 -- a name in scope, by its number

@@ -16,13 +16,13 @@ use Rattle.model.specs.Reader.{stmtOf, isVar, isChan}
 use Rattle.model.specs.Usage.{Usage, usage, firstClash}
 use Rattle.model.specs.Counts.{firstDeep, processes, need}
 use Rattle.table.specs.Stmts.{Fits, stmtAt, declaring, moreNames}
-use Rattle.table.specs.Uses.{skipAt, stmtUsed}
+use Rattle.table.specs.Uses.{stmtUsed}
 use Rattle.table.specs.declared.stmt.Names.{Names}
 use Rattle.table.specs.declared.stmt.StmtRead.the-variants.{Stmt, Refused as NoStmt}
 use Rattle.table.proofs.SameItems.{Bytes, Same, gives, onwards, count-same}
 use Rattle.table.proofs.Marks.{Field, changed, used-there, inputs-of, outputs-of, names-of, Stretch, later, skip-used}
 use Rattle.table.proofs.Marks.{InScope}
-use Rattle.numbers.specs.Items.{betweenAt, withItem}
+use Rattle.numbers.specs.Items.{betweenAt, valueAt, withItem}
 use Rattle.table.proofs.SameExpr.{Way}
 use Rattle.table.proofs.SameSimple.{partOf, DeclaredIn, Within, Scoped, Outer, RestIs, StmtIs, fresh-more, own-more, below-more}
 use Rattle.table.proofs.SameSimple.{below-later, lookup-append, numbered-at, length-numbered, declared-wider}
@@ -33,7 +33,7 @@ InnerIs s d = (w : Names) (sc : Scope) (i : ℕ) → Scoped w sc i → Fits w d 
     (readStmt d sc i (drop i s))
 
 abbrev pub declaredWay : (d : ℕ) → Way
-declaredWay d vs cs part i l = stmtUsed d (length vs) (length cs) part (skipAt part i) l
+declaredWay d vs cs part i l = stmtUsed d (length vs) (length cs) part (valueAt part i .next) l
 
 variables-in : (w : Names) (sc : Scope) (place c m : ℕ) → Scoped w sc place → place < m
     → Scoped (moreNames 5 c w) (withVariables place c sc) m

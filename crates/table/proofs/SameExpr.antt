@@ -15,9 +15,9 @@ use Rattle.model.specs.Reader.{operators, exprOf, readExpr}
 use Rattle.model.specs.Usage.{Usage, isIn, reads}
 use Rattle.model.proofs.Cases.{never}
 use Rattle.model.specs.Counts.{registers}
-use Rattle.numbers.specs.Items.{betweenAt, nameAt, withItem}
+use Rattle.numbers.specs.Items.{betweenAt, nameAt, valueAt, withItem}
 use Rattle.table.specs.Exprs.{withExpr, leafAt, joined, sides, exprAt}
-use Rattle.table.specs.Uses.{Used, used, skipAt, thenUsed, nameUsed, exprUsed}
+use Rattle.table.specs.Uses.{Used, used, thenUsed, nameUsed, exprUsed}
 use Rattle.numbers.specs.declared.Item.the-variants.{Refused}
 use Rattle.table.specs.declared.expr.ExprRead.{ExprRead}
 use Rattle.table.specs.declared.expr.ExprRead.the-variants.{Expr, Refused as NoExpr}
@@ -53,10 +53,10 @@ exprWay d vs cs part i l = exprUsed d (length vs) part i l
 -- what follows an expression's kind
 abbrev restWay : (d kind : ℕ) → Way
 restWay d k vs cs part n l =
-    cond (eqb k 0) (used (skipAt part n) l)
+    cond (eqb k 0) (used (valueAt part n .next) l)
     (cond (eqb k 1) (nameUsed 1024 (length vs) part n l)
     (cond (eqb k 2) (exprUsed d (length vs) part n l)
-    (thenUsed (exprUsed d (length vs) part (skipAt part n) l) (λ m j. exprUsed d (length vs) part m j))))
+    (thenUsed (exprUsed d (length vs) part (valueAt part n .next) l) (λ m j. exprUsed d (length vs) part m j))))
 
 pub variable-same : (vs : List Site) (s : List ℕ) (at : ℕ) → Bytes s
     → Same s (Listed s at vs) Refused (nameAt (length vs) 0 0 s at) (readName anySite vs at (drop at s))

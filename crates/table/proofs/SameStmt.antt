@@ -12,7 +12,7 @@ use Rattle.model.specs.Reader.{Parsed, Scope, readWhole, Inner, stmtOf, isSkip,
 use Rattle.model.specs.Usage.{usage, firstClash}
 use Rattle.model.specs.Counts.{firstDeep, processes, need}
 use Rattle.table.specs.Stmts.{leaf, simpleAt, Fits, stmtAt, insideAt}
-use Rattle.table.specs.Uses.{skipAt, simpleUsed, stmtUsed}
+use Rattle.table.specs.Uses.{simpleUsed, stmtUsed}
 use Rattle.table.specs.declared.stmt.Names.{Names}
 use Rattle.table.specs.declared.stmt.First.the-variants.{Nowhere}
 use Rattle.table.specs.declared.stmt.StmtRead.{StmtRead}
@@ -26,13 +26,13 @@ use Rattle.table.proofs.SameMany.{manyWay}
 use Rattle.table.proofs.SameParts.{countedWay, sequence-same, choice-same, loop-same}
 use Rattle.table.proofs.SameAlt.{alternative-same}
 use Rattle.table.proofs.SamePar.{par-same}
-use Rattle.numbers.specs.Items.{withItem}
+use Rattle.numbers.specs.Items.{valueAt, withItem}
 
 -- what follows a statement's kind, by its number
 abbrev kindWay : (kind d : ℕ) → Way
 kindWay k d vs cs part n l =
     cond (ltb k 5) (simpleUsed k d (length vs) (length cs) part n l)
-    (cond (ltb k 7) (stmtUsed d (length vs) (length cs) part (skipAt part n) l)
+    (cond (ltb k 7) (stmtUsed d (length vs) (length cs) part (valueAt part n .next) l)
     (cond (eqb k 10) (manyWay 1 k d vs cs part n l) (countedWay k d vs cs part n l)))
 
 skip-same : (d : ℕ) (w : Names) (sc : Scope) (s : List ℕ) (place at : ℕ) (inner : Inner)

@@ -4,7 +4,7 @@ use mathlib.Core.Bool.{Bool, false, cond, _&&_, _||_}
 use mathlib.Core.List.{List}
 use lib.ListN.{getD, set, replicate}
 use lib.Dec.{ltb, eqb}
-use Rattle.numbers.specs.Items.{groupsAt, withNumber}
+use Rattle.numbers.specs.Items.{groupsAt, withNumber, valueAt}
 
 -- the place reached, and the sets
 pub record Used : Type 0 where
@@ -13,9 +13,6 @@ pub record Used : Type 0 where
 
 abbrev pub used : ℕ → List ℕ → Used
 used n l = record { next = n; marks = l }
-
-unfoldable pub skipAt : List ℕ → ℕ → ℕ
-skipAt s at = withNumber at (groupsAt 5 s at) (λ v n. n)
 
 unfoldable pub markAt : (base name limit : ℕ) → List ℕ → List ℕ
 markAt base name limit l = cond (ltb name limit) (set l (base + name) 1) l
@@ -34,10 +31,10 @@ unfoldable pub exprUsed : (depth limit : ℕ) → List ℕ → ℕ → List ℕ 
 exprUsed zero limit s at l = used at l
 exprUsed (suc d) limit s at l =
     withNumber (used at l) (groupsAt 5 s at) (λ k n.
-    cond (eqb k 0) (used (skipAt s n) l)
+    cond (eqb k 0) (used (valueAt s n .next) l)
     (cond (eqb k 1) (nameUsed 1024 limit s n l)
     (cond (eqb k 2) (exprUsed d limit s n l)
-    (thenUsed (exprUsed d limit s (skipAt s n) l) (λ m k2. exprUsed d limit s m k2)))))
+    (thenUsed (exprUsed d limit s (valueAt s n .next) l) (λ m k2. exprUsed d limit s m k2)))))
 
 unfoldable pub simpleUsed : (kind depth variables channels : ℕ) → List ℕ → ℕ → List ℕ → Used
 simpleUsed k d vs cs s at l =
@@ -66,7 +63,7 @@ stmtUsed zero vs cs s at l = used at l
 stmtUsed (suc d) vs cs s at l =
     withNumber (used at l) (groupsAt 5 s at) (λ k n.
     cond (ltb k 5) (simpleUsed k d vs cs s n l)
-    (cond (ltb k 7) (stmtUsed d vs cs s (skipAt s n) l)
+    (cond (ltb k 7) (stmtUsed d vs cs s (valueAt s n .next) l)
     (cond (eqb k 10) (repeated (λ i j. headUsed k d vs cs s i j) (λ i j. stmtUsed d vs cs s i j) 1 n l)
     (withNumber (used n l) (groupsAt 5 s n) (λ c m.
     repeated (λ i j. headUsed k d vs cs s i j) (λ i j. stmtUsed d vs cs s i j) c m l)))))

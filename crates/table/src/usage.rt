@@ -3,21 +3,11 @@ ghost use mathlib.Core.Path.{_≡_};
 ghost use Prim.Native.Nat.{_+_, _<_, _≤_};
 ghost use mathlib.Core.Bool.{_&&_};
 ghost use lib.Dec.{eqb};
-ghost use Rattle.table.specs.Uses.{used, skipAt, markAt, nameUsed, variableUsed, exprUsed, simpleUsed, guardUsed, headUsed};
+ghost use Rattle.table.specs.Uses.{used, markAt, nameUsed, variableUsed, exprUsed, simpleUsed, guardUsed, headUsed};
 ghost use Rattle.table.specs.Uses.{manyUsed, partsUsed, stmtUsed, met, merged, checked, checkedAt};
 
 // Four sets of names by number, each of up to 1,024: variables assigned or input from place 0 on, variables read, assigned or
 // input from 1024 on, channels input from at 2048 on, channels output to at 3072 on. A byte is 1 where the name is in the set.
-
-// The place after a number.
-fn skip(part: &[u8], at: usize) -> usize
-    ensures { λ r. ⌜ r ≡ skipAt (now (part .entry)) at ⌝ }
-{
-    match numbers::read_groups(part, at, 5) {
-        numbers::NumberRead::Number(v, next) => next,
-        numbers::NumberRead::Bad => at,
-    }
-}
 
 // A name below the limit, which is declared outside the PAR, goes into a set.
 fn mark(marks: &mut [u8; 4096], base: usize, name: u64, limit: u64)
@@ -69,7 +59,7 @@ fn use_expr(part: &[u8], at: usize, depth: u64, marks: &mut [u8; 4096], limit: u
     match numbers::read_groups(part, at, 5) {
         numbers::NumberRead::Number(kind, next) => {
             if kind == 0 {
-                return skip(part, next);
+                return numbers::skip(part, next);
             }
             if kind == 1 {
                 return use_name(part, next, marks, 1024, limit);
@@ -77,7 +67,7 @@ fn use_expr(part: &[u8], at: usize, depth: u64, marks: &mut [u8; 4096], limit: u
             if kind == 2 {
                 return use_expr(part, next, depth - 1, marks, limit);
             }
-            let left = skip(part, next);
+            let left = numbers::skip(part, next);
             let right = use_expr(part, left, depth - 1, marks, limit);
             use_expr(part, right, depth - 1, marks, limit)
         }
@@ -208,7 +198,7 @@ pub fn use_stmt(
             if kind < 7 {
                 return use_stmt(
                     part,
-                    skip(part, next),
+                    numbers::skip(part, next),
                     depth - 1,
                     marks,
                     variables,

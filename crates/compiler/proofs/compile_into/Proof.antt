@@ -12,8 +12,7 @@ returns c =
     let f = c .before .before .before in
     let q = accepted-as _ _ (sym (f .before .before .read .ensures) ∙ f .facts .given .1) in
     let k = f .before .before .before .before in
-    rw (words-refused _ _ (λ y. k .shared-slice-known .given y .fits) _ (q .0) (q .1) (q .2)
-    (c .if1 .taken)) (refl, refl)
+    rw (words-refused _ _ (λ y. k .shared-slice-known .given y .fits) _ (q .0) (q .1) (q .2) (c .if1 .taken)) (refl, refl)
 
 returns-2 : tie.Need-returns-2
 returns-2 c =
@@ -21,8 +20,8 @@ returns-2 c =
     let f = i .before .before .before in
     let q = accepted-as _ _ (sym (f .before .before .read .ensures) ∙ f .facts .given .1) in
     let k = f .before .before .before .before in
-    rw (bytes-refused _ _ (λ y. k .shared-slice-known .given y .fits) _ (q .0) (q .1) (q .2)
-    (i .if1 .left) (rw (c .before .code-size .ensures) at (c .if2 .taken))) (refl, refl)
+    let large = rw (c .before .code-size .ensures) at (c .if2 .taken) in
+    rw (bytes-refused _ _ (λ y. k .shared-slice-known .given y .fits) _ (q .0) (q .1) (q .2) (i .if1 .left) large) (refl, refl)
 
 returns-3 : tie.Need-returns-3
 returns-3 c =
@@ -32,12 +31,9 @@ returns-3 c =
     let q = accepted-as _ _ (sym (f .before .before .read .ensures) ∙ f .facts .given .1) in
     let k = f .before .before .before .before in
     let e = s .code-size .ensures in
-    rw (
-      room-refused _ _ (λ y. k .shared-slice-known .given y .fits) _ (q .0) (q .1) (q .2)
-          (i .if1 .left) (rw e at (c .before .if2 .left)) (rw e at (c .if3 .taken)),
-      ← e,
-    )
-    (refl, refl)
+    let small = rw e at (c .before .if2 .left) in
+    let long = rw e at (c .if3 .taken) in
+    rw (room-refused _ _ (λ y. k .shared-slice-known .given y .fits) _ (q .0) (q .1) (q .2) (i .if1 .left) small long, ← e) (refl, refl)
 
 returns-4 : tie.Need-returns-4
 returns-4 c =
@@ -51,10 +47,9 @@ returns-4 c =
     let e = s .code-size .ensures in
     let small = rw e at (j .before .if2 .left) in
     let room = rw e at (j .if3 .left) in (
-      ap Code e ∙ sym (code-answered _ _ (λ y. k .shared-slice-known .given y .fits) _ (q .0) (q .1) (q .2)
-          (i .if1 .left) small room),
-      ap (λ x. x .out) (g .generate .ensures) ∙ code-written _ _ (λ y. k .shared-slice-known .given y .fits) _ (q .0) (q .1) (q .2)
-          (i .if1 .left) small room _ refl,
+      ap Code e ∙ sym (code-answered _ _ (λ y. k .shared-slice-known .given y .fits) _ (q .0) (q .1) (q .2) (i .if1 .left) small room),
+      ap (λ x. x .out) (g .generate .ensures)
+          ∙ code-written _ _ (λ y. k .shared-slice-known .given y .fits) _ (q .0) (q .1) (q .2) (i .if1 .left) small room _ refl,
     )
 
 returns-5 : tie.Need-returns-5

@@ -14,8 +14,8 @@ returns c =
     let d = t .before .before .before .before in
     let w = d .before .before in
     let a = w .before in
-    let f = a .before .before .before .before .before .args .facts in
-    let e : w .wrapping-sub-u32 .result ≡ less (f .words) (a .after .result) = omega arith in
+    let words = a .before .before .before .before .before .args .facts .words in
+    let e : w .wrapping-sub-u32 .result ≡ less words (a .after .result) = omega arith in
     rw (
       ← a .before .before .skip .ensures,
       ← a .before .skip2 .ensures,

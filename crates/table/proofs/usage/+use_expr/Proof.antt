@@ -6,7 +6,7 @@ use Rattle.table.proofs.usage.use_expr.Reads as use-expr
 use Rattle.table.proofs.usage.use_expr.Kinds as use-expr-kinds
 use Rattle.table.proofs.usage.+use_expr.Lts-use_expr as use-expr-lts
 use Rattle.numbers.proofs.read_groups.Reads as read-groups-reads
-use Rattle.table.proofs.usage.skip.Reads as skip-reads
+use Rattle.numbers.proofs.skip.Reads as skip-reads
 use Rattle.table.proofs.usage.use_name.Reads as use-name-reads
 use Rattle.table.proofs.usage.+use_expr.{statement}
 use Rattle.table.proofs.usage.+use_expr.Tie.{close}
@@ -17,8 +17,8 @@ use mathlib.Core.List.{List}
 use mathlib.Core.Path.{_≡_, refl, sym, _∙_}
 use mathlib.Core.Bool.{cond}
 use lib.Dec.{eqb}
-use Rattle.numbers.specs.Items.{groupsAt, withNumber}
-use Rattle.table.specs.Uses.{Used, used, thenUsed, skipAt, nameUsed, exprUsed}
+use Rattle.numbers.specs.Items.{groupsAt, withNumber, valueAt}
+use Rattle.table.specs.Uses.{Used, used, thenUsed, nameUsed, exprUsed}
 
 none : (d limit : ℕ) (s : List ℕ) (at : ℕ) (l : List ℕ) → d ≡ 0 → exprUsed d limit s at l ≡ used at l
 unfolding exprUsed
@@ -27,10 +27,10 @@ none d limit s at l e = rw e
 -- what follows a kind, and `exprUsed` unrolled once where there is depth left
 abbrev byKind : (d limit : ℕ) → List ℕ → List ℕ → ℕ → ℕ → Used
 byKind d limit s l k n =
-    cond (eqb k 0) (used (skipAt s n) l)
+    cond (eqb k 0) (used (valueAt s n .next) l)
     (cond (eqb k 1) (nameUsed 1024 limit s n l)
     (cond (eqb k 2) (exprUsed (d - 1) limit s n l)
-    (thenUsed (exprUsed (d - 1) limit s (skipAt s n) l) (λ m k2. exprUsed (d - 1) limit s m k2))))
+    (thenUsed (exprUsed (d - 1) limit s (valueAt s n .next) l) (λ m k2. exprUsed (d - 1) limit s m k2))))
 
 turn : (d limit : ℕ) (s : List ℕ) (at : ℕ) (l : List ℕ) → (d ≡ 0 → ⊥)
     → exprUsed d limit s at l ≡ withNumber (used at l) (groupsAt 5 s at) (λ k n. byKind d limit s l k n)

@@ -14,7 +14,7 @@ use Rattle.table.proofs.usage.use_stmt.Reads as use-stmt
 use Rattle.table.proofs.usage.use_stmt.Kinds as use-stmt-kinds
 use Rattle.table.proofs.usage.+use_many+use_parts+use_stmt.Lts-use_stmt as use-stmt-lts
 use Rattle.numbers.proofs.read_groups.Reads as read-groups-reads
-use Rattle.table.proofs.usage.skip.Reads as skip-reads
+use Rattle.numbers.proofs.skip.Reads as skip-reads
 use Rattle.table.proofs.usage.use_head.Reads as use-head-reads
 use Rattle.table.proofs.usage.use_simple.Reads as use-simple-reads
 use Rattle.table.proofs.usage.+use_many+use_parts+use_stmt.{statement}
@@ -26,8 +26,8 @@ use mathlib.Core.List.{List}
 use mathlib.Core.Path.{_≡_, refl, sym, _∙_}
 use mathlib.Core.Bool.{cond}
 use lib.Dec.{ltb}
-use Rattle.numbers.specs.Items.{groupsAt, withNumber}
-use Rattle.table.specs.Uses.{Used, used, thenUsed, skipAt, simpleUsed, headUsed, repeated}
+use Rattle.numbers.specs.Items.{groupsAt, withNumber, valueAt}
+use Rattle.table.specs.Uses.{Used, used, thenUsed, simpleUsed, headUsed, repeated}
 use Rattle.table.specs.Uses.{stmtUsed, manyUsed, partsUsed}
 
 none : (d vs cs : ℕ) (s : List ℕ) (at : ℕ) (l : List ℕ) → d ≡ 0 → stmtUsed d vs cs s at l ≡ used at l
@@ -38,7 +38,7 @@ none d vs cs s at l e = rw e
 abbrev byKind : (d vs cs : ℕ) → List ℕ → List ℕ → ℕ → ℕ → Used
 byKind d vs cs s l k n =
     cond (ltb k 5) (simpleUsed k (d - 1) vs cs s n l)
-    (cond (ltb k 7) (stmtUsed (d - 1) vs cs s (skipAt s n) l) (partsUsed k d vs cs s n l))
+    (cond (ltb k 7) (stmtUsed (d - 1) vs cs s (valueAt s n .next) l) (partsUsed k d vs cs s n l))
 
 turn : (d vs cs : ℕ) (s : List ℕ) (at : ℕ) (l : List ℕ) → (d ≡ 0 → ⊥)
     → stmtUsed d vs cs s at l ≡ withNumber (used at l) (groupsAt 5 s at) (λ k n. byKind d vs cs s l k n)
