@@ -11,14 +11,14 @@ pub enum Decoded {
 }
 
 // The operand with its low four bits set to a byte's.
-fn gather(operand: u32, byte: u8) -> u32
+pub fn gather(operand: u32, byte: u8) -> u32
     ensures { λ r. ⌜ r ≡ gathered operand byte ⌝ }
 {
     operand / 16 * 16 + (byte % 16) as u32
 }
 
 // Whether a function is PFIX or NFIX.
-fn is_prefix(function: u8) -> bool
+pub fn is_prefix(function: u8) -> bool
     ensures { λ r. ⌜ r ≡ isPrefix function ⌝ }
 {
     if function == 6 {
@@ -28,7 +28,7 @@ fn is_prefix(function: u8) -> bool
 }
 
 // The operand behind a prefix byte: moved up by four bits, and by NFIX turned over before.
-fn prefixed(operand: u32, function: u8) -> u32
+pub fn prefixed(operand: u32, function: u8) -> u32
     ensures { λ r. ⌜ r ≡ movedUp operand function ⌝ }
 {
     if function == 2 {

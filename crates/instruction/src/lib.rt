@@ -12,6 +12,9 @@ mod decoder;
 
 pub use decoder::Decoded;
 pub use decoder::decode;
+pub use decoder::gather;
+pub use decoder::is_prefix;
+pub use decoder::prefixed;
 
 // A word divided by 16 as a signed number, rounded down.
 fn shift(n: u32) -> u32

@@ -1,3 +1,5 @@
 pub mod Lists
 pub mod Refusals
-pub mod Laws
+pub mod Executes
+pub mod Bytes
+pub mod Answered

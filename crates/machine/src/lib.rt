@@ -1,7 +1,10 @@
 // The machine over lent code and lent memory (document 01, "The machine", "When a call is turned down").
 mod begin;
-mod memory;
-mod process;
+mod budget;
+mod execute;
+mod step;
 
 pub use begin::Begun;
 pub use begin::start;
+pub use budget::Ran;
+pub use budget::run;

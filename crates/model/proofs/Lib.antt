@@ -24,4 +24,6 @@ pub mod Memory
 pub mod Fold
 pub mod Calls
 pub mod Sequential
+pub mod Regular
+pub mod Runs
 pub mod Examples

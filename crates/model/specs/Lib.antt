@@ -15,6 +15,7 @@ pub mod Machine
 pub mod Answers
 pub mod Execute
 pub mod Run
+pub mod Laws
 pub mod Outside
 pub mod Bench
 pub mod History

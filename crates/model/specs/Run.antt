@@ -35,7 +35,7 @@ fetch code = do
   cond (ltb (r .place) (u .code)) (return (getD code (r .place) 0)) (fault (Place (r .place)))
 
 -- refusal 12: a direct function that is not used is a fault with the function as its number
-abbrev functionOr12 : Option Function → (code operand : ℕ) → Act (Unit {0})
+abbrev pub functionOr12 : Option Function → (code operand : ℕ) → Act (Unit {0})
 functionOr12 none n o = fault (BadFunction n)
 functionOr12 (some f) n o = do
   r ← registers
@@ -119,7 +119,7 @@ abbrev pub worldOf : Machine → List ℕ → World
 worldOf m memory = record { machine = m; memory = memory; talk = [] }
 
 -- a run's answer and what it left
-abbrev finished : Finish → After RunAnswer
+abbrev pub finished : Finish → After RunAnswer
 finished f = record { answer = Ran (f .outcome); machine = f .world .machine; memory = f .world .memory; talk = f .world .talk }
 
 -- a kept fault is answered again, with 0 instructions

@@ -1,0 +1,7 @@
+// Communication: IN and OUTWORD (document 01, "The machine").
+mod receiver;
+mod sender;
+mod wait;
+
+pub use receiver::input;
+pub use sender::output;

@@ -1,0 +1,49 @@
+-- `machine::budget::run` meets its contract. Assumes nothing.
+use borrow.Author.Needs.{needs}
+use native.Mathlib.Omega.{arith}
+use mathlib.Core.Path.{refl}
+use Rattle.machine.proofs.Answered.{short-code, short-memory, kept-fault}
+use Rattle.machine.proofs.budget.run.Statement.{statement}
+use Rattle.machine.proofs.budget.run.Tie as tie
+
+returns : tie.Need-returns
+returns c =
+    let args = c .before .before .before .before .before .before .before .args in
+    let u = c .unchanged .ensures in
+    rw (short-code (args .machine) (args .code .now) (args .memory .now) (args .budget) (omega arith)) (u .0, (u .1, refl))
+
+returns-2 : tie.Need-returns-2
+returns-2 c =
+    let args = c .before .before .before .before .before .before .before .before .before .before .args in
+    let u = c .unchanged2 .ensures in
+    rw (short-memory (args .machine) (args .code .now) (args .memory .now) (args .budget) (omega arith) (omega arith)) (u .0, (u .1, refl))
+
+returns-3 : tie.Need-returns-3
+returns-3 c =
+    let far = c .before .before .before .before .before .before .before .before .before .before in
+    let args = far .before .before .before .args in
+    let u = c .unchanged3 .ensures in
+    rw (kept-fault (args .machine) (args .code .now) (args .memory .now) (args .budget) (omega arith) (omega arith) (c .before .before .fault .given .1)) (u .0, (u .1, refl))
+
+pub run-spec : {M : Type 1} → statement M
+run-spec =
+    tie.close
+    (tie.spec
+    (λ c. search needs)
+    (λ c. search needs)
+    (λ c κs. search needs)
+    returns
+    (λ c. search needs)
+    (λ c. search needs)
+    (λ c. search needs)
+    (λ c. search needs)
+    (λ c. search needs)
+    (λ c κs. search needs)
+    returns-2
+    (λ c. search needs)
+    (λ c κs. search needs)
+    (λ c. search needs)
+    (λ c κs. search needs)
+    returns-3
+    (λ c. search needs)
+    (λ c. search needs))

@@ -1,0 +1,57 @@
+-- What the bytes of a run come to, beside its communications.
+use Prim.Native.Nat.{ℕ, _-_}
+use mathlib.Core.Path.{_≡_}
+use mathlib.Core.Bool.{Bool}
+use mathlib.Core.List.{List}
+use Rattle.model.specs.Machine.{World, Talk}
+use Rattle.model.specs.Run.{Finish, After, keep, runFrom}
+use Rattle.model.specs.declared.Cpu.{Cpu}
+use Rattle.model.specs.declared.Setup.{Setup}
+use Rattle.model.specs.declared.Kept.{Kept}
+use Rattle.model.specs.declared.Kept.the-variants.{Nothing, Fault as KeptFault}
+use Rattle.model.specs.declared.Outcome.{Outcome}
+use Rattle.model.specs.declared.Outcome.the-variants.{Ended, Waiting, Spent, Fault}
+use Rattle.processor.specs.Seen.{Rest, world}
+use Rattle.processor.specs.Quiet.{offering}
+use Rattle.model.specs.declared.RunAnswer.{RunAnswer}
+use Rattle.machine.specs.declared.budget.Finished.{Finished}
+use Rattle.machine.specs.declared.budget.Ran.{Ran}
+
+-- the rest of a machine after these communications
+abbrev pub saying : List Talk → Rest → Rest
+saying t x = record { offers = x .offers; held = x .held; fault = x .fault; talk = t }
+
+-- a run goes on, after n instructions, from other registers, flags and memory
+pub record Reaches (u : Setup) (code : List ℕ) (budget : ℕ) (o : List ℕ) (r : Cpu) (b : List Bool) (l : List ℕ) (n : ℕ) (q : Cpu)
+    (d : List Bool) (m : List ℕ) : Type 0 where
+  pub goes :
+      (x : Rest) → (t : List Talk)
+      × (runFrom budget code 0 (world (offering o b x) u r l) ≡ runFrom (budget - n) code n (world (saying t (offering o d x)) u q m))
+
+-- a fault is kept
+abbrev pub keeping : Outcome → World → World
+keeping (Ended n) s = s
+keeping (Waiting n) s = s
+keeping (Spent n) s = s
+keeping (Fault n k) s = keep k s
+
+-- the fault that a machine without one keeps after a run
+abbrev pub keptAfter : Outcome → Kept
+keptAfter (Ended n) = Nothing
+keptAfter (Waiting n) = Nothing
+keptAfter (Spent n) = Nothing
+keptAfter (Fault n k) = KeptFault k
+
+-- how a run ends
+pub record Finishes (u : Setup) (code : List ℕ) (budget : ℕ) (o : List ℕ) (r : Cpu) (b : List Bool) (l : List ℕ) (f : Finished) (m : List ℕ)
+    : Type 0 where
+  pub ends :
+      (x : Rest) → (t : List Talk)
+      × (runFrom budget code 0 (world (offering o b x) u r l)
+      ≡ record { outcome = f .outcome; world = keeping (f .outcome) (world (saying t (offering o (f .held) x)) u (f .cpu) m) })
+
+-- a run's answer, machine and memory are those of the definition
+pub record Answers (a : After RunAnswer) (r : Ran) (m : List ℕ) : Type 0 where
+  pub answer : r .answer ≡ a .answer
+  pub machine : r .machine ≡ a .machine
+  pub memory : m ≡ a .memory

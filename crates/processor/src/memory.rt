@@ -1,0 +1,86 @@
+// Words of the machine's memory. `size` is how many there are; the lent memory has at least as many.
+ghost use mathlib.Core.Path.{_≡_};
+ghost use Prim.Native.Nat.{ℕ, _+_, _%_, _^_, _<_, _≤_};
+ghost use lib.ListN.{length, set};
+ghost use Rattle.model.specs.Word.{low, less as lessOf};
+ghost use Rattle.model.specs.Machine.{peek as peekOf, poke as pokeOf};
+ghost use Rattle.processor.specs.Seen.{Works, Finds, looked, written, undone};
+
+// What a byte came to: the registers after it, or the fault that kept it from beginning.
+pub enum Step {
+    Done(model::Cpu),
+    Fault(model::FaultKind),
+}
+
+// A word, or the fault.
+pub enum Peeked {
+    Value(u32),
+    Fault(model::FaultKind),
+}
+
+// A word inside the machine's memory, or the fault with its address.
+pub fn peek(memory: &[u32], size: u64, a: u32) -> Peeked
+    requires { ⌜ size ≤ length (now memory) ⌝ }
+    ensures { λ r. ⌜ Finds size (peekOf a) (now (memory .entry)) r ⌝ }
+{
+    if (a as u64) < size {
+        return Peeked::Value(memory[a as usize]);
+    }
+    Peeked::Fault(model::FaultKind::Word(a))
+}
+
+// A word is written, and what it held is answered.
+pub fn swap(memory: &mut [u32], size: u64, a: u32, v: u32) -> Peeked
+    requires { ⌜ size ≤ length (now memory) ⌝ }
+    ensures held { λ r. ⌜ r ≡ looked size a (now (memory .entry)) ⌝ }
+    ensures holds { λ r. ⌜ now (memory .exit) ≡ written r a v (now (memory .entry)) ⌝ }
+{
+    if (a as u64) < size {
+        let old = memory[a as usize];
+        memory[a as usize] = v;
+        return Peeked::Value(old);
+    }
+    Peeked::Fault(model::FaultKind::Word(a))
+}
+
+// A word is written, and the registers are as given.
+pub fn poke(memory: &mut [u32], size: u64, cpu: model::Cpu, a: u32, v: u32) -> Step
+    requires { ⌜ size ≤ length (now memory) ⌝ }
+    ensures { λ r. ⌜ Works size (pokeOf a v) cpu (now (memory .entry)) r (now (memory .exit)) ⌝ }
+{
+    if (a as u64) < size {
+        memory[a as usize] = v;
+        return Step::Done(cpu);
+    }
+    Step::Fault(model::FaultKind::Word(a))
+}
+
+// A word gets back what it held where a fault came: a byte that faults changes nothing.
+pub fn undo(memory: &mut [u32], a: u32, old: u32, step: Step) -> Step
+    ensures same { λ r. ⌜ r ≡ step ⌝ }
+    ensures back { λ r. ⌜ now (memory .exit) ≡ undone step a old (now (memory .entry)) ⌝ }
+{
+    match step {
+        Step::Done(r) => Step::Done(r),
+        Step::Fault(k) => {
+            if (a as usize) < memory.len() {
+                memory[a as usize] = old;
+            }
+            Step::Fault(k)
+        }
+    }
+}
+
+// The low 32 bits of a sum.
+pub fn plus(a: u32, b: u32) -> u32
+    ensures { λ r. ⌜ r ≡ low (a + b) ⌝ }
+{
+    std::num::wrapping_add_u32(a, b)
+}
+
+// The word a - b.
+pub fn less(a: u32, b: u32) -> u32
+    ensures { λ r. ⌜ r ≡ lessOf a b ⌝ }
+{
+    std::num::wrapping_sub_u32(a, b)
+}
