@@ -1,22 +1,18 @@
 -- Laws of a run's answer.
 use Prim.Native.Nat.{ℕ, _≤_, _<_}
 use mathlib.Core.Path.{_≡_, refl, ap, sym, _∙_}
-use mathlib.Core.Bool.{true, false}
 use mathlib.Core.List.{List, []}
 use lib.ListN.{length}
-use lib.Dec.{ltb}
 use borrow.Author.Tests.{lt-ltb, le-ltb}
 use Rattle.model.specs.Machine.{World, memorySize}
-use Rattle.model.specs.Run.{run, runFrom, worldOf, Finish, unchanged}
-use Rattle.model.specs.declared.Setup.{Setup}
+use Rattle.model.specs.Run.{run, unchanged}
 use Rattle.model.specs.declared.Machine.{Machine}
-use Rattle.model.specs.declared.Kept.{Kept}
 use Rattle.model.specs.declared.Kept.the-variants.{Nothing, Fault as KeptFault}
 use Rattle.model.specs.declared.FaultKind.{FaultKind}
 use Rattle.model.specs.declared.Outcome.{Outcome}
 use Rattle.model.specs.declared.Outcome.the-variants.{Ended, Waiting, Spent, Fault}
 use Rattle.model.specs.declared.RunAnswer.the-variants.{Ran, Short}
-use Rattle.machine.specs.Runs.{saying, keeping, keptAfter, Finishes, Answers}
+use Rattle.machine.specs.Runs.{keeping, keptAfter, Finishes, Answers}
 use Rattle.machine.specs.declared.budget.Finished.{Finished}
 
 -- the machine after an outcome, if it kept no fault before

@@ -1,5 +1,4 @@
 pub mod Lists
 pub mod Refusals
-pub mod Executes
-pub mod Bytes
+pub mod Runs
 pub mod Answered

@@ -4,7 +4,7 @@ use mathlib.Core.Path.{_≡_}
 use mathlib.Core.Bool.{Bool}
 use mathlib.Core.List.{List}
 use Rattle.model.specs.Machine.{World, Talk}
-use Rattle.model.specs.Run.{Finish, After, keep, runFrom}
+use Rattle.model.specs.Run.{After, keep, runFrom}
 use Rattle.model.specs.declared.Cpu.{Cpu}
 use Rattle.model.specs.declared.Setup.{Setup}
 use Rattle.model.specs.declared.Kept.{Kept}

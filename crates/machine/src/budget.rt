@@ -1,5 +1,5 @@
 // A run with a budget (document 01, "The machine", "When a call is turned down").
-use crate::step::step;
+use executor::step;
 use processor::Step;
 ghost use mathlib.Core.Path.{_≡_};
 ghost use Prim.Native.Nat.{ℕ, _≤_};

@@ -1,8 +1,6 @@
 // The machine over lent code and lent memory (document 01, "The machine", "When a call is turned down").
 mod begin;
 mod budget;
-mod execute;
-mod step;
 
 pub use begin::Begun;
 pub use begin::start;

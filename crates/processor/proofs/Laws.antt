@@ -8,7 +8,7 @@ use native.Mathlib.Omega.{arith}
 use lib.Seq.{set-set, set-getD}
 use lib.Dec.{ltb, leb·zero}
 use Rattle.model.specs.Machine.{World, Act, Result, done, faults, next, _>>_, setRegisters, running, queueing}
-use Rattle.model.specs.Machine.{memorySize, poke, testPlace, resumeWord, linkWord, takeFront, release, join}
+use Rattle.model.specs.Machine.{memorySize, poke, testPlace, linkWord, takeFront, release, join}
 use Rattle.model.specs.Word.{low}
 use Rattle.model.specs.Execute.{jump}
 use Rattle.model.specs.Run.{land}
@@ -16,8 +16,8 @@ use Rattle.model.specs.declared.Cpu.{Cpu}
 use Rattle.model.specs.declared.Setup.{Setup}
 use Rattle.model.specs.declared.FaultKind.{FaultKind}
 use Rattle.model.specs.declared.FaultKind.the-variants.{Word}
-use Rattle.processor.specs.Seen.{Rest, world, told, Keeps, Does, looked, written, undone}
-use Rattle.processor.specs.Pieces.{landing, landAt, releaseAt, pokeRelease, joinRelease, yieldSlice}
+use Rattle.processor.specs.Seen.{Rest, world, Does, looked, written, undone}
+use Rattle.processor.specs.Pieces.{landing, landAt, pokeRelease, yieldSlice}
 use Rattle.processor.specs.declared.memory.Step.{Step}
 use Rattle.processor.specs.declared.memory.Step.the-variants.{Done, Fault}
 use Rattle.processor.specs.declared.memory.Peeked.{Peeked}

@@ -6,7 +6,7 @@ use lib.ListN.{set}
 use lib.Dec.{ltb}
 use mathlib.Core.List.{List}
 use borrow.Author.Tests.{le-leb}
-use Rattle.model.specs.Machine.{World, Act, done, faults, next, _>>_, testPlace, memorySize, poke, join, queueing, linkWord}
+use Rattle.model.specs.Machine.{World, Act, done, faults, next, testPlace, memorySize, poke, join, queueing, linkWord}
 use Rattle.model.specs.Run.{land}
 use Rattle.model.specs.declared.Cpu.{Cpu}
 use Rattle.model.specs.declared.Setup.{Setup}

@@ -2,7 +2,8 @@
 use Prim.Native.Nat.{ℕ}
 use mathlib.Core.Bool.{cond}
 use lib.Dec.{eqb}
-use Rattle.model.specs.Machine.{Act, _>>=_, _>>_, registers, setRegisters, goto, work, peek, poke, testPlace, resumeWord, stateWord, release}
+use Rattle.model.specs.Machine.{Act, _>>=_, _>>_, registers, setRegisters, goto, work, peek, poke, testPlace, resumeWord, stateWord}
+use Rattle.model.specs.Machine.{release}
 use Rattle.model.specs.Machine.{join}
 use Rattle.model.specs.Execute.{isAltState, ready, waiting}
 use Rattle.model.specs.Run.{land}

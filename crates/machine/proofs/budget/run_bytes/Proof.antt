@@ -6,7 +6,7 @@ use mathlib.Core.Path.{_≡_, refl, _∙_}
 use mathlib.Core.Bool.{false}
 use lib.ListN.{length}
 use Rattle.machine.specs.Runs.{Reaches}
-use Rattle.machine.proofs.Bytes.{of-not, reaches-start, reaches-on, finishes-waiting, finishes-ended, finishes-spent, finishes-fault}
+use Rattle.machine.proofs.Runs.{of-not, reaches-start, reaches-on, finishes-waiting, finishes-ended, finishes-spent, finishes-fault}
 use Rattle.machine.proofs.budget.run_bytes.Statement.{statement}
 use Rattle.machine.proofs.budget.run_bytes.Tie as tie
 

@@ -1,5 +1,5 @@
 -- `processor::memory::undo` meets its contract. Assumes nothing.
-use mathlib.Core.Path.{refl, sym}
+use mathlib.Core.Path.{sym}
 use borrow.Author.Needs.{needs}
 use lib.Seq.{set-out}
 use Rattle.processor.proofs.memory.undo.Statement.{statement}

@@ -1,0 +1,2 @@
+pub mod Executes
+pub mod Acts

@@ -1,0 +1,5 @@
+// What each instruction does, and one byte of code (document 01, "The machine"; INMOS's guide).
+mod bytes;
+mod execute;
+
+pub use bytes::step;

@@ -1,0 +1,29 @@
+-- `run_test::read_text` is safe and ends. The numbers keep their room; the measure is the turns that are left. Assumes nothing.
+use mathlib.Core.Path.{_≡_}
+use borrow.Author.Needs.{needs}
+use lib.ListN.{length}
+use Rattle.run_test.proofs.read_text.Statement.{statement}
+use Rattle.run_test.proofs.read_text.Tie as tie
+
+abbrev Inv-loop : tie.InvT-loop
+Inv-loop numbers₀ text₀ turns₀ numbers text turns = length numbers ≡ length numbers₀
+
+abbrev μ-loop : tie.MeasureT-loop
+μ-loop numbers₀ text₀ turns₀ numbers text turns = turns
+
+pub read-text-spec : {M : Type 1} → statement M
+read-text-spec =
+    tie.close
+    (tie.spec
+    Inv-loop
+    μ-loop
+    (λ c κs. search needs)
+    (λ c. search needs)
+    (λ c κs. search needs)
+    (λ c. search needs)
+    (λ c. search needs)
+    (λ c. search needs)
+    (λ c. search needs)
+    (λ c. search needs)
+    (λ c. search needs)
+    (λ c. search needs))

@@ -1,0 +1,522 @@
+// Runs machines that a caller built, one to a line of standard input, and writes for each a line: the answer, and what is there afterwards.
+//
+// A line of the input is numbers in hexadecimal; what is no digit stands between numbers, and '#' begins a comment up to the end of the
+// line. A line without a number is no case. The numbers of a case, with '/' where it is easier to read:
+//   front back operand a b c workspace count place running queued / code base inputs outputs slice / eight offers / eight held flags /
+//   kind and number of the kept fault (kinds 1 to 5: function, operation, count, word, place; 0: none) / budget / words lent /
+//   code bytes lent, then these bytes / address=value for some words.
+// Every other word that is lent holds 7700 and its address.
+//
+// A line of the output has the answer (11 with the size needed), the registers and the setup in the order of the input, the held offers
+// as input=value, the kept fault, and as address=value the words lent that are no longer what they were. Numbers are hexadecimal.
+ghost use mathlib.Core.Path.{_≡_};
+ghost use lib.ListN.{length};
+
+// A line so far: whether it stands in a comment, how many numbers it has, and the number that is being read, if any.
+struct Line {
+    comment: bool,
+    count: usize,
+    open: bool,
+    value: u64,
+}
+
+// The line that the text has come to, and whether the text goes on.
+struct Text {
+    line: Line,
+    goes_on: bool,
+}
+
+// The value of a hexadecimal digit, and 16 for any other character.
+fn digit(character: u8) -> u64 {
+    match character {
+        b'0'..=b'9' => (character - b'0') as u64,
+        b'A'..=b'F' => (character - b'A') as u64 + 10,
+        b'a'..=b'f' => (character - b'a') as u64 + 10,
+        _ => 16,
+    }
+}
+
+// A number of a case, or 0 where the line has no more.
+fn at(numbers: &[u64], i: usize) -> u64 {
+    if i < numbers.len() {
+        return numbers[i];
+    }
+    0
+}
+
+// A number's low word.
+fn low(number: u64) -> u32 {
+    (number % 4294967296) as u32
+}
+
+// A number of a case that is a word.
+fn word(numbers: &[u64], i: usize) -> u32 {
+    low(at(numbers, i))
+}
+
+// A number of a case that is a flag.
+fn flag(numbers: &[u64], i: usize) -> bool {
+    at(numbers, i) != 0
+}
+
+// The registers of a case.
+fn cpu(numbers: &[u64]) -> model::Cpu {
+    model::Cpu {
+        front: word(numbers, 0),
+        back: word(numbers, 1),
+        operand: word(numbers, 2),
+        a: word(numbers, 3),
+        b: word(numbers, 4),
+        c: word(numbers, 5),
+        workspace: word(numbers, 6),
+        count: word(numbers, 7),
+        place: word(numbers, 8),
+        running: flag(numbers, 9),
+        queued: flag(numbers, 10),
+    }
+}
+
+// What a start would have fixed.
+fn setup(numbers: &[u64]) -> model::Setup {
+    model::Setup {
+        code: word(numbers, 11),
+        base: word(numbers, 12),
+        inputs: word(numbers, 13),
+        outputs: word(numbers, 14),
+        slice: word(numbers, 15),
+    }
+}
+
+// The offers of a case.
+fn offers(numbers: &[u64]) -> [u32; 8] {
+    [
+        word(numbers, 16),
+        word(numbers, 17),
+        word(numbers, 18),
+        word(numbers, 19),
+        word(numbers, 20),
+        word(numbers, 21),
+        word(numbers, 22),
+        word(numbers, 23),
+    ]
+}
+
+// Which offers are held.
+fn held(numbers: &[u64]) -> [bool; 8] {
+    [
+        flag(numbers, 24),
+        flag(numbers, 25),
+        flag(numbers, 26),
+        flag(numbers, 27),
+        flag(numbers, 28),
+        flag(numbers, 29),
+        flag(numbers, 30),
+        flag(numbers, 31),
+    ]
+}
+
+// The fault that a case keeps.
+fn kept(kind: u64, number: u32) -> model::Kept {
+    match kind {
+        1 => model::Kept::Fault(model::FaultKind::Function(number)),
+        2 => model::Kept::Fault(model::FaultKind::Operation(number)),
+        3 => model::Kept::Fault(model::FaultKind::Count(number)),
+        4 => model::Kept::Fault(model::FaultKind::Word(number)),
+        5 => model::Kept::Fault(model::FaultKind::Place(number)),
+        _ => model::Kept::Nothing,
+    }
+}
+
+// The machine of a case.
+fn machine(numbers: &[u64]) -> model::Machine {
+    model::Machine {
+        cpu: cpu(numbers),
+        setup: setup(numbers),
+        offers: offers(numbers),
+        held: held(numbers),
+        fault: kept(at(numbers, 32), word(numbers, 33)),
+    }
+}
+
+// Room for a case's code.
+fn some_code() -> [u8; 512]
+    ensures { λ r. ⌜ 512 ≡ length r ⌝ }
+{
+    [0; 512]
+}
+
+// Room for a case's memory.
+fn some_memory() -> [u32; 4200]
+    ensures { λ r. ⌜ 4200 ≡ length r ⌝ }
+{
+    [0; 4200]
+}
+
+// The code of a case, from the numbers that are its bytes.
+fn load_code(numbers: &[u64], bytes: &mut [u8]) {
+    let mut i = 0;
+    while i < numbers.len() && i < bytes.len() {
+        bytes[i] = (numbers[i] % 256) as u8;
+        i += 1;
+    }
+}
+
+// What words hold if a case does not name them.
+fn fill(words: &mut [u32]) {
+    let mut value = 0x7700;
+    let mut i = 0;
+    while i < words.len() {
+        words[i] = value;
+        value = std::num::wrapping_add_u32(value, 1);
+        i += 1;
+    }
+}
+
+// A word that a case names.
+fn store(words: &mut [u32], address: u64, value: u32) {
+    if address < words.len() as u64 {
+        let i = address as usize;
+        words[i] = value;
+    }
+}
+
+// A word that a case names, if the number at a place is its value: addresses and values come in turn.
+fn store_pair(numbers: &[u64], words: &mut [u32], i: usize) {
+    if i % 2 == 1 {
+        store(words, at(numbers, i - 1), word(numbers, i));
+    }
+}
+
+// The words that a case names.
+fn load_words(numbers: &[u64], words: &mut [u32]) {
+    let mut i = 0;
+    while i < numbers.len() {
+        store_pair(numbers, words, i);
+        i += 1;
+    }
+}
+
+// Writes a number behind its name.
+fn print(name: &[u8], number: u64) {
+    io::write_all(1, name);
+    io::print_hex(1, number, 1);
+}
+
+// Writes a flag.
+fn print_flag(value: bool) {
+    if value {
+        print(b" ", 1);
+    } else {
+        print(b" ", 0);
+    }
+}
+
+// Writes what was at fault.
+fn print_fault(kind: model::FaultKind) {
+    match kind {
+        model::FaultKind::Function(number) => print(b"function ", number as u64),
+        model::FaultKind::Operation(number) => print(b"operation ", number as u64),
+        model::FaultKind::Count(number) => print(b"count ", number as u64),
+        model::FaultKind::Word(number) => print(b"word ", number as u64),
+        model::FaultKind::Place(number) => print(b"place ", number as u64),
+    }
+}
+
+// Writes how a run stood.
+fn print_outcome(outcome: model::Outcome) {
+    match outcome {
+        model::Outcome::Ended(count) => print(b"ended ", count),
+        model::Outcome::Waiting(count) => print(b"waiting ", count),
+        model::Outcome::Spent(count) => print(b"spent ", count),
+        model::Outcome::Fault(count, kind) => {
+            print(b"fault ", count);
+            io::write_all(1, b" ");
+            print_fault(kind);
+        }
+    }
+}
+
+// Writes a run's answer.
+fn print_answer(answer: model::RunAnswer) {
+    match answer {
+        model::RunAnswer::Ran(outcome) => print_outcome(outcome),
+        model::RunAnswer::Short(size) => print(b"11 ", size),
+    }
+}
+
+// Writes the registers.
+fn print_cpu(cpu: model::Cpu) {
+    print(b" / ", cpu.front as u64);
+    print(b" ", cpu.back as u64);
+    print(b" ", cpu.operand as u64);
+    print(b" ", cpu.a as u64);
+    print(b" ", cpu.b as u64);
+    print(b" ", cpu.c as u64);
+    print(b" ", cpu.workspace as u64);
+    print(b" ", cpu.count as u64);
+    print(b" ", cpu.place as u64);
+    print_flag(cpu.running);
+    print_flag(cpu.queued);
+}
+
+// Writes what the start would have fixed.
+fn print_setup(setup: model::Setup) {
+    print(b" / ", setup.code as u64);
+    print(b" ", setup.base as u64);
+    print(b" ", setup.inputs as u64);
+    print(b" ", setup.outputs as u64);
+    print(b" ", setup.slice as u64);
+    io::write_all(1, b" /");
+}
+
+// Writes a number with its value.
+fn print_value(i: usize, value: u32) {
+    print(b" ", i as u64);
+    print(b"=", value as u64);
+}
+
+// Writes an offer, if it is held.
+fn print_offer(i: usize, held: bool, offer: u32) {
+    if held {
+        print_value(i, offer);
+    }
+}
+
+// Writes the offers that are held.
+fn print_offers(held: &[bool; 8], offers: &[u32; 8]) {
+    let mut i = 0;
+    while i < 8 {
+        print_offer(i, held[i], offers[i]);
+        i += 1;
+    }
+}
+
+// Writes the kept fault.
+fn print_kept(fault: model::Kept) {
+    io::write_all(1, b" / ");
+    match fault {
+        model::Kept::Nothing => {
+            io::write_all(1, b"none");
+        }
+        model::Kept::Fault(kind) => print_fault(kind),
+    }
+    io::write_all(1, b" /");
+}
+
+// Writes what a run left of the machine.
+fn print_machine(machine: model::Machine) {
+    let cpu = machine.cpu;
+    let setup = machine.setup;
+    let offers = machine.offers;
+    let held = machine.held;
+    let fault = machine.fault;
+    print_cpu(cpu);
+    print_setup(setup);
+    print_offers(&held, &offers);
+    print_kept(fault);
+}
+
+// Writes a word, if it is no longer what it was.
+fn print_change(i: usize, before: u32, after: u32) {
+    if before != after {
+        print_value(i, after);
+    }
+}
+
+// Writes the words that are no longer what they were.
+fn print_changes(before: &[u32], after: &[u32]) {
+    let mut i = 0;
+    while i < before.len() && i < after.len() {
+        print_change(i, before[i], after[i]);
+        i += 1;
+    }
+}
+
+// Runs a case, and writes its line. `before` and `memory` are the same words.
+fn run(numbers: &[u64], code: &[u8], before: &[u32], memory: &mut [u32]) {
+    let ran = machine::run(machine(numbers), code, memory, at(numbers, 34));
+    let left = ran.machine;
+    let answer = ran.answer;
+    print_answer(answer);
+    print_machine(left);
+    print_changes(before, memory);
+    io::write_all(1, b"\n");
+}
+
+// Puts the words of a case into both memories, and runs it.
+fn load_and_run(
+    numbers: &[u64],
+    code: &[u8],
+    named: &[u64],
+    before: &mut [u32],
+    memory: &mut [u32],
+) {
+    fill(before);
+    load_words(named, before);
+    fill(memory);
+    load_words(named, memory);
+    run(numbers, code, before, memory);
+}
+
+// Lends a case its code and its memory. The numbers that are code and those that name words are given apart.
+fn lend(numbers: &[u64], codes: &[u64], named: &[u64], words: usize) {
+    let mut code = some_code();
+    let mut before = some_memory();
+    let mut memory = some_memory();
+    let length = codes.len();
+    if length > 512 {
+        return;
+    }
+    if words > 4200 {
+        return;
+    }
+    load_code(codes, &mut code);
+    load_and_run(
+        numbers,
+        &code[0..length],
+        named,
+        &mut before[0..words],
+        &mut memory[0..words],
+    );
+}
+
+// Answers a case: finds its code's bytes and the words that it names.
+fn answer(numbers: &[u64]) {
+    if numbers.len() < 37 {
+        return;
+    }
+    let words = at(numbers, 35);
+    let length = at(numbers, 36);
+    let rest = &numbers[37..];
+    if length > rest.len() as u64 {
+        return;
+    }
+    let end = length as usize;
+    lend(numbers, &rest[0..end], &rest[end..], words as usize);
+}
+
+// A line of which nothing is read.
+fn new_line() -> Line {
+    Line {
+        comment: false,
+        count: 0,
+        open: false,
+        value: 0,
+    }
+}
+
+// A line with one number more. Numbers for which there is no room are dropped.
+fn put_number(numbers: &mut [u64], line: Line) -> Line {
+    let count = line.count;
+    if count < numbers.len() {
+        numbers[count] = line.value;
+        return Line {
+            comment: line.comment,
+            count: count + 1,
+            open: false,
+            value: 0,
+        };
+    }
+    line
+}
+
+// The end of a number, if one is being read.
+fn end_number(numbers: &mut [u64], line: Line) -> Line {
+    if line.open {
+        return put_number(numbers, line);
+    }
+    line
+}
+
+// The end of a line: answers its case, if it has one.
+fn end_line(numbers: &mut [u64], line: Line) -> Line {
+    let whole = end_number(numbers, line);
+    let count = whole.count;
+    if count <= numbers.len() {
+        answer(&numbers[0..count]);
+    }
+    new_line()
+}
+
+// A '#': the rest of the line is comment.
+fn begin_comment(numbers: &mut [u64], line: Line) -> Line {
+    let whole = end_number(numbers, line);
+    Line {
+        comment: true,
+        count: whole.count,
+        open: false,
+        value: 0,
+    }
+}
+
+// A character of a case, by its value as a digit. A number keeps its low 64 bits.
+fn take_digit(numbers: &mut [u64], line: Line, value: u64) -> Line {
+    if value > 15 {
+        return end_number(numbers, line);
+    }
+    Line {
+        comment: false,
+        count: line.count,
+        open: true,
+        value: line.value % 1152921504606846976 * 16 + value,
+    }
+}
+
+// One character.
+fn take_character(numbers: &mut [u64], line: Line, character: u8) -> Line {
+    if character == b'\n' {
+        end_line(numbers, line)
+    } else if line.comment {
+        line
+    } else if character == b'#' {
+        begin_comment(numbers, line)
+    } else {
+        take_digit(numbers, line, digit(character))
+    }
+}
+
+// The characters of a part of the text, one after the other.
+fn take_characters(numbers: &mut [u64], first: Line, characters: &[u8]) -> Line {
+    let mut line = first;
+    let mut i = 0;
+    while i < characters.len() {
+        line = take_character(numbers, line, characters[i]);
+        i += 1;
+    }
+    line
+}
+
+// The next part of the text, as long as one read gives.
+fn read_part(numbers: &mut [u64], line: Line) -> Text {
+    let mut characters = io::large_buffer();
+    let got = libc::read(0, &mut characters);
+    let n = io::count(got, &characters);
+    if n == 0 {
+        return Text {
+            line: line,
+            goes_on: false,
+        };
+    }
+    Text {
+        line: take_characters(numbers, line, &characters[..n]),
+        goes_on: true,
+    }
+}
+
+// The text to its end. Nothing says that the input ends, so the loop counts its turns down, from a number that no run uses up.
+fn read_text(numbers: &mut [u64]) {
+    let mut text = Text {
+        line: new_line(),
+        goes_on: true,
+    };
+    let mut turns = u64::MAX;
+    while turns > 0 && text.goes_on {
+        text = read_part(numbers, text.line);
+        turns -= 1;
+    }
+}
+
+fn main() {
+    let mut numbers = [0u64; 1024];
+    read_text(&mut numbers);
+}
