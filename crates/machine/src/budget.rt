@@ -22,7 +22,8 @@ pub struct Finished {
     pub outcome: model::Outcome,
 }
 
-// Ended, waiting, spent or fault, tested in that order. A process that runs is not ended where none runs, so those two may be swapped.
+// Ended, waiting, spent or fault, tested in that order; only that a machine which waits has no process that could have ended, so these two
+// may change places.
 fn run_bytes(
     code: &[u8],
     memory: &mut [u32],
@@ -40,27 +41,15 @@ fn run_bytes(
     let mut cpu = start;
     let mut held = before;
     let mut n: u64 = 0;
-    loop {
+    let outcome = loop {
         if !cpu.running {
-            return Finished {
-                cpu: cpu,
-                held: held,
-                outcome: model::Outcome::Waiting(n),
-            };
+            break model::Outcome::Waiting(n);
         }
         if cpu.place == setup.code {
-            return Finished {
-                cpu: cpu,
-                held: held,
-                outcome: model::Outcome::Ended(n),
-            };
+            break model::Outcome::Ended(n);
         }
         if n == budget {
-            return Finished {
-                cpu: cpu,
-                held: held,
-                outcome: model::Outcome::Spent(n),
-            };
+            break model::Outcome::Spent(n);
         }
         match step(code, memory, size, cpu, setup, offers, &mut held) {
             Step::Done(r) => {
@@ -68,13 +57,14 @@ fn run_bytes(
                 n += 1;
             }
             Step::Fault(k) => {
-                return Finished {
-                    cpu: cpu,
-                    held: held,
-                    outcome: model::Outcome::Fault(n, k),
-                };
+                break model::Outcome::Fault(n, k);
             }
         }
+    };
+    Finished {
+        cpu: cpu,
+        held: held,
+        outcome: outcome,
     }
 }
 

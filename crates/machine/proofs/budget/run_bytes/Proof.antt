@@ -1,4 +1,5 @@
--- `machine::budget::run_bytes` meets its contract. Assumes nothing.
+-- `machine::budget::run_bytes` meets its contract. The loop's invariant: the run goes on from here with what is left of the budget, which is
+-- the measure. Assumes nothing.
 use borrow.Author.Needs.{needs}
 use Prim.Native.Nat.{suc, _+_, _≤_, _-_}
 use native.Mathlib.Omega.{arith}
@@ -19,34 +20,6 @@ abbrev μ-loop : tie.MeasureT-loop
 
 loop-holds : tie.Need-loop-holds Inv-loop μ-loop
 loop-holds c = (reaches-start _ _ _ _ _ _ _, omega arith, refl, c .before .before .pre .3)
-
-same-length : tie.Need-same-length Inv-loop μ-loop
-same-length c = c .before .before .loop .inv .2
-
-returns : tie.Need-returns Inv-loop μ-loop
-returns c = finishes-waiting (c .before .before .loop .inv .0) (c .if1 .taken)
-
-same-length-2 : tie.Need-same-length-2 Inv-loop μ-loop
-same-length-2 c =
-    let loop = c .before .before .before .before .before .loop in
-    loop .inv .2
-
-returns-2 : tie.Need-returns-2 Inv-loop μ-loop
-returns-2 c =
-    let loop = c .before .before .before .before .before .loop in
-    let if1 = c .before .before .before .if1 in
-    finishes-ended (loop .inv .0) (if1 .left) (c .if2 .taken)
-
-same-length-3 : tie.Need-same-length-3 Inv-loop μ-loop
-same-length-3 c =
-    let loop = c .before .before .before .before .before .before .loop in
-    loop .inv .2
-
-returns-3 : tie.Need-returns-3 Inv-loop μ-loop
-returns-3 c =
-    let loop = c .before .before .before .before .before .before .loop in
-    let if1 = c .before .before .before .before .if1 in
-    finishes-spent (loop .inv .0) (if1 .left) (c .before .if2 .left) (c .if3 .taken)
 
 step-requires : tie.Need-step-requires Inv-loop μ-loop
 step-requires c κs =
@@ -86,6 +59,34 @@ loop-again c =
     let s = rw (c .before .r .given .1) at (step .ensures) in
     (rw e (reaches-on (l .0) (if1 .left) (if2 .left) (omega (arith, l .1, if3 .left)) s), omega (arith, l .1, if3 .left), step .kept .1 .0 ∙ l .2, step .ensures .long ∙ l .3)
 
+same-length : tie.Need-same-length Inv-loop μ-loop
+same-length c = c .before .before .loop .inv .2
+
+returns : tie.Need-returns Inv-loop μ-loop
+returns c = finishes-waiting (c .before .before .loop .inv .0) (c .if1 .taken)
+
+same-length-2 : tie.Need-same-length-2 Inv-loop μ-loop
+same-length-2 c =
+    let loop = c .before .before .before .before .before .loop in
+    loop .inv .2
+
+returns-2 : tie.Need-returns-2 Inv-loop μ-loop
+returns-2 c =
+    let loop = c .before .before .before .before .before .loop in
+    let if1 = c .before .before .before .if1 in
+    finishes-ended (loop .inv .0) (if1 .left) (c .if2 .taken)
+
+same-length-3 : tie.Need-same-length-3 Inv-loop μ-loop
+same-length-3 c =
+    let loop = c .before .before .before .before .before .before .loop in
+    loop .inv .2
+
+returns-3 : tie.Need-returns-3 Inv-loop μ-loop
+returns-3 c =
+    let loop = c .before .before .before .before .before .before .loop in
+    let if1 = c .before .before .before .before .if1 in
+    finishes-spent (loop .inv .0) (if1 .left) (c .before .if2 .left) (c .if3 .taken)
+
 same-length-4 : tie.Need-same-length-4 Inv-loop μ-loop
 same-length-4 c =
     let far = c .before .before .before .before .before .before .before .before .before .before in
@@ -111,17 +112,17 @@ run-bytes-spec =
     Inv-loop
     μ-loop
     loop-holds
-    same-length
-    returns
-    same-length-2
-    returns-2
-    same-length-3
-    returns-3
     step-requires
     (λ c. search needs)
     add-n
     loop-less
     loop-again
     (λ c. search needs)
+    same-length
+    returns
+    same-length-2
+    returns-2
+    same-length-3
+    returns-3
     same-length-4
     returns-4)
