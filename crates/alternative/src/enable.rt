@@ -2,13 +2,13 @@
 use processor::Peeked;
 use processor::Step;
 use processor::held_at;
-use processor::less;
 use processor::peek;
 use processor::poke;
 use processor::poke2_tell;
 use processor::stack;
 use processor::swap;
 use processor::undo;
+use word::less;
 ghost use mathlib.Core.Path.{_≡_};
 ghost use mathlib.Core.Bool.{true};
 ghost use Prim.Native.Nat.{ℕ, _≤_};

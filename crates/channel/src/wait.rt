@@ -1,11 +1,11 @@
 // A process waits at a channel's word, or gets a value and is woken.
 use processor::Peeked;
 use processor::Step;
-use processor::less;
 use processor::poke_join;
 use processor::poke2_tell;
 use processor::swap;
 use processor::undo;
+use word::less;
 ghost use mathlib.Core.Path.{_≡_};
 ghost use mathlib.Core.Bool.{true};
 ghost use Prim.Native.Nat.{ℕ, _≤_};

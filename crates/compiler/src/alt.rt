@@ -104,8 +104,8 @@ pub fn gen_enable(
         instruction::codes::ENBS,
     );
     let end = emitter::operation(out, guard.here, code);
-    let same = std::num::wrapping_sub_u32(guard.here, here);
-    let size = instruction::after(disabling, instruction::after(same, 6));
+    let same = word::less(guard.here, here);
+    let size = word::plus(disabling, word::plus(same, 6));
     let statement = emitter::measure(table, behind(table, guard), depth);
     gen_enable(
         table,

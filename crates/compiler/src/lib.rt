@@ -13,8 +13,8 @@ fn generate(table: &[u8], facts: model::Facts, out: &mut [u8]) -> u32
     ensures { λ r. ⌜ standing r (now (out .exit)) ≡ tableInto (now (table .entry)) facts (now (out .entry)) ⌝ }
 {
     let at = numbers::skip(table, numbers::skip(table, 0));
-    let outside = instruction::after(facts.inputs, facts.outputs);
-    let w = std::num::wrapping_sub_u32(facts.words, outside);
+    let outside = word::plus(facts.inputs, facts.outputs);
+    let w = word::less(facts.words, outside);
     let none: [u32; 1024] = [0; 1024];
     let channels = emitter::declared(&none, 0, outside, w);
     let scope = crate::stmt::Scope {

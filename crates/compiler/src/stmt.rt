@@ -35,7 +35,7 @@ fn put_initial(out: &mut [u8], here: u32, kind: u32, j: u32, left: u32) -> u32
     }
     let second = put_first(out, here, kind);
     let next = emitter::plain(out, second, instruction::codes::STL, j);
-    put_initial(out, next, kind, instruction::after(j, 1), left - 1)
+    put_initial(out, next, kind, word::plus(j, 1), left - 1)
 }
 
 // The body of a VAR or CHAN of n names.
@@ -61,7 +61,7 @@ fn body(
         let more = emitter::declared(vars, scope.variables, n, w);
         let inner = Scope {
             w: w,
-            variables: instruction::after(scope.variables, n),
+            variables: word::plus(scope.variables, n),
             channels: scope.channels,
         };
         return statement(table, at, depth, inner, &more, chans, out, here);
@@ -70,7 +70,7 @@ fn body(
     let inner = Scope {
         w: w,
         variables: scope.variables,
-        channels: instruction::after(scope.channels, n),
+        channels: word::plus(scope.channels, n),
     };
     statement(table, at, depth, inner, vars, &more, out, here)
 }
@@ -176,9 +176,9 @@ fn pairs(
         };
     }
     let test = emitter::gen_expr(table, at, depth, scope.w, vars, out, here);
-    let begin = instruction::after(test.here, 4);
+    let begin = word::plus(test.here, 4);
     let body = statement(table, test.next, depth, scope, vars, chans, out, begin);
-    let next = instruction::after(body.here, 4);
+    let next = word::plus(body.here, 4);
     let rest = pairs(
         table,
         body.next,
@@ -212,9 +212,9 @@ fn repetition(
         (standing here (now (out .entry))) ⌝ }
 {
     let test = emitter::gen_expr(table, at, depth, scope.w, vars, out, here);
-    let begin = instruction::after(test.here, 4);
+    let begin = word::plus(test.here, 4);
     let body = statement(table, test.next, depth, scope, vars, chans, out, begin);
-    let end = instruction::after(body.here, 4);
+    let end = word::plus(body.here, 4);
     emitter::distance(out, body.here, instruction::codes::J, here, end);
     emitter::distance(out, test.here, instruction::codes::CJ, end, begin);
     Done {
@@ -232,14 +232,14 @@ fn starts_end(table: &[u8], at: usize, left: u32, depth: u64, d: u32, here: u32)
     }
     let branch = emitter::measure(table, at, depth);
     let size = instruction::fewest(emitter::minus(d)) + 6;
-    let below = instruction::after(d, branch.need);
+    let below = word::plus(d, branch.need);
     starts_end(
         table,
         branch.next,
         left - 1,
         depth,
         below,
-        instruction::after(here, size),
+        word::plus(here, size),
     )
 }
 
@@ -247,7 +247,7 @@ fn starts_end(table: &[u8], at: usize, left: u32, depth: u64, d: u32, here: u32)
 fn put_start(out: &mut [u8], here: u32, d: u32, start: u32) -> u32
     ensures { λ r. ⌜ standing r (now (out .exit)) ≡ startInto d start (standing here (now (out .entry))) ⌝ }
 {
-    let second = instruction::after(here, 4);
+    let second = word::plus(here, 4);
     let third = emitter::plain(out, second, instruction::codes::LDLP, emitter::minus(d));
     let end = emitter::operation(out, third, instruction::codes::STARTP);
     emitter::distance(out, here, instruction::codes::LDC, start, end);
@@ -314,7 +314,7 @@ fn branches(
     let next = put_start(out, start, d, here);
     let branch = branch(table, at, d, depth, scope, vars, chans, out, here);
     let own = emitter::measure(table, at, depth);
-    let below = instruction::after(d, own.need);
+    let below = word::plus(d, own.need);
     branches(
         table,
         branch.next,
@@ -363,7 +363,7 @@ fn par(
         };
     }
     let over = emitter::plain(out, here, instruction::codes::AJW, emitter::minus(2));
-    let user = emitter::operation(out, instruction::after(over, 4), instruction::codes::LDPI);
+    let user = emitter::operation(out, word::plus(over, 4), instruction::codes::LDPI);
     let starts = put_header(out, user, count);
     let first = emitter::measure(table, at, depth);
     let begin = starts_end(table, first.next, count - 1, depth, first.need, starts);
@@ -457,7 +457,7 @@ fn choices(
     let guard = crate::alt::gen_guard(table, at, depth, w, vars, chans, out, disable);
     let following = crate::alt::put_disable(out, guard, here, base);
     let branch = choice(table, guard, depth, scope, vars, chans, out, here);
-    let next = instruction::after(branch.here, 4);
+    let next = word::plus(branch.here, 4);
     let rest = choices(
         table,
         branch.next,
@@ -497,7 +497,7 @@ fn alt(
     let w = emitter::below(scope.w, 1);
     let enabled = crate::alt::gen_enable(table, at, count, depth, w, vars, chans, out, start, 0);
     let disable = emitter::operation(out, enabled.here, instruction::codes::ALTWT);
-    let end = instruction::after(disable, enabled.disabling);
+    let end = word::plus(disable, enabled.disabling);
     let base = emitter::operation(out, end, instruction::codes::ALTEND);
     choices(
         table,

@@ -9,16 +9,16 @@ pub fn plain(out: &mut [u8], here: u32, function: u8, operand: u32) -> u32
 {
     let count = instruction::fewest(operand);
     instruction::put_instruction(out, here, count, function, operand);
-    instruction::after(here, count + 1)
+    word::plus(here, count + 1)
 }
 
 // A code distance from the byte after its user to the byte reached, in four bytes.
 pub fn distance(out: &mut [u8], here: u32, function: u8, reached: u32, after: u32) -> u32
     ensures { λ r. ⌜ standing r (now (out .exit)) ≡ distanceInto function reached after (standing here (now (out .entry))) ⌝ }
 {
-    let operand = std::num::wrapping_sub_u32(reached, after);
+    let operand = word::less(reached, after);
     instruction::put_instruction(out, here, 3, function, operand);
-    instruction::after(here, 4)
+    word::plus(here, 4)
 }
 
 // OPR with an operation.
@@ -32,5 +32,5 @@ pub fn operation(out: &mut [u8], here: u32, code: u32) -> u32
 pub fn minus(n: u32) -> u32
     ensures { λ r. ⌜ r ≡ negated n ⌝ }
 {
-    std::num::wrapping_sub_u32(0, n)
+    word::less(0, n)
 }

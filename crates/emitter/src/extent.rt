@@ -93,7 +93,7 @@ fn joined(kind: u32, before: u32, part: u32) -> u32
     ensures { λ r. ⌜ r ≡ needed kind before part ⌝ }
 {
     if kind == 8 {
-        return instruction::after(before, part);
+        return word::plus(before, part);
     }
     larger(before, part)
 }
@@ -124,7 +124,7 @@ fn inside_extent(table: &[u8], at: usize, kind: u32, depth: u64) -> Extent
     let count = numbers::value_at(table, at);
     if kind < 7 {
         let body = measure(table, count.next, depth);
-        let need = instruction::after(count.value, body.need);
+        let need = word::plus(count.value, body.need);
         return Extent {
             next: body.next,
             need: need,

@@ -23,12 +23,7 @@ fn extend(words: &mut [u32; 1024], name: u32, count: u32, w: u32)
         return;
     }
     put_word(words, name, w);
-    extend(
-        words,
-        instruction::after(name, 1),
-        count - 1,
-        instruction::after(w, 1),
-    )
+    extend(words, word::plus(name, 1), count - 1, word::plus(w, 1))
 }
 
 // The words of names with so many more.
@@ -45,7 +40,7 @@ pub fn local(words: &[u32; 1024], name: u32, w: u32) -> u32
     ensures { λ r. ⌜ r ≡ localOf (now (words .entry)) name w ⌝ }
 {
     if name < 1024 {
-        return std::num::wrapping_sub_u32(words[name as usize], w);
+        return word::less(words[name as usize], w);
     }
     0
 }

@@ -1,7 +1,7 @@
 // One byte (document 01, "The machine").
 use crate::execute::execute;
 use processor::Step;
-use processor::plus;
+use word::plus;
 ghost use mathlib.Core.Path.{_≡_};
 ghost use mathlib.Core.Bool.{true};
 ghost use Prim.Native.Nat.{ℕ, suc, min, _≤_, _<_};

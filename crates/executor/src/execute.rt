@@ -3,21 +3,23 @@ use processor::Peeked;
 use processor::Step;
 use processor::goto;
 use processor::land;
-use processor::less;
 use processor::peek;
-use processor::plus;
 use processor::poke;
 use processor::stack;
 use processor::work;
+use word::above;
+use word::less;
+use word::plus;
+use word::product;
 ghost use mathlib.Core.Path.{_≡_};
 ghost use mathlib.Core.Bool.{true};
-ghost use Prim.Native.Nat.{ℕ, _≤_, _*_};
+ghost use Prim.Native.Nat.{ℕ, _≤_};
 ghost use lib.ListN.{length};
 ghost use lib.Dec.{eqb};
-ghost use Rattle.model.specs.Word.{low, truth};
+ghost use Rattle.model.specs.Word.{truth};
 ghost use Rattle.model.specs.Instruction.{opr};
 ghost use Rattle.model.specs.Machine.{memorySize};
-ghost use Rattle.model.specs.Execute.{push as pushed, pop as popped, reduce as reduced, above as aboveOf, loadLocal, storeLocal};
+ghost use Rattle.model.specs.Execute.{push as pushed, pop as popped, reduce as reduced, loadLocal, storeLocal};
 ghost use Rattle.model.specs.Execute.{conditionalJump, execute as executed};
 ghost use Rattle.processor.specs.Seen.{Lands};
 ghost use Rattle.processor.specs.Pieces.{landing};
@@ -43,23 +45,6 @@ fn reduce(r: model::Cpu, v: u32) -> model::Cpu
     ensures { λ q. ⌜ q ≡ reduced v r ⌝ }
 {
     stack(r, v, r.c, r.c)
-}
-
-// The low 32 bits of a product.
-fn product(a: u32, b: u32) -> u32
-    ensures { λ r. ⌜ r ≡ low (a * b) ⌝ }
-{
-    ((a as u64) * (b as u64) % 4294967296) as u32
-}
-
-// 1 where the word b is above a, both signed; else 0.
-fn above(b: u32, a: u32) -> u32
-    ensures { λ r. ⌜ r ≡ truth (aboveOf b a) ⌝ }
-{
-    if plus(a, 2147483648) < plus(b, 2147483648) {
-        return 1;
-    }
-    0
 }
 
 // 1 where two words are equal, else 0.

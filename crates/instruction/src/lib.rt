@@ -1,9 +1,8 @@
 // Coding an instruction with its prefixes, and decoding (document 01, "Workspace and code", "The machine").
 ghost use mathlib.Core.Path.{_≡_};
-ghost use Prim.Native.Nat.{suc, _+_, _%_, _^_, _<_, _≤_};
+ghost use Prim.Native.Nat.{suc, _%_, _^_, _<_, _≤_};
 ghost use lib.Seq.{sets};
 ghost use lib.ListN.{set};
-ghost use Rattle.model.specs.Word.{low};
 ghost use Rattle.model.specs.Prefix.{shifted, firstPrefix, prefixes, enough as enoughFor, fewest as fewestFor};
 ghost use Rattle.instruction.specs.Coded.{coded};
 
@@ -42,13 +41,6 @@ fn put(out: &mut [u8], at: usize, byte: u8)
         return;
     }
     out[at] = byte;
-}
-
-// The place so many bytes behind another.
-pub fn after(here: u32, bytes: u32) -> u32
-    ensures { λ r. ⌜ r ≡ low (here + bytes) ⌝ }
-{
-    std::num::wrapping_add_u32(here, bytes)
 }
 
 // Below 0 the first prefix is NFIX, which turns every bit over, so its digit is turned over too.

@@ -201,7 +201,7 @@ fn outside() {
     print_code(&code, 0);
     instruction::put_instruction(&mut code, 4294967295, 3, codes::LDC, 0x754);
     print_code(&code, 0);
-    io::print_hex(1, instruction::after(4294967294, 5) as u64, 8);
+    io::print_hex(1, word::plus(4294967294, 5) as u64, 8);
     io::write_all(1, b"\n");
 }
 

@@ -7,9 +7,7 @@ mod wait;
 
 pub use memory::Peeked;
 pub use memory::Step;
-pub use memory::less;
 pub use memory::peek;
-pub use memory::plus;
 pub use memory::poke;
 pub use memory::swap;
 pub use memory::undo;

@@ -1,8 +1,7 @@
 // Words of the machine's memory. `size` is how many there are; the lent memory has at least as many.
 ghost use mathlib.Core.Path.{_≡_};
-ghost use Prim.Native.Nat.{ℕ, _+_, _%_, _^_, _<_, _≤_};
+ghost use Prim.Native.Nat.{ℕ, _≤_};
 ghost use lib.ListN.{length, set};
-ghost use Rattle.model.specs.Word.{low, less as lessOf};
 ghost use Rattle.model.specs.Machine.{peek as peekOf, poke as pokeOf};
 ghost use Rattle.processor.specs.Seen.{Works, Finds, looked, written, undone};
 
@@ -69,18 +68,4 @@ pub fn undo(memory: &mut [u32], a: u32, old: u32, step: Step) -> Step
             Step::Fault(k)
         }
     }
-}
-
-// The low 32 bits of a sum.
-pub fn plus(a: u32, b: u32) -> u32
-    ensures { λ r. ⌜ r ≡ low (a + b) ⌝ }
-{
-    std::num::wrapping_add_u32(a, b)
-}
-
-// The word a - b.
-pub fn less(a: u32, b: u32) -> u32
-    ensures { λ r. ⌜ r ≡ lessOf a b ⌝ }
-{
-    std::num::wrapping_sub_u32(a, b)
 }

@@ -1,13 +1,13 @@
 // Processes and the queue.
 use crate::memory::Peeked;
 use crate::memory::Step;
-use crate::memory::less;
 use crate::memory::peek;
-use crate::memory::plus;
 use crate::memory::poke;
 use crate::memory::swap;
 use crate::memory::undo;
 use crate::registers::goto;
+use word::less;
+use word::plus;
 ghost use mathlib.Core.Path.{_≡_};
 ghost use mathlib.Core.Bool.{true};
 ghost use Prim.Native.Nat.{ℕ, _≤_};

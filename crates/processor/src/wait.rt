@@ -1,11 +1,11 @@
 // A process waits: words are written, an ALT is told, and the processor is free. A fault gives all words back.
 use crate::memory::Peeked;
 use crate::memory::Step;
-use crate::memory::less;
 use crate::memory::swap;
 use crate::memory::undo;
 use crate::process::join_release;
 use crate::process::release;
+use word::less;
 ghost use mathlib.Core.Path.{_≡_};
 ghost use mathlib.Core.Bool.{true};
 ghost use Prim.Native.Nat.{ℕ, _≤_};

@@ -10,8 +10,8 @@ use Rattle.compiler.proofs.alt.either.Reads as either-reads
 use Rattle.compiler.proofs.alt.gen_guard.Reads as gen-guard-reads
 use Rattle.emitter.proofs.operation.Reads as operation-reads
 use Rattle.emitter.proofs.measure.Reads as measure-reads
-use Rattle.instruction.proofs.after.Reads as after-reads
-use Rattle.std.proofs.num.wrapping_sub_u32.Reads as wrapping-sub-u32-reads
+use Rattle.word.proofs.plus.Reads as plus-reads
+use Rattle.word.proofs.less.Reads as less-reads
 use Rattle.compiler.proofs.alt.+gen_enable.{statement}
 use Rattle.compiler.proofs.alt.+gen_enable.Tie.{close}
 use borrow.Author.Needs.{needs}
@@ -61,10 +61,10 @@ gen-enable-claims t = (
   either-reads.Learnt,
   operation-reads.Asked,
   operation-reads.Learnt,
-  wrapping-sub-u32-reads.Asked,
-  wrapping-sub-u32-reads.Learnt,
-  after-reads.Asked,
-  after-reads.Learnt,
+  less-reads.Asked,
+  less-reads.Learnt,
+  plus-reads.Asked,
+  plus-reads.Learnt,
   behind-reads.Asked,
   behind-reads.Learnt,
   measure-reads.Asked,
@@ -93,16 +93,14 @@ gen-enable-returns-2 t c =
     let e = o .before .before in
     let g = e .before .before .before in
     let i = g .before .before in
-    let x = i .before .before .before in
-    let w : s .wrapping-sub-u32 .result ≡ less (g .gen-guard .result .here) (x .args .here) = omega (arith, x .fits .here) in
     rw (
       turn _ _ _ _ _ _ _ _ _ (i .if1 .left),
       ← g .gen-guard .ensures,
       ← e .either .ensures,
       ← o .operation .ensures,
-      ← w,
-      ← l .before .after .ensures,
-      ← l .after2 .ensures,
+      ← s .less .ensures,
+      ← l .before .plus .ensures,
+      ← l .plus2 .ensures,
       ← m .before .behind .ensures,
       ← m .measure .ensures,
     ) (r .gen-enable .ensures)

@@ -61,7 +61,7 @@ use Rattle.emitter.proofs.gen_input.Reads as gen-input-reads
 use Rattle.emitter.proofs.gen_simple.Reads as gen-simple-reads
 use Rattle.emitter.proofs.below.Reads as below-reads
 use Rattle.emitter.proofs.declared.Reads as declared-reads
-use Rattle.instruction.proofs.after.Reads as after-reads
+use Rattle.word.proofs.plus.Reads as plus-reads
 use Rattle.numbers.proofs.value_at.Reads as value-at-reads
 use Rattle.compiler.proofs.stmt.+alt+body+branch+branches+choice+choices+declaration+inside+pairs+par+repetition+seq+statement.{statement}
 use Rattle.compiler.proofs.stmt.+alt+body+branch+branches+choice+choices+declaration+inside+pairs+par+repetition+seq+statement.Tie.{close}
@@ -208,8 +208,8 @@ alt-claims t = (
   below-reads.Learnt,
   gen-enable-reads.Asked,
   gen-enable-reads.Learnt,
-  after-reads.Asked,
-  after-reads.Learnt,
+  plus-reads.Asked,
+  plus-reads.Learnt,
   choices-below t,
   choices.Post,
 )
@@ -220,8 +220,8 @@ body-claims t = (
   below-reads.Learnt,
   declared-reads.Asked,
   declared-reads.Learnt,
-  after-reads.Asked,
-  after-reads.Learnt,
+  plus-reads.Asked,
+  plus-reads.Learnt,
   statement-below t,
   statement′.Post,
 )
@@ -246,8 +246,8 @@ branches-claims t = (
   branch.Post,
   measure-reads.Asked,
   measure-reads.Learnt,
-  after-reads.Asked,
-  after-reads.Learnt,
+  plus-reads.Asked,
+  plus-reads.Learnt,
   branches-below t,
   branches.Post,
 )
@@ -272,8 +272,8 @@ choices-claims t = (
   put-disable-reads.Learnt,
   choice-below t,
   choice.Post,
-  after-reads.Asked,
-  after-reads.Learnt,
+  plus-reads.Asked,
+  plus-reads.Learnt,
   choices-below t,
   choices.Post,
   distance-reads.Asked,
@@ -316,8 +316,8 @@ abbrev pairs-claims : ℕ → pairs-lts.Claims
 pairs-claims t = (
   gen-expr-reads.Asked,
   gen-expr-reads.Learnt,
-  after-reads.Asked,
-  after-reads.Learnt,
+  plus-reads.Asked,
+  plus-reads.Learnt,
   statement-below t,
   statement′.Post,
   pairs-below t,
@@ -332,8 +332,8 @@ par-claims t = (
   minus-reads.Learnt,
   plain-reads.Asked,
   plain-reads.Learnt,
-  after-reads.Asked,
-  after-reads.Learnt,
+  plus-reads.Asked,
+  plus-reads.Learnt,
   operation-reads.Asked,
   operation-reads.Learnt,
   put-header-reads.Asked,
@@ -356,8 +356,8 @@ abbrev repetition-claims : ℕ → repetition-lts.Claims
 repetition-claims t = (
   gen-expr-reads.Asked,
   gen-expr-reads.Learnt,
-  after-reads.Asked,
-  after-reads.Learnt,
+  plus-reads.Asked,
+  plus-reads.Learnt,
   statement-below t,
   statement′.Post,
   distance-reads.Asked,
@@ -406,7 +406,7 @@ alt-returns t c =
     let a = b .before .before .before .before in
     let m = a .before in
     alt-is _ _ _ _ _ _ _ _ (m .minus .ensures) (a .plain .ensures) (b .operation .ensures) (w .below .ensures)
-    (e .gen-enable .ensures) (l .operation2 .ensures) (o .after .ensures) (z .operation3 .ensures) (r .choices .ensures)
+    (e .gen-enable .ensures) (l .operation2 .ensures) (o .plus .ensures) (z .operation3 .ensures) (r .choices .ensures)
 
 body-returns : (t : ℕ) → body-lts.Need-returns (body-claims t) (body-at t) body.Post
 body-returns t c =
@@ -415,7 +415,7 @@ body-returns t c =
     let n = v .before in
     let i = n .before in
     let w = i .before in
-    body-variables _ _ _ _ _ _ _ _ _ (w .below .ensures) (i .if1 .taken) (n .declared .ensures) (v .after .ensures)
+    body-variables _ _ _ _ _ _ _ _ _ (w .below .ensures) (i .if1 .taken) (n .declared .ensures) (v .plus .ensures)
     (r .statement .ensures)
 
 body-returns-2 : (t : ℕ) → body-lts.Need-returns-2 (body-claims t) (body-at t) body.Post
@@ -425,7 +425,7 @@ body-returns-2 t c =
     let n = v .before in
     let i = n .before in
     let w = i .before in
-    body-channels _ _ _ _ _ _ _ _ _ (w .below .ensures) (i .if1 .left) (n .declared2 .ensures) (v .after2 .ensures)
+    body-channels _ _ _ _ _ _ _ _ _ (w .below .ensures) (i .if1 .left) (n .declared2 .ensures) (v .plus2 .ensures)
     (r .statement2 .ensures)
 
 branch-returns : (t : ℕ) → branch-lts.Need-returns (branch-claims t) (branch-at t) branch.Post
@@ -448,7 +448,7 @@ branches-returns-2 t c =
     let s = b .before .before .before .before in
     let i = s .before .before in
     branches-more _ _ _ _ _ _ _ _ _ _ (i .if1 .left) (s .put-start .ensures) (b .branch .ensures) (m .measure .ensures)
-    (l .after .ensures) (r .branches .ensures)
+    (l .plus .ensures) (r .branches .ensures)
 
 choice-returns : (t : ℕ) → choice-lts.Need-returns (choice-claims t) (choice-at t) choice.Post
 choice-returns t c =
@@ -479,7 +479,7 @@ choices-returns-2 t c =
     let w = g .before .before in
     let i = w .before in
     choices-more _ _ _ _ _ _ _ _ _ _ (i .if1 .left) (w .below .ensures) (g .gen-guard .ensures) (f .put-disable .ensures)
-    (b .choice .ensures) (n .after .ensures) (r .choices .ensures) (j .distance .ensures)
+    (b .choice .ensures) (n .plus .ensures) (r .choices .ensures) (j .distance .ensures)
 
 declaration-returns : (t : ℕ) → declaration-lts.Need-returns (declaration-claims t) (declaration-at t) declaration.Post
 declaration-returns t c =
@@ -561,7 +561,7 @@ pairs-returns-2 t c =
     let s = b .before .before in
     let e = s .before .before .before in
     let i = e .before .before in
-    if-more _ _ _ _ _ _ _ _ (i .if1 .left) (e .gen-expr .ensures) (s .after .ensures) (b .statement .ensures) (n .after2 .ensures)
+    if-more _ _ _ _ _ _ _ _ (i .if1 .left) (e .gen-expr .ensures) (s .plus .ensures) (b .statement .ensures) (n .plus2 .ensures)
     (r .pairs .ensures) (j .distance .ensures) (k .distance2 .ensures)
 
 par-returns : (t : ℕ) → par-lts.Need-returns (par-claims t) (par-at t) par.Post
@@ -606,7 +606,7 @@ par-returns-2 t c =
     let a = o .before .before .before .before in
     let m = a .before in
     let i = m .before .before in
-    par-more _ _ _ _ _ _ _ _ (i .if1 .left) (m .minus .ensures) (a .plain .ensures) (o .after .ensures) (u .operation .ensures)
+    par-more _ _ _ _ _ _ _ _ (i .if1 .left) (m .minus .ensures) (a .plain .ensures) (o .plus .ensures) (u .operation .ensures)
     (h .put-header .ensures) (e .measure .ensures) (s .starts-end .ensures) (w .below .ensures) (b .branch .ensures)
     (r .branches .ensures) (l .distance .ensures) (z .plain2 .ensures)
 
@@ -618,7 +618,7 @@ repetition-returns t c =
     let b = n .before .before .before in
     let s = b .before .before in
     let e = s .before .before .before in
-    while-is _ _ _ _ _ _ _ (e .gen-expr .ensures) (s .after .ensures) (b .statement .ensures) (n .after2 .ensures)
+    while-is _ _ _ _ _ _ _ (e .gen-expr .ensures) (s .plus .ensures) (b .statement .ensures) (n .plus2 .ensures)
     (j .distance .ensures) (k .distance2 .ensures)
 
 seq-returns : (t : ℕ) → seq-lts.Need-returns (seq-claims t) (seq-at t) seq.Post

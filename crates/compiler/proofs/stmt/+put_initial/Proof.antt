@@ -7,7 +7,7 @@ use Rattle.compiler.proofs.stmt.put_initial.Kinds as put-initial-kinds
 use Rattle.compiler.proofs.stmt.+put_initial.Lts-put_initial as put-initial-lts
 use Rattle.compiler.proofs.stmt.put_first.Reads as put-first-reads
 use Rattle.emitter.proofs.plain.Reads as plain-reads
-use Rattle.instruction.proofs.after.Reads as after-reads
+use Rattle.word.proofs.plus.Reads as plus-reads
 use Rattle.compiler.proofs.stmt.+put_initial.{statement}
 use Rattle.compiler.proofs.stmt.+put_initial.Tie.{close}
 use borrow.Author.Needs.{needs}
@@ -45,8 +45,8 @@ put-initial-claims t = (
   put-first-reads.Learnt,
   plain-reads.Asked,
   plain-reads.Learnt,
-  after-reads.Asked,
-  after-reads.Learnt,
+  plus-reads.Asked,
+  plus-reads.Learnt,
   put-initial-below t,
   put-initial.Post,
 )
@@ -71,7 +71,7 @@ put-initial-returns-2 t c =
       turn _ _ _ _ (i .if1 .left),
       ← f .put-first .ensures,
       ← p .plain .ensures,
-      ← a .after .ensures,
+      ← a .plus .ensures,
     ) (r .put-initial .ensures)
 
 pub +put-initial-spec : {M : Type 1} → statement M

@@ -7,7 +7,7 @@ use Rattle.compiler.proofs.stmt.starts_end.Kinds as starts-end-kinds
 use Rattle.compiler.proofs.stmt.+starts_end.Lts-starts_end as starts-end-lts
 use Rattle.emitter.proofs.minus.Reads as minus-reads
 use Rattle.emitter.proofs.measure.Reads as measure-reads
-use Rattle.instruction.proofs.after.Reads as after-reads
+use Rattle.word.proofs.plus.Reads as plus-reads
 use Rattle.instruction.proofs.fewest.Reads as fewest-reads
 use Rattle.compiler.proofs.stmt.+starts_end.{statement}
 use Rattle.compiler.proofs.stmt.+starts_end.Tie.{close}
@@ -52,8 +52,8 @@ starts-end-claims t = (
   minus-reads.Learnt,
   fewest-reads.Asked,
   fewest-reads.Learnt,
-  after-reads.Asked,
-  after-reads.Learnt,
+  plus-reads.Asked,
+  plus-reads.Learnt,
   starts-end-below t,
   starts-end.Post,
 )
@@ -77,8 +77,8 @@ starts-end-returns-2 t c =
       ← m .measure .ensures,
       ← f .before .minus .ensures,
       ← f .fewest .ensures .0,
-      ← a .after .ensures,
-      ← c .before .after2 .ensures,
+      ← a .plus .ensures,
+      ← c .before .plus2 .ensures,
     ) (c .starts-end .ensures)
 
 pub +starts-end-spec : {M : Type 1} → statement M

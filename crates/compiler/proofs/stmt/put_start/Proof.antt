@@ -12,7 +12,7 @@ returns c =
     let p = o .before .before .before .before in
     let m = p .before in
     rw (
-      ← m .before .before .after .ensures,
+      ← m .before .before .plus .ensures,
       ← m .minus .ensures,
       ← p .plain .ensures,
       ← o .operation .ensures,

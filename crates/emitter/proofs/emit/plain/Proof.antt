@@ -8,7 +8,7 @@ returns : tie.Need-returns
 unfolding plainInto
 returns c =
     let p = c .before .before .before in
-    simp (c .after .ensures, p .put-instruction .ensures, p .before .before .fewest .ensures .0)
+    simp (c .plus .ensures, p .put-instruction .ensures, p .before .before .fewest .ensures .0)
 
 pub plain-spec : {M : Type 1} → statement M
 plain-spec =

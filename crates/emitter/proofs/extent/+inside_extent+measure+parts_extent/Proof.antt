@@ -16,7 +16,7 @@ use Rattle.emitter.proofs.extent.+inside_extent+measure+parts_extent.Lt
 use Rattle.emitter.proofs.extent.joined.Reads as joined-reads
 use Rattle.emitter.proofs.extent.simple_extent.Reads as simple-extent-reads
 use Rattle.emitter.proofs.extent.skip_head.Reads as skip-head-reads
-use Rattle.instruction.proofs.after.Reads as after-reads
+use Rattle.word.proofs.plus.Reads as plus-reads
 use Rattle.numbers.proofs.value_at.Reads as value-at-reads
 use Rattle.emitter.proofs.extent.+inside_extent+measure+parts_extent.{statement}
 use Rattle.emitter.proofs.extent.+inside_extent+measure+parts_extent.Tie.{close}
@@ -102,8 +102,8 @@ inside-extent-claims t = (
   value-at-reads.Learnt,
   measure-below t,
   measure.Post,
-  after-reads.Asked,
-  after-reads.Learnt,
+  plus-reads.Asked,
+  plus-reads.Learnt,
 )
 
 abbrev measure-claims : ℕ → measure-lts.Claims
@@ -148,7 +148,7 @@ inside-extent-returns-2 t c =
       lt-ltb _ _ (c .before .before .if2 .taken),
       ← c .before .before .before .value-at .ensures,
       ← c .before .measure .ensures,
-      ← c .after .ensures,
+      ← c .plus .ensures,
     )
 
 inside-extent-parts-extent-requires-2 : (t : ℕ)

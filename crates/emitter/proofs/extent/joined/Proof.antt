@@ -5,7 +5,7 @@ use Rattle.emitter.proofs.extent.joined.Tie as tie
 use borrow.Author.Tests.{eq-eqb, ne-eqb}
 
 returns : tie.Need-returns
-returns c = simp (eq-eqb _ _ (c .before .if1 .taken)) (c .after .ensures)
+returns c = simp (eq-eqb _ _ (c .before .if1 .taken)) (c .plus .ensures)
 
 returns-2 : tie.Need-returns-2
 returns-2 c = simp (ne-eqb _ _ (c .before .if1 .left)) (c .larger .ensures)

@@ -6,7 +6,7 @@ use Rattle.emitter.proofs.words.extend.Reads as extend
 use Rattle.emitter.proofs.words.extend.Kinds as extend-kinds
 use Rattle.emitter.proofs.words.+extend.Lts-extend as extend-lts
 use Rattle.emitter.proofs.words.put_word.Reads as put-word-reads
-use Rattle.instruction.proofs.after.Reads as after-reads
+use Rattle.word.proofs.plus.Reads as plus-reads
 use Rattle.emitter.proofs.words.+extend.{statement}
 use Rattle.emitter.proofs.words.+extend.Tie.{close}
 use borrow.Author.Needs.{needs}
@@ -41,8 +41,8 @@ abbrev extend-claims : ℕ → extend-lts.Claims
 extend-claims t = (
   put-word-reads.Asked,
   put-word-reads.Learnt,
-  after-reads.Asked,
-  after-reads.Learnt,
+  plus-reads.Asked,
+  plus-reads.Learnt,
   extend-below t,
   extend.Post,
 )
@@ -63,8 +63,8 @@ extend-returns-2 t c =
     let x = i .before .args in
     simp (
       turn (x .count) (x .name) (x .w) (x .words .now) (i .if1 .left),
-      ← c .before .after2 .ensures,
-      ← a .after .ensures,
+      ← c .before .plus2 .ensures,
+      ← a .plus .ensures,
       ← p .put-word .ensures,
     ) (c .extend .ensures)
 

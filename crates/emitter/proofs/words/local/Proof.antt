@@ -1,20 +1,13 @@
 -- `emitter::words::local` meets its contract. Assumes nothing.
-use native.Mathlib.Omega.{arith}
 use borrow.Author.Needs.{needs}
 use borrow.Author.Tests.{lt-ltb, le-ltb}
-use mathlib.Core.Path.{_≡_}
-use lib.ListN.{getD}
-use Rattle.model.specs.Word.{less}
 use Rattle.emitter.specs.Emits.{localOf}
 use Rattle.emitter.proofs.words.local.Statement.{statement}
 use Rattle.emitter.proofs.words.local.Tie as tie
 
 returns : tie.Need-returns
 unfolding localOf
-returns c =
-    let a = c .before .before .before .args in
-    let e : c .wrapping-sub-u32 .result ≡ less (getD (a .words .now) (a .name) 0) (a .w) = omega arith in
-    simp (lt-ltb _ _ (c .before .before .if1 .taken), e)
+returns c = simp (lt-ltb _ _ (c .before .before .if1 .taken), c .less .ensures)
 
 returns-2 : tie.Need-returns-2
 unfolding localOf

@@ -1,8 +1,8 @@
--- `executor::execute::above` meets its contract. Assumes nothing.
+-- `word::above` meets its contract. Assumes nothing.
 use borrow.Author.Needs.{needs}
 use borrow.Author.Tests.{lt-ltb, le-ltb}
-use Rattle.executor.proofs.execute.above.Statement.{statement}
-use Rattle.executor.proofs.execute.above.Tie as tie
+use Rattle.word.proofs.above.Statement.{statement}
+use Rattle.word.proofs.above.Tie as tie
 
 returns : tie.Need-returns
 returns c = rw (← c .before .before .plus .ensures, ← c .before .plus2 .ensures, lt-ltb _ _ (c .if1 .taken))

@@ -1,11 +1,11 @@
--- `executor::execute::product` meets its contract. Assumes nothing.
+-- `word::product` meets its contract. Assumes nothing.
 use borrow.Author.Needs.{needs}
 use Prim.Native.Nat.{ℕ, _*_, _<_, _^_, _+_}
 use mathlib.Core.Path.{subst⁻¹}
 use lib.Pow.{pow-pos, pow-add}
 use native.Mathlib.Nat.{lt-of-le-of-lt, le-of-lt, mul-le-mul-left, mul-lt-mul-of-pos-right}
-use Rattle.executor.proofs.execute.product.Statement.{statement}
-use Rattle.executor.proofs.execute.product.Tie as tie
+use Rattle.word.proofs.product.Statement.{statement}
+use Rattle.word.proofs.product.Tie as tie
 
 -- a product of two words has twice their bits
 below : (k : ℕ) {a b : ℕ} → a < 2 ^ k → b < 2 ^ k → a * b < 2 ^ (k + k)
