@@ -9,7 +9,7 @@ use Rattle.model.specs.Instruction.{Function, j, ldlp, ldc, ldl, cj, ajw, eqc, 
 use Rattle.model.specs.Instruction.{startp, outword, stopp, ldpi, disc, diss, xor, mint, alt, altwt, altend, and, enbc, enbs, or, sum}
 use Rattle.model.specs.Instruction.{functionCode, functionOf, operationCode, operationOf, operations, coded}
 use Rattle.model.specs.Machine.{Act, fault}
-use Rattle.model.specs.Execute.{changing, operate, execute}
+use Rattle.model.specs.Execute.{reduce, changing, operate, execute}
 use Rattle.model.specs.declared.Cpu.{Cpu}
 use Rattle.model.specs.declared.Setup.{Setup}
 use Rattle.model.specs.declared.FaultKind.{FaultKind}
@@ -88,6 +88,13 @@ module _ {u : Setup} {act : Act (Unit {0})} {r q : Cpu} {l : List ℕ} (f : Cpu 
   -- and no offer is taken
   pub settled : (o : List ℕ) (b : List Bool) → Takes u (landing act) r o b l (Done q) b l
   settled o b = takes-none o b (silent settles)
+
+-- two values give one
+pub reduces :
+    {u : Setup} {act : Act (Unit {0})} {r q : Cpu} {l : List ℕ} {v : ℕ} (g : ℕ → ℕ → ℕ) → act ≡ changing (λ r. reduce (g (r .b) (r .a)) r)
+    → q ≡ reduce v r → v ≡ g (r .b) (r .a) → r .running ≡ true → r .place ≤ u .code → (o : List ℕ) (b : List Bool)
+    → Takes u (landing act) r o b l (Done q) b l
+reduces {r} g e h k = settled (λ r. reduce (g (r .b) (r .a)) r) e (h ∙ ap (λ v. reduce v r) k)
 
 -- an action that comes to another and takes no offer
 pub done-as :

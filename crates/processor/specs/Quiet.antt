@@ -50,8 +50,8 @@ KeepsHeld (Done r) b d = Unit {0}
 KeepsHeld (Fault k) b d = d ≡ b
 
 -- an action that may take an offer: from registers, offers, flags and memory to an answer, flags and memory
-pub record Takes (u : Setup) (act : Act (Unit {0})) (r : Cpu) (o : List ℕ) (b : List Bool) (l : List ℕ) (s : Step) (d : List Bool) (m : List ℕ)
-    : Type 0 where
+pub record Takes (u : Setup) (act : Act (Unit {0})) (r : Cpu) (o : List ℕ) (b : List Bool) (l : List ℕ) (s : Step) (d : List Bool)
+    (m : List ℕ) : Type 0 where
   pub said : (x : Rest) → quiet (act (world (offering o b x) u r l)) ≡ quiet (told (offering o d x) u s m)
   pub keeps : Keeps s l m
   pub keepsHeld : KeepsHeld s b d

@@ -16,7 +16,8 @@ returns c =
     let gather = c .before .before .before .before .gather in
     let is-prefix = c .before .before .before .is-prefix in
     prefix-takes _ _ (args .byte) (sym (is-prefix .ensures) ∙ c .before .before .if1 .taken)
-    (c .advanced .ensures ∙ ap (λ o. advancedTo o (args .cpu)) (c .before .prefixed .ensures ∙ rw (gather .ensures))) (pre .0 .1) (pre .0 .3)
+    (c .advanced .ensures ∙ ap (λ o. advancedTo o (args .cpu)) (c .before .prefixed .ensures ∙ rw (gather .ensures)))
+    (pre .0 .1) (pre .0 .3)
 
 execute-requires : tie.Need-execute-requires
 execute-requires c κs =

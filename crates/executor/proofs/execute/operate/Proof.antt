@@ -1,13 +1,13 @@
 -- `executor::execute::operate` meets its contract. Assumes nothing.
 use borrow.Author.Needs.{needs}
-use mathlib.Core.Path.{_∙_, ap}
+use mathlib.Core.Path.{refl, ap, _∙_}
 use Rattle.model.specs.Word.{low, less, truth, notProcess}
 use lib.Bits.{bitAnd, bitOr, bitXor}
 use Prim.Native.Nat.{_+_, _*_}
 use Rattle.model.specs.Instruction.{operationCode, rev, diff, prod, gt, ldpi, xor, mint, and, or, sum}
 use Rattle.model.specs.Machine.{stack}
-use Rattle.model.specs.Execute.{operate, push, reduce, above}
-use Rattle.executor.proofs.Executes.{operates, settled}
+use Rattle.model.specs.Execute.{operate, push, above}
+use Rattle.executor.proofs.Executes.{operates, settled, reduces}
 use Rattle.executor.proofs.execute.operate.Statement.{statement}
 use Rattle.executor.proofs.execute.operate.Tie as tie
 
@@ -20,36 +20,34 @@ returns c =
 returns-2 : tie.Need-returns-2
 unfolding operationCode operate
 returns-2 c =
-    let args = c .before .before .before .before .args in
     let pre = c .before .before .before .before .pre in
-    settled (λ r. reduce (less (r .b) (r .a)) r) (operates diff (c .before .before .match .keys2)) (c .reduce .ensures ∙ ap (λ v. reduce v (args .cpu)) (c .before .less .ensures)) (pre .0 .1) (pre .0 .3) _ _
+    reduces less (operates diff (c .before .before .match .keys2)) (c .reduce .ensures) (c .before .less .ensures) (pre .0 .1) (pre .0 .3) _ _
 
 returns-3 : tie.Need-returns-3
 unfolding operationCode operate
 returns-3 c =
-    let args = c .before .before .before .before .args in
     let pre = c .before .before .before .before .pre in
-    settled (λ r. reduce (low (r .b * r .a)) r) (operates prod (c .before .before .match .keys3)) (c .reduce2 .ensures ∙ ap (λ v. reduce v (args .cpu)) (c .before .product .ensures)) (pre .0 .1) (pre .0 .3) _ _
+    reduces (λ b a. low (b * a)) (operates prod (c .before .before .match .keys3)) (c .reduce2 .ensures) (c .before .product .ensures) (pre .0 .1) (pre .0 .3) _ _
 
 returns-4 : tie.Need-returns-4
 unfolding operationCode operate
 returns-4 c =
-    let args = c .before .before .before .before .args in
     let pre = c .before .before .before .before .pre in
-    settled (λ r. reduce (truth (above (r .b) (r .a))) r) (operates gt (c .before .before .match .keys4)) (c .reduce3 .ensures ∙ ap (λ v. reduce v (args .cpu)) (c .before .above .ensures)) (pre .0 .1) (pre .0 .3) _ _
+    reduces (λ b a. truth (above b a)) (operates gt (c .before .before .match .keys4)) (c .reduce3 .ensures) (c .before .above .ensures) (pre .0 .1) (pre .0 .3) _ _
 
 returns-5 : tie.Need-returns-5
 unfolding operationCode operate
 returns-5 c =
-    let args = c .before .before .before .before .args in
+    let r = c .before .before .before .before .args .cpu in
     let pre = c .before .before .before .before .pre in
-    settled (λ r. stack (low (r .place + r .a)) (r .b) (r .c) r) (operates ldpi (c .before .before .match .keys5)) (c .stack2 .ensures ∙ ap (λ v. stack v (args .cpu .b) (args .cpu .c) (args .cpu)) (c .before .plus .ensures)) (pre .0 .1) (pre .0 .3) _ _
+    settled (λ r. stack (low (r .place + r .a)) (r .b) (r .c) r) (operates ldpi (c .before .before .match .keys5))
+    (c .stack2 .ensures ∙ ap (λ v. stack v (r .b) (r .c) r) (c .before .plus .ensures)) (pre .0 .1) (pre .0 .3) _ _
 
 returns-6 : tie.Need-returns-6
 unfolding operationCode operate
 returns-6 c =
     let pre = c .before .before .before .before .pre in
-    settled (λ r. reduce (bitXor (r .b) (r .a)) r) (operates xor (c .before .before .match .keys6)) (c .reduce4 .ensures) (pre .0 .1) (pre .0 .3) _ _
+    reduces bitXor (operates xor (c .before .before .match .keys6)) (c .reduce4 .ensures) refl (pre .0 .1) (pre .0 .3) _ _
 
 returns-7 : tie.Need-returns-7
 unfolding operationCode operate
@@ -61,20 +59,19 @@ returns-8 : tie.Need-returns-8
 unfolding operationCode operate
 returns-8 c =
     let pre = c .before .before .before .before .pre in
-    settled (λ r. reduce (bitAnd (r .b) (r .a)) r) (operates and (c .before .before .match .keys8)) (c .reduce5 .ensures) (pre .0 .1) (pre .0 .3) _ _
+    reduces bitAnd (operates and (c .before .before .match .keys8)) (c .reduce5 .ensures) refl (pre .0 .1) (pre .0 .3) _ _
 
 returns-9 : tie.Need-returns-9
 unfolding operationCode operate
 returns-9 c =
     let pre = c .before .before .before .before .pre in
-    settled (λ r. reduce (bitOr (r .b) (r .a)) r) (operates or (c .before .before .match .keys9)) (c .reduce6 .ensures) (pre .0 .1) (pre .0 .3) _ _
+    reduces bitOr (operates or (c .before .before .match .keys9)) (c .reduce6 .ensures) refl (pre .0 .1) (pre .0 .3) _ _
 
 returns-10 : tie.Need-returns-10
 unfolding operationCode operate
 returns-10 c =
-    let args = c .before .before .before .before .args in
     let pre = c .before .before .before .before .pre in
-    settled (λ r. reduce (low (r .b + r .a)) r) (operates sum (c .before .before .match .keys10)) (c .reduce7 .ensures ∙ ap (λ v. reduce v (args .cpu)) (c .before .plus2 .ensures)) (pre .0 .1) (pre .0 .3) _ _
+    reduces (λ b a. low (b + a)) (operates sum (c .before .before .match .keys10)) (c .reduce7 .ensures) (c .before .plus2 .ensures) (pre .0 .1) (pre .0 .3) _ _
 
 pub operate-spec : {M : Type 1} → statement M
 operate-spec =

@@ -30,7 +30,8 @@ returns-3 c =
     let pre = c .before .before .before .before .before .before .pre in
     let match = c .before .before .before .before .match in
     done-as _ _ (operates startp (match .keys3))
-    (like (c .before .before .start-process .ensures (args .setup) (pre .0 .2)) (λ x. poke-join-lands x _ _ _ (pre .0 .1) (pre .0 .3) _ _ _))
+    (like (c .before .before .start-process .ensures (args .setup) (pre .0 .2))
+    (λ x. poke-join-lands x _ _ _ (pre .0 .1) (pre .0 .3) _ _ _))
 
 returns-4 : tie.Need-returns-4
 unfolding operationCode operate

@@ -23,7 +23,9 @@ returns-3 c =
     let far = c .before .before .before .before .before .before .before .before .before .before in
     let args = far .before .before .before .args in
     let u = c .unchanged3 .ensures in
-    rw (kept-fault (args .machine) (args .code .now) (args .memory .now) (args .budget) (omega arith) (omega arith) (c .before .before .fault .given .1)) (u .0, (u .1, refl))
+    rw (kept-fault (args .machine) (args .code .now) (args .memory .now) (args .budget) (omega arith) (omega arith)
+    (c .before .before .fault .given .1))
+    (u .0, (u .1, refl))
 
 pub run-spec : {M : Type 1} → statement M
 run-spec =

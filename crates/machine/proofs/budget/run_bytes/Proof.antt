@@ -1,5 +1,5 @@
--- `machine::budget::run_bytes` meets its contract. The loop's invariant: the run goes on from here with what is left of the budget, which is
--- the measure. Assumes nothing.
+-- `machine::budget::run_bytes` meets its contract. The loop's invariant: the run goes on from here with what is left of the budget,
+-- which is the measure. Assumes nothing.
 use borrow.Author.Needs.{needs}
 use Prim.Native.Nat.{suc, _+_, _≤_, _-_}
 use native.Mathlib.Omega.{arith}
@@ -13,7 +13,10 @@ use Rattle.machine.proofs.budget.run_bytes.Tie as tie
 
 abbrev Inv-loop : tie.InvT-loop
 Inv-loop code memory₀ size setup offers budget cpu₀ held₀ n₀ memory cpu held n =
-    Reaches setup code budget offers cpu₀ held₀ memory₀ n cpu held memory × (n ≤ budget) × (length memory ≡ length memory₀) × (length held ≡ 8)
+    Reaches setup code budget offers cpu₀ held₀ memory₀ n cpu held memory
+    × (n ≤ budget)
+    × (length memory ≡ length memory₀)
+    × (length held ≡ 8)
 
 abbrev μ-loop : tie.MeasureT-loop
 μ-loop code memory₀ size setup offers budget cpu₀ held₀ n₀ memory cpu held n = budget - n
@@ -56,8 +59,12 @@ loop-again c =
     let step = c .before .before .before .before .before .step in
     let l = loop .inv in
     let e : loop .n + 1 ≡ suc (loop .n) = omega arith in
-    let s = rw (c .before .r .given .1) at (step .ensures) in
-    (rw e (reaches-on (l .0) (if1 .left) (if2 .left) (omega (arith, l .1, if3 .left)) s), omega (arith, l .1, if3 .left), step .kept .1 .0 ∙ l .2, step .ensures .long ∙ l .3)
+    let s = rw (c .before .r .given .1) at (step .ensures) in (
+      rw e (reaches-on (l .0) (if1 .left) (if2 .left) (omega (arith, l .1, if3 .left)) s),
+      omega (arith, l .1, if3 .left),
+      step .kept .1 .0 ∙ l .2,
+      step .ensures .long ∙ l .3,
+    )
 
 same-length : tie.Need-same-length Inv-loop μ-loop
 same-length c = c .before .before .loop .inv .2

@@ -12,7 +12,8 @@ unfolding jump
 returns c =
     let args = c .before .before .before .before .before .before .before .args in
     let plus = c .before .before .before .before .before .plus in
-    like (c .land .ensures (args .setup) refl _) (λ x. rw (lt-ltb _ _ (c .before .before .if1 .taken), c .before .goto .ensures, ← plus .ensures))
+    like (c .land .ensures (args .setup) refl _)
+    (λ x. rw (lt-ltb _ _ (c .before .before .if1 .taken), c .before .goto .ensures, ← plus .ensures))
 
 returns-2 : tie.Need-returns-2
 returns-2 c =
