@@ -55,16 +55,16 @@ pub fn deliver(
     cpu: model::Cpu,
     c: u32,
     p: u32,
-    message: u32,
+    place: u32,
     v: u32,
 ) -> Step
     requires { ⌜ (size ≤ length (now memory)) × (cpu .running ≡ true) ⌝ }
-    ensures { λ r. ⌜ Works size (hand c p message v) cpu (now (memory .entry)) r (now (memory .exit)) ⌝ }
+    ensures { λ r. ⌜ Works size (hand c p place v) cpu (now (memory .entry)) r (now (memory .exit)) ⌝ }
 {
-    match swap(memory, size, message, v) {
+    match swap(memory, size, place, v) {
         Peeked::Value(old) => {
             let step = poke_join(memory, size, cpu, c, 2147483648, p);
-            undo(memory, message, old, step)
+            undo(memory, place, old, step)
         }
         Peeked::Fault(k) => Step::Fault(k),
     }
