@@ -10,7 +10,7 @@ use processor::stack;
 use word::plus;
 ghost use mathlib.Core.Path.{_≡_};
 ghost use mathlib.Core.Bool.{true};
-ghost use Prim.Native.Nat.{ℕ, _≤_, _<_};
+ghost use Prim.Native.Nat.{_≤_, _<_};
 ghost use lib.ListN.{length};
 ghost use Rattle.model.specs.Machine.{memorySize};
 ghost use Rattle.model.specs.Execute.{disableChannel, disableSkip, endAlt};

@@ -11,7 +11,7 @@ use processor::undo;
 use word::less;
 ghost use mathlib.Core.Path.{_≡_};
 ghost use mathlib.Core.Bool.{true};
-ghost use Prim.Native.Nat.{ℕ, _≤_};
+ghost use Prim.Native.Nat.{_≤_};
 ghost use lib.ListN.{length};
 ghost use Rattle.model.specs.Machine.{memorySize, stateWord, poke as pokeOf};
 ghost use Rattle.model.specs.Execute.{beginAlt, enableChannel, enableSkip, waitAlt};

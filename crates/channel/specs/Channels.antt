@@ -30,14 +30,19 @@ insideInput = landing (do
       (do waitAt (r .b) (r .c); release)
       (do v ← receive p; poke (r .c) v; received (r .b) p v))
 
+-- what OUTWORD does with the process at the channel's word: in an ALT it is told and the sender waits; in IN it gets the value
+abbrev sending : Cpu → (p : ℕ) → Act (Unit {0})
+sending r p = do
+  s ← peek (stateWord p)
+  cond (isAltState s)
+      (do waitAt (r .b) (r .workspace); notify p s; release)
+      (deliver (r .b) p s (r .a))
+
 -- OUTWORD where a process is at the channel's word
 abbrev pub outputTo : (p : ℕ) → Act (Unit {0})
 outputTo p = landing (do
   r ← registers
-  s ← peek (stateWord p)
-  cond (isAltState s)
-      (do waitAt (r .b) (r .workspace); notify p s; release)
-      (deliver (r .b) p s (r .a)))
+  sending r p)
 
 -- OUTWORD where the value stands in W + 0, with the registers as they are
 abbrev pub outputBehind : Cpu → Act (Unit {0})
@@ -45,8 +50,4 @@ outputBehind r = landing (do
   p ← peek (r .b)
   cond (eqb p notProcess)
       (do waitAt (r .b) (r .workspace); release)
-      (do
-        s ← peek (stateWord p)
-        cond (isAltState s)
-            (do waitAt (r .b) (r .workspace); notify p s; release)
-            (deliver (r .b) p s (r .a))))
+      (sending r p))

@@ -9,7 +9,7 @@ use processor::swap;
 use word::less;
 ghost use mathlib.Core.Path.{_≡_};
 ghost use mathlib.Core.Bool.{true};
-ghost use Prim.Native.Nat.{ℕ, _≤_};
+ghost use Prim.Native.Nat.{_≤_};
 ghost use lib.ListN.{length};
 ghost use Rattle.model.specs.Execute.{receive as receiveOf, inputMessage};
 ghost use Rattle.model.specs.Machine.{memorySize};

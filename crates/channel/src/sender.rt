@@ -10,7 +10,7 @@ use processor::undo;
 use word::less;
 ghost use mathlib.Core.Path.{_≡_};
 ghost use mathlib.Core.Bool.{true};
-ghost use Prim.Native.Nat.{ℕ, _≤_};
+ghost use Prim.Native.Nat.{_≤_};
 ghost use lib.ListN.{length};
 ghost use Rattle.model.specs.Execute.{outputWord};
 ghost use Rattle.processor.specs.Pieces.{landing};

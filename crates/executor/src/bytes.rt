@@ -4,7 +4,7 @@ use processor::Step;
 use word::plus;
 ghost use mathlib.Core.Path.{_≡_};
 ghost use mathlib.Core.Bool.{true};
-ghost use Prim.Native.Nat.{ℕ, suc, min, _≤_, _<_};
+ghost use Prim.Native.Nat.{suc, min, _≤_, _<_};
 ghost use lib.ListN.{length};
 ghost use Rattle.model.specs.Machine.{memorySize};
 ghost use Rattle.model.specs.Run.{act as actOf, byte as byteOf};

@@ -13,7 +13,7 @@ use word::plus;
 use word::product;
 ghost use mathlib.Core.Path.{_≡_};
 ghost use mathlib.Core.Bool.{true};
-ghost use Prim.Native.Nat.{ℕ, _≤_};
+ghost use Prim.Native.Nat.{_≤_};
 ghost use lib.ListN.{length};
 ghost use lib.Dec.{eqb};
 ghost use Rattle.model.specs.Word.{truth};
@@ -87,7 +87,7 @@ fn conditional_jump(cpu: model::Cpu, code: u32, n: u32) -> Step
     Step::Done(pop(cpu))
 }
 
-// The operations of an ALT.
+// The operations of an ALT: 47 DISC, 48 DISS, 67 ALT, 68 ALTWT, 69 ALTEND, 72 ENBC, 73 ENBS. Any other number is a fault (refusal 12).
 fn operate_alt(
     memory: &mut [u32],
     size: u64,
@@ -113,7 +113,7 @@ fn operate_alt(
     }
 }
 
-// The operations on processes and channels.
+// The operations on processes and channels: 3 ENDP, 7 IN, 13 STARTP, 15 OUTWORD, 21 STOPP.
 fn operate_process(
     memory: &mut [u32],
     size: u64,
@@ -139,7 +139,8 @@ fn operate_process(
     }
 }
 
-// The operations: first those on the registers alone, which are the most frequent.
+// The operations: first those on the registers alone, which are the most frequent. 0 REV, 4 DIFF, 8 PROD, 9 GT, 27 LDPI, 51 XOR, 66 MINT,
+// 70 AND, 75 OR, 82 SUM.
 fn operate(
     memory: &mut [u32],
     size: u64,
@@ -170,7 +171,7 @@ fn operate(
     }
 }
 
-// A direct function with its operand.
+// A direct function with its operand: 0 J, 1 LDLP, 4 LDC, 7 LDL, 10 CJ, 11 AJW, 12 EQC, 13 STL, 15 OPR. Any other is a fault (refusal 12).
 pub fn execute(
     memory: &mut [u32],
     size: u64,

@@ -2,7 +2,7 @@
 use executor::step;
 use processor::Step;
 ghost use mathlib.Core.Path.{_≡_};
-ghost use Prim.Native.Nat.{ℕ, _≤_};
+ghost use Prim.Native.Nat.{_≤_};
 ghost use lib.ListN.{length};
 ghost use Rattle.model.specs.Machine.{memorySize};
 ghost use Rattle.model.specs.Run.{run as running};

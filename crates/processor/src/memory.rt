@@ -1,7 +1,7 @@
 // Words of the machine's memory. `size` is how many there are; the lent memory has at least as many.
 ghost use mathlib.Core.Path.{_≡_};
-ghost use Prim.Native.Nat.{ℕ, _≤_};
-ghost use lib.ListN.{length, set};
+ghost use Prim.Native.Nat.{_≤_};
+ghost use lib.ListN.{length};
 ghost use Rattle.model.specs.Machine.{peek as peekOf, poke as pokeOf};
 ghost use Rattle.processor.specs.Seen.{Works, Finds, looked, written, undone};
 
