@@ -157,7 +157,7 @@ module _ (S : Setting) where
   cont-bound (c-hop {i} {t} e h l c) = omega (arith, cont-bound c, rises-le (suc i) t l (cont-inside c), up e)
 
   -- the words of a VAR's initialisation
-  init-at : {c c′ : ℕ} (f : Instruction) (n : ℕ) → Seg (S .xs) c (initialise f n) c′ → (j : ℕ) → j < n
+  pub init-at : {c c′ : ℕ} (f : Instruction) (n : ℕ) → Seg (S .xs) c (initialise f n) c′ → (j : ℕ) → j < n
       → At S (c + (j + j)) f × At S (suc (c + (j + j))) (plain stl j)
   unfolding initialise
   init-at f zero g j h = absurd (omega arith)

@@ -1,0 +1,418 @@
+-- Every accepted program is fine: its body is a part of its own, and the branches of its PARs are parts that are apart.
+use Prim.Native.Nat.{ℕ, suc, _+_, _-_, _≤_}
+use native.Mathlib.Omega.{arith}
+use mathlib.Core.Path.{_≡_, refl, ap, _∙_}
+use mathlib.Core.Logic.{inr, ⊎-elim}
+use mathlib.Core.Bool.{false}
+use mathlib.Core.List.{List, [], _++_, List·Memᴰ, List·Memᴰ·append-cases, Memᴰ·append-left, Memᴰ·append-right, List·Memᴰ·not-nil}
+use mathlib.Core.List.{List·Memᴰ·head, List·Memᴰ·tail}
+use mathlib.Core.Option.{none}
+use Rattle.model.specs.Syntax.{Site, inputOf, outputOf, declared, Expr, constant, variable, NOT, binary, Whole, Stmt, SKIP, STOP}
+use Rattle.model.specs.Syntax.{assign, input, output, VAR, CHAN, SEQ, PAR, IF, WHILE, ALT, Stmts, noStmt, stmt, Pairs, noPair, pair}
+use Rattle.model.specs.Syntax.{Guards, noGuard, inputGuard, skipGuard, Program}
+use Rattle.model.specs.Reader.{Scope, names, numbered, withVariables, withChannels, program}
+use Rattle.model.specs.Usage.{Usage, _⊕_, reads, reading, changing, inputting, usage, usageAll, usagePairs, usageGuards, clash}
+use Rattle.model.specs.Usage.{clashesLater, anyClash, firstClash, firstClashAll, firstClashPairs, firstClashGuards}
+use Rattle.model.specs.Counts.{registers, need, mostNeed, sumNeed, pairNeed, guardNeed, firstDeep, firstDeepAll, firstDeepPairs}
+use Rattle.model.specs.Counts.{firstDeepGuards}
+use Rattle.model.specs.Layout.{base, wordOf, workspaceOf, layout}
+use Rattle.model.specs.Accept.{accept}
+use Rattle.model.proofs.Well.{WellExpr, Well, WellAll, WellPairs, WellGuards, WellProgram, outermost, Placed, PlacedAll}
+use Rattle.model.proofs.Well.{PlacedPairs, PlacedGuards, Laid, LaidAll, LaidBranches, LaidPairs, LaidGuards}
+use Rattle.model.proofs.Readers.{read-well}
+use Rattle.model.proofs.Accepts.{Passed, accept-reads, accept-passed, orElse-none, clash-par, deep-assign, deep-output, deep-while}
+use Rattle.model.proofs.Accepts.{deep-stmt, deep-pair, deep-input-guard, deep-skip-guard}
+use Rattle.model.proofs.Lays.{program-laid}
+use Rattle.model.proofs.Values.{FineExpr}
+use Rattle.model.proofs.Parts.{Part, Ending, the-end, joins, declares, declaresAll, declaresPairs, declaresGuards, partOf, Disjoint}
+use Rattle.model.proofs.Parts.{Apart, Within, FineWhole, Fine, FineAll, FineBranches, Beside, FinePairs, FineGuards}
+use Rattle.model.proofs.Uses.{Between, between-wider, between-apart, names-between, placed-le}
+use Rattle.model.proofs.Uses.{declares-from, uses-from, neither, clash-disjoint}
+
+need-two : (s : Stmt) → 2 ≤ need s
+unfolding need
+need-two SKIP = omega arith
+need-two STOP = omega arith
+need-two (assign x e) = omega arith
+need-two (input c x) = omega arith
+need-two (output c e) = omega arith
+need-two (VAR p n s) = omega (arith, need-two s)
+need-two (CHAN p n s) = omega (arith, need-two s)
+need-two (SEQ ss) = omega arith
+need-two (PAR p ss) = omega arith
+need-two (IF ps) = omega arith
+need-two (WHILE e s) = omega arith
+need-two (ALT gs) = omega arith
+
+-- a part may do what a usage says, and change the names that are declared
+pub record Covers (a : Part) (u : Usage) (ds : List Site) : Type 0 where
+  pub reads : Within (u .uses) (a .reads)
+  pub changes : Within (u .changes) (a .changes)
+  pub declares : Within ds (a .changes)
+  pub inputs : Within (u .inputs) (a .inputs)
+  pub outputs : Within (u .outputs) (a .outputs)
+
+module _ {a : Part} (u v : Usage) where
+  covers-first : (ds es : List Site) → Covers a (u ⊕ v) (ds ++ es) → Covers a u ds
+  covers-first ds es c =
+      record {
+        reads = λ x m. c .reads x (Memᴰ·append-left _ m);
+        changes = λ x m. c .changes x (Memᴰ·append-left _ m);
+        declares = λ x m. c .declares x (Memᴰ·append-left _ m);
+        inputs = λ x m. c .inputs x (Memᴰ·append-left _ m);
+        outputs = λ x m. c .outputs x (Memᴰ·append-left _ m);
+      }
+
+  -- what comes after a part without declarations
+  covers-after : (ds : List Site) → Covers a (u ⊕ v) ds → Covers a v ds
+  covers-after ds c =
+      record {
+        reads = λ x m. c .reads x (Memᴰ·append-right (u .uses) m);
+        changes = λ x m. c .changes x (Memᴰ·append-right (u .changes) m);
+        declares = c .declares;
+        inputs = λ x m. c .inputs x (Memᴰ·append-right (u .inputs) m);
+        outputs = λ x m. c .outputs x (Memᴰ·append-right (u .outputs) m);
+      }
+
+  -- and what stands before all declarations
+  covers-before : (ds : List Site) → Covers a (u ⊕ v) ds → Covers a u []
+  covers-before ds c =
+      record {
+        reads = λ x m. c .reads x (Memᴰ·append-left _ m);
+        changes = λ x m. c .changes x (Memᴰ·append-left _ m);
+        declares = λ x m. absurd (List·Memᴰ·not-nil m);
+        inputs = λ x m. c .inputs x (Memᴰ·append-left _ m);
+        outputs = λ x m. c .outputs x (Memᴰ·append-left _ m);
+      }
+
+covers-declared : {a : Part} (u : Usage) (ds es : List Site) → Covers a u (ds ++ es) → Covers a u es
+covers-declared u ds es c =
+    record {
+      reads = c .reads;
+      changes = c .changes;
+      declares = λ x m. c .declares x (Memᴰ·append-right ds m);
+      inputs = c .inputs;
+      outputs = c .outputs;
+    }
+
+covers-second : {a : Part} (u v : Usage) (ds es : List Site) → Covers a (u ⊕ v) (ds ++ es) → Covers a v es
+covers-second u v ds es c = covers-declared v ds es (covers-after u v (ds ++ es) c)
+
+-- a part of its own
+covers-own : (w : ℕ) (e : Ending) (s : Stmt) → Covers (partOf w e s) (usage s) (declares s)
+covers-own w e s =
+    record {
+      reads = λ x m. m;
+      changes = λ x m. Memᴰ·append-left _ m;
+      declares = λ x m. Memᴰ·append-right (usage s .changes) m;
+      inputs = λ x m. m;
+      outputs = λ x m. m;
+    }
+
+-- names in scope are among these variables and channels, and the variables were declared before a place
+pub record Scoped (sc : Scope) (vars chans : List Site) (lo : ℕ) : Type 0 where
+  pub variables : Within (sc .variables) vars
+  pub channels : Within (sc .channels) chans
+  pub before : (x : Site) → List·Memᴰ x (sc .variables) → Between 0 lo x
+
+scoped-later : {sc : Scope} {vars chans : List Site} {lo mid : ℕ} → lo ≤ mid → Scoped sc vars chans lo → Scoped sc vars chans mid
+scoped-later h k =
+    record { variables = k .variables; channels = k .channels; before = λ x m. between-wider (omega arith) h (k .before x m) }
+
+-- names that come last in scope come first in these lists
+turned-round : (l m n : List Site) → Within l m → Within (l ++ n) (n ++ m)
+turned-round l m n f x t =
+    ⊎-elim (λ a. Memᴰ·append-right n (f x a)) (λ a. Memᴰ·append-left m a) (List·Memᴰ·append-cases l t)
+
+scoped-var : (sc : Scope) (vars chans : List Site) (lo p n : ℕ) → lo ≤ p → Scoped sc vars chans lo
+    → Scoped (withVariables p n sc) (names p n ++ vars) chans (suc p)
+scoped-var sc vars chans lo p n h k =
+    record {
+      variables = turned-round (sc .variables) vars (names p n) (k .variables);
+      channels = k .channels;
+      before =
+          λ x m.
+          ⊎-elim (λ t. between-wider (omega arith) (omega arith) (k .before x t))
+          (λ t. names-between p n (omega arith) (omega arith) x t)
+          (List·Memᴰ·append-cases (sc .variables) m);
+    }
+
+scoped-chan : (sc : Scope) (vars chans : List Site) (lo p n : ℕ) → lo ≤ p → Scoped sc vars chans lo
+    → Scoped (withChannels p n sc) vars (names p n ++ chans) (suc p)
+scoped-chan sc vars chans lo p n h k =
+    record {
+      variables = k .variables;
+      channels = turned-round (sc .channels) chans (names p n) (k .channels);
+      before = λ x m. between-wider (omega arith) (omega arith) (k .before x m);
+    }
+
+-- an expression whose variables are in scope and read
+scoped-expr : (sc : Scope) (vars : List Site) → Within (sc .variables) vars → (e : Expr) → WellExpr sc e → FineExpr vars e
+scoped-expr sc vars sub (constant n) h = h
+scoped-expr sc vars sub (variable x) h = sub x h
+scoped-expr sc vars sub (NOT e) h = scoped-expr sc vars sub e h
+scoped-expr sc vars sub (binary op l r) h = (scoped-expr sc vars sub l (h .0), scoped-expr sc vars sub r (h .1))
+
+read-expr : (sc : Scope) (live : List Site) (e : Expr) → WellExpr sc e → Within (reads e) live → FineExpr live e
+unfolding reads
+read-expr sc live (constant n) h f = h
+read-expr sc live (variable x) h f = f x (List·Memᴰ·head refl)
+read-expr sc live (NOT e) h f = read-expr sc live e h f
+read-expr sc live (binary op l r) h f = (
+  read-expr sc live l (h .0) (λ x m. f x (Memᴰ·append-left (reads r) m)),
+  read-expr sc live r (h .1) (λ x m. f x (Memᴰ·append-right (reads l) m)),
+)
+
+fine-whole : (a : Part) (sc : Scope) (vars : List Site) → Within (sc .variables) vars → (e : Whole) → WellExpr sc (e .expr)
+    → Within (reads (e .expr)) (a .reads) → registers (e .expr) ≤ 3 → FineWhole a vars e
+fine-whole a sc vars sub e h f r = (scoped-expr sc vars sub (e .expr) h, read-expr sc (a .reads) (e .expr) h f, r)
+
+clash-stmt : (s : Stmt) (ss : Stmts) → firstClashAll (stmt s ss) ≡ none → (firstClash s ≡ none) × (firstClashAll ss ≡ none)
+unfolding firstClashAll
+clash-stmt s ss h = orElse-none (firstClash s) (firstClashAll ss) h
+
+clash-pair : (e : Whole) (s : Stmt) (ps : Pairs) → firstClashPairs (pair e s ps) ≡ none
+    → (firstClash s ≡ none) × (firstClashPairs ps ≡ none)
+unfolding firstClashPairs
+clash-pair e s ps h = orElse-none (firstClash s) (firstClashPairs ps) h
+
+clash-input-guard : (e : Whole) (c x : Site) (s : Stmt) (gs : Guards) → firstClashGuards (inputGuard e c x s gs) ≡ none
+    → (firstClash s ≡ none) × (firstClashGuards gs ≡ none)
+unfolding firstClashGuards
+clash-input-guard e c x s gs h = orElse-none (firstClash s) (firstClashGuards gs) h
+
+clash-skip-guard : (e : Whole) (s : Stmt) (gs : Guards) → firstClashGuards (skipGuard e s gs) ≡ none
+    → (firstClash s ≡ none) × (firstClashGuards gs ≡ none)
+unfolding firstClashGuards
+clash-skip-guard e s gs h = orElse-none (firstClash s) (firstClashGuards gs) h
+
+-- of two statements of one scope that stand one after the other, none declares what the other uses
+module _ (sc : Scope) (lo : ℕ) (before : (x : Site) → List·Memᴰ x (sc .variables) → Between 0 lo x) where
+  earlier-declares : (s t : Stmt) (mid lo₂ hi : ℕ) → Placed lo mid s → mid ≤ lo₂ → Well sc t → Placed lo₂ hi t
+      → Disjoint (declares s) (usage t .uses)
+  earlier-declares s t mid lo₂ hi hs le wt ht x m u =
+      ⊎-elim (λ k. List·Memᴰ·not-nil k)
+      (λ b. ⊎-elim (λ k. between-apart (omega arith) (before x k) b) (λ k. between-apart le b k) (uses-from t sc wt ht .origin x u))
+      (declares-from s hs .origin x m)
+
+  later-declares : (s t : Stmt) (mid lo₂ hi : ℕ) → Well sc s → Placed lo mid s → mid ≤ lo₂ → Placed lo₂ hi t
+      → Disjoint (declares t) (usage s .uses)
+  later-declares s t mid lo₂ hi ws hs le ht x m u =
+      let rising = placed-le s hs in
+      ⊎-elim (λ k. List·Memᴰ·not-nil k)
+      (λ b. ⊎-elim (λ k. between-apart (omega arith) (before x k) b) (λ k. between-apart le k b) (uses-from s sc ws hs .origin x u))
+      (declares-from t ht .origin x m)
+
+  -- two branches of a PAR
+  branches-apart : (s t : Stmt) (mid lo₂ hi : ℕ) → Well sc s → Placed lo mid s → mid ≤ lo₂ → Well sc t → Placed lo₂ hi t
+      → clash (usage s) (usage t) ≡ false → (w d e : ℕ) → d + need s ≤ e
+      → Apart (partOf (w - d) (joins d) s) (partOf (w - e) (joins e) t)
+  branches-apart s t mid lo₂ hi ws hs le wt ht c w d e far =
+      let apart = clash-disjoint (usage s) (usage t) c in
+      record {
+        words = inr (omega arith);
+        left =
+            λ x m u.
+            ⊎-elim (λ k. apart .0 x k u) (λ k. earlier-declares s t mid lo₂ hi hs le wt ht x k u)
+            (List·Memᴰ·append-cases (usage s .changes) m);
+        right =
+            λ x m u.
+            ⊎-elim (λ k. apart .1 x k u) (λ k. later-declares s t mid lo₂ hi ws hs le ht x k u)
+            (List·Memᴰ·append-cases (usage t .changes) m);
+        inputs = apart .2;
+        outputs = apart .3;
+      }
+
+module _ (word : Site → ℕ) where
+  -- a branch and all later ones
+  beside : (ss : Stmts) (sc : Scope) (lo : ℕ) → ((x : Site) → List·Memᴰ x (sc .variables) → Between 0 lo x)
+      → (s : Stmt) (mid lo₂ hi : ℕ) → Well sc s → Placed lo mid s → mid ≤ lo₂ → WellAll sc ss → PlacedAll lo₂ hi ss
+      → clashesLater (usage s) ss ≡ false → (w d e : ℕ) → d + need s ≤ e
+      → Beside word (partOf (w - d) (joins d) s) w e ss
+  unfolding clashesLater
+  beside noStmt sc lo before s mid lo₂ hi ws hs le wss hss c w d e far = tt
+  beside (stmt t ss) sc lo before s mid lo₂ hi ws hs le wss hss c w d e far =
+      let (no-clash, later) = neither (clash (usage s) (usage t)) (clashesLater (usage s) ss) c in
+      let rising = placed-le t (hss .1) in (
+        branches-apart sc lo before s t mid lo₂ (hss .0) ws hs le (wss .0) (hss .1) no-clash w d e far,
+        beside ss sc lo before s mid (hss .0) hi ws hs (omega arith) (wss .1) (hss .2) later w d (e + need t) (omega arith),
+      )
+
+  module _ (at : ℕ → ℕ) (named : (p k : ℕ) → word (declared p k) ≡ at p + k) where
+    mutual
+      unfolding need usage declares firstClash firstDeep anyClash
+
+      -- a statement of a part is fine, where the part may do what it does and has the words that it needs
+      pub fine : (s : Stmt) (a : Part) (sc : Scope) (vars chans : List Site) (lo hi w : ℕ) → Scoped sc vars chans lo
+          → Well sc s → Placed lo hi s → Laid at w s → Covers a (usage s) (declares s)
+          → firstClash s ≡ none → firstDeep s ≡ none → a .bottom + need s ≤ w → w ≤ a .top
+          → Fine word a vars chans w s
+      fine SKIP a sc vars chans lo hi w k h pl l c f d n t = tt
+      fine STOP a sc vars chans lo hi w k h pl l c f d n t = n
+      fine (assign x e) a sc vars chans lo hi w k h pl l c f d n t = (
+        (k .variables x (h .0), c .changes x (List·Memᴰ·head refl)),
+        fine-whole a sc vars (k .variables) e (h .1) (λ y m. c .reads y (List·Memᴰ·tail m)) (deep-assign x e d),
+      )
+      fine (input ch x) a sc vars chans lo hi w k h pl l c f d n t = (
+        n,
+        (k .variables x (h .1), c .changes x (List·Memᴰ·head refl)),
+        k .channels ch (h .0 .0),
+        c .inputs ch (List·Memᴰ·head refl),
+      )
+      fine (output ch e) a sc vars chans lo hi w k h pl l c f d n t = (
+        n,
+        fine-whole a sc vars (k .variables) e (h .1) (c .reads) (deep-output ch e d),
+        k .channels ch (h .0 .0),
+        c .outputs ch (List·Memᴰ·head refl),
+      )
+      fine (VAR p m s) a sc vars chans lo hi w k h pl l c f d n t = (
+        h .0,
+        omega (arith, need-two s),
+        (λ j b. named p j ∙ ap (λ v. v + j) (l .0)),
+        (λ x i. c .declares x (Memᴰ·append-left (declares s) i)),
+        fine s a (withVariables p m sc) (names p m ++ vars) chans (suc p) hi (w - m) (scoped-var sc vars chans lo p m (pl .0) k)
+            (h .2) (pl .1) (l .1) (covers-declared (usage s) (names p m) (declares s) c) f d (omega arith) (omega arith),
+      )
+      fine (CHAN p m s) a sc vars chans lo hi w k h pl l c f d n t = (
+        h .0,
+        omega (arith, need-two s),
+        (λ j b. named p j ∙ ap (λ v. v + j) (l .0)),
+        fine s a (withChannels p m sc) vars (names p m ++ chans) (suc p) hi (w - m) (scoped-chan sc vars chans lo p m (pl .0) k)
+            (h .2) (pl .1) (l .1) c f d (omega arith) (omega arith),
+      )
+      fine (SEQ ss) a sc vars chans lo hi w k h pl l c f d n t = fine-all ss a sc vars chans lo hi w k h pl l c f d (omega arith) t
+      fine (PAR p ss) a sc vars chans lo hi w k h pl l c f d n t =
+          let (apart, inner) = clash-par p ss f in (
+            omega arith,
+            fine-branches ss a sc vars chans lo hi (w - 2) 0 (w - 2) (omega arith) k (h .1) pl l c apart inner d (omega arith) (omega arith),
+          )
+      fine (IF ps) a sc vars chans lo hi w k h pl l c f d n t = (
+        omega arith,
+        fine-pairs ps a sc vars chans lo hi w k h pl l c f d (omega arith) t,
+      )
+      fine (WHILE e s) a sc vars chans lo hi w k h pl l c f d n t =
+          let e-s = deep-while e s d in (
+            omega arith,
+            fine-whole a sc vars (k .variables) e (h .0) (covers-before (reading e) (usage s) (declares s) c .reads) (e-s .0),
+            fine s a sc vars chans lo hi w k (h .1) pl l (covers-after (reading e) (usage s) (declares s) c) f (e-s .1) (omega arith) t,
+          )
+      fine (ALT gs) a sc vars chans lo hi w k h pl l c f d n t = (
+        omega arith,
+        fine-guards gs a sc vars chans lo hi w k h pl l c f d (omega arith) t,
+      )
+
+      fine-all : (ss : Stmts) (a : Part) (sc : Scope) (vars chans : List Site) (lo hi w : ℕ) → Scoped sc vars chans lo
+          → WellAll sc ss → PlacedAll lo hi ss → LaidAll at w ss → Covers a (usageAll ss) (declaresAll ss)
+          → firstClashAll ss ≡ none → firstDeepAll ss ≡ none → a .bottom + mostNeed ss ≤ w → w ≤ a .top
+          → FineAll word a vars chans w ss
+      fine-all noStmt a sc vars chans lo hi w k h pl l c f d n t = tt
+      fine-all (stmt s ss) a sc vars chans lo hi w k h pl l c f d n t =
+          let fs = clash-stmt s ss f in
+          let ds = deep-stmt s ss d in (
+            fine s a sc vars chans lo (pl .0) w k (h .0) (pl .1) (l .0)
+                (covers-first (usage s) (usageAll ss) (declares s) (declaresAll ss) c) (fs .0) (ds .0) (omega arith) t,
+            fine-all ss a sc vars chans (pl .0) hi w (scoped-later (placed-le s (pl .1)) k) (h .1) (pl .2) (l .1)
+                (covers-second (usage s) (usageAll ss) (declares s) (declaresAll ss) c) (fs .1) (ds .1) (omega arith) t,
+          )
+
+      -- the branches of a PAR, from the one at distance d on, which is at v
+      fine-branches : (ss : Stmts) (a : Part) (sc : Scope) (vars chans : List Site) (lo hi w d v : ℕ) → v ≡ w - d
+          → Scoped sc vars chans lo
+          → WellAll sc ss → PlacedAll lo hi ss → LaidBranches at v ss → Covers a (usageAll ss) (declaresAll ss)
+          → anyClash ss ≡ false → firstClashAll ss ≡ none → firstDeepAll ss ≡ none → a .bottom + d + sumNeed ss ≤ w → w ≤ a .top
+          → FineBranches word a vars chans w d ss
+      fine-branches noStmt a sc vars chans lo hi w d v e k h pl l c g f q n t = tt
+      fine-branches (stmt s ss) a sc vars chans lo hi w d v e k h pl l c g f q n t =
+          let fs = clash-stmt s ss f in
+          let ds = deep-stmt s ss q in
+          let (later, rest) = neither (clashesLater (usage s) ss) (anyClash ss) g in
+          let first = covers-first (usage s) (usageAll ss) (declares s) (declaresAll ss) c in
+          let laid : Laid at (w - d) s = rw e at (l .0) in (
+            record {
+              above = omega arith;
+              below = omega arith;
+              reads = first .reads;
+              changes = λ x m. ⊎-elim (first .changes x) (first .declares x) (List·Memᴰ·append-cases (usage s .changes) m);
+              inputs = first .inputs;
+              outputs = first .outputs;
+            },
+            fine s (partOf (w - d) (joins d) s) sc vars chans lo (pl .0) (w - d) k (h .0) (pl .1) laid
+                (covers-own (w - d) (joins d) s) (fs .0) (ds .0) (omega arith) (omega arith),
+            beside ss sc lo (k .before) s (pl .0) (pl .0) hi (h .0) (pl .1) (omega arith) (h .1) (pl .2) later w d (d + need s)
+                (omega arith),
+            fine-branches ss a sc vars chans (pl .0) hi w (d + need s) (v - need s) (omega arith) (scoped-later (placed-le s (pl .1)) k)
+                (h .1) (pl .2) (l .1) (covers-second (usage s) (usageAll ss) (declares s) (declaresAll ss) c) rest (fs .1) (ds .1)
+                (omega arith) t,
+          )
+
+      fine-pairs : (ps : Pairs) (a : Part) (sc : Scope) (vars chans : List Site) (lo hi w : ℕ) → Scoped sc vars chans lo
+          → WellPairs sc ps → PlacedPairs lo hi ps → LaidPairs at w ps → Covers a (usagePairs ps) (declaresPairs ps)
+          → firstClashPairs ps ≡ none → firstDeepPairs ps ≡ none → a .bottom + pairNeed ps ≤ w → w ≤ a .top
+          → FinePairs word a vars chans w ps
+      fine-pairs noPair a sc vars chans lo hi w k h pl l c f d n t = tt
+      fine-pairs (pair e s ps) a sc vars chans lo hi w k h pl l c f d n t =
+          let fs = clash-pair e s ps f in
+          let ds = deep-pair e s ps d in
+          let after = covers-after (reading e) (usage s ⊕ usagePairs ps) (declares s ++ declaresPairs ps) c in (
+            fine-whole a sc vars (k .variables) e (h .0)
+                (covers-before (reading e) (usage s ⊕ usagePairs ps) (declares s ++ declaresPairs ps) c .reads) (ds .0),
+            fine s a sc vars chans lo (pl .0) w k (h .1) (pl .1) (l .0)
+                (covers-first (usage s) (usagePairs ps) (declares s) (declaresPairs ps) after) (fs .0) (ds .1) (omega arith) t,
+            fine-pairs ps a sc vars chans (pl .0) hi w (scoped-later (placed-le s (pl .1)) k) (h .2) (pl .2) (l .1)
+                (covers-second (usage s) (usagePairs ps) (declares s) (declaresPairs ps) after) (fs .1) (ds .2) (omega arith) t,
+          )
+
+      fine-guards : (gs : Guards) (a : Part) (sc : Scope) (vars chans : List Site) (lo hi w : ℕ) → Scoped sc vars chans lo
+          → WellGuards sc gs → PlacedGuards lo hi gs → LaidGuards at w gs → Covers a (usageGuards gs) (declaresGuards gs)
+          → firstClashGuards gs ≡ none → firstDeepGuards gs ≡ none → a .bottom + guardNeed gs ≤ w → w ≤ a .top
+          → FineGuards word a vars chans w gs
+      fine-guards noGuard a sc vars chans lo hi w k h pl l c f d n t = tt
+      fine-guards (inputGuard e ch x s gs) a sc vars chans lo hi w k h pl l c f d n t =
+          let fs = clash-input-guard e ch x s gs f in
+          let ds = deep-input-guard e ch x s gs d in
+          let all = declares s ++ declaresGuards gs in
+          let both = usage s ⊕ usageGuards gs in
+          let named = covers-after (reading e) (inputting ch ⊕ changing x ⊕ both) all c in
+          let changed = covers-after (inputting ch) (changing x ⊕ both) all named in
+          let after = covers-after (changing x) both all changed in (
+            fine-whole a sc vars (k .variables) e (h .0)
+                (covers-before (reading e) (inputting ch ⊕ changing x ⊕ both) all c .reads) (ds .0),
+            (k .variables x (h .2), changed .changes x (List·Memᴰ·head refl)),
+            k .channels ch (h .1 .0),
+            named .inputs ch (List·Memᴰ·head refl),
+            fine s a sc vars chans lo (pl .0) w k (h .3) (pl .1) (l .0)
+                (covers-first (usage s) (usageGuards gs) (declares s) (declaresGuards gs) after) (fs .0) (ds .1) (omega arith) t,
+            fine-guards gs a sc vars chans (pl .0) hi w (scoped-later (placed-le s (pl .1)) k) (h .4) (pl .2) (l .1)
+                (covers-second (usage s) (usageGuards gs) (declares s) (declaresGuards gs) after) (fs .1) (ds .2) (omega arith) t,
+          )
+      fine-guards (skipGuard e s gs) a sc vars chans lo hi w k h pl l c f d n t =
+          let fs = clash-skip-guard e s gs f in
+          let ds = deep-skip-guard e s gs d in
+          let after = covers-after (reading e) (usage s ⊕ usageGuards gs) (declares s ++ declaresGuards gs) c in (
+            fine-whole a sc vars (k .variables) e (h .0)
+                (covers-before (reading e) (usage s ⊕ usageGuards gs) (declares s ++ declaresGuards gs) c .reads) (ds .0),
+            fine s a sc vars chans lo (pl .0) w k (h .1) (pl .1) (l .0)
+                (covers-first (usage s) (usageGuards gs) (declares s) (declaresGuards gs) after) (fs .0) (ds .1) (omega arith) t,
+            fine-guards gs a sc vars chans (pl .0) hi w (scoped-later (placed-le s (pl .1)) k) (h .2) (pl .2) (l .1)
+                (covers-second (usage s) (usageGuards gs) (declares s) (declaresGuards gs) after) (fs .1) (ds .2) (omega arith) t,
+          )
+
+-- a program that was read and passed every check
+pub program-fine : (p : Program) (end : ℕ) → WellProgram p → Placed 0 end (p .body) → Passed p
+    → Fine (wordOf p) (partOf (base p) the-end (p .body)) [] (numbered inputOf (p .inputs) ++ numbered outputOf (p .outputs)) (base p)
+    (p .body)
+unfolding wordOf
+program-fine p end well placed passed =
+    fine (wordOf p) (λ q. workspaceOf q (layout (base p) (p .body))) (λ q k. refl) (p .body)
+    (partOf (base p) the-end (p .body)) (outermost p) [] (outermost p .channels) 0 end (base p)
+    (record { variables = λ x m. m; channels = λ x m. m; before = λ x m. absurd (List·Memᴰ·not-nil m) })
+    (well .2) placed (program-laid 0 end (base p) (p .body) placed) (covers-own (base p) the-end (p .body))
+    (passed .0) (passed .1) (omega arith) (omega arith)
+
+-- every accepted table
+pub accepted-fine : (table : List ℕ) (p : Program) → accept table ≡ program p
+    → Fine (wordOf p) (partOf (base p) the-end (p .body)) [] (numbered inputOf (p .inputs) ++ numbered outputOf (p .outputs)) (base p)
+    (p .body)
+accepted-fine table p h =
+    let (well, places) = read-well table p (accept-reads table p h) in
+    program-fine p _ well places (accept-passed table p h)

@@ -1,0 +1,588 @@
+-- Which part of the program each process runs: the whole one part, the branches of a PAR parts inside it that are apart.
+use Prim.Native.Nat.{ℕ, zero, suc, _+_, _-_}
+use native.Mathlib.Omega.{arith}
+use mathlib.Core.Path.{_≡_, refl, sym, ap, subst, _∙_}
+use mathlib.Core.Logic.{_≢_, inl, inr, ⊎-elim}
+use mathlib.Core.List.{List, [], _∷_, _++_, append-nil}
+use mathlib.Core.Option.{Option, none, some}
+use Rattle.model.specs.Syntax.{Site, Stmt, Stmts, noStmt, stmt}
+use Rattle.model.specs.Counts.{need}
+use Rattle.model.specs.Occam.{Frame, Process, inPar, Branches, noBranch, branch, over, branches}
+use Rattle.model.specs.Occam.{branchAt, setBranch, endBranch, look, put}
+use Rattle.model.proofs.Cases.{never}
+use Rattle.model.proofs.Paths.{Apart as Diverge, here, later, Leaf, leaf-par, leaf-begin, leaf-ends, look-in, put-in}
+use Rattle.model.proofs.Paths.{under, look-under, stmtAt, Compared, equal, below, above, apart, compare}
+use Rattle.model.proofs.Points.{Setting}
+use Rattle.model.proofs.Parts.{Part, joins, partOf, Apart, Inside, FineBranches, Beside}
+use Rattle.model.proofs.Marks.{ParCode}
+
+-- a part is inside itself
+pub inside-refl : (a : Part) → Inside a a
+inside-refl a =
+    record {
+      above = omega arith;
+      below = omega arith;
+      reads = λ x m. m;
+      changes = λ x m. m;
+      inputs = λ x m. m;
+      outputs = λ x m. m;
+    }
+
+-- what is inside a branch of a part is inside the part
+pub inside-trans : {a b c : Part} → Inside c b → Inside b a → Inside c a
+inside-trans f g =
+    record {
+      above = omega (arith, f .above, g .above);
+      below = omega (arith, f .below, g .below);
+      reads = λ x m. g .reads x (f .reads x m);
+      changes = λ x m. g .changes x (f .changes x m);
+      inputs = λ x m. g .inputs x (f .inputs x m);
+      outputs = λ x m. g .outputs x (f .outputs x m);
+    }
+
+-- two parts are apart either way round
+pub apart-sym : {a b : Part} → Apart a b → Apart b a
+apart-sym h =
+    record {
+      words = ⊎-elim inr inl (h .words);
+      left = h .right;
+      right = h .left;
+      inputs = λ x m n. h .inputs x n m;
+      outputs = λ x m n. h .outputs x n m;
+    }
+
+-- what is inside parts that are apart is apart
+pub apart-inside : {a b c d : Part} → Apart a b → Inside c a → Inside d b → Apart c d
+apart-inside h f g =
+    record {
+      words = ⊎-elim (λ l. inl (omega (arith, l, f .below, g .above))) (λ l. inr (omega (arith, l, g .below, f .above))) (h .words);
+      left = λ x m n. h .left x (f .changes x m) (g .reads x n);
+      right = λ x m n. h .right x (g .changes x m) (f .reads x n);
+      inputs = λ x m n. h .inputs x (f .inputs x m) (g .inputs x n);
+      outputs = λ x m n. h .outputs x (f .outputs x m) (g .outputs x n);
+    }
+
+-- what is the same in `some`
+some-same : {A : Type 0} {x y : A} → _≡_ {A = Option A} (some x) (some y) → x ≡ y
+some-same e = cc
+
+-- no path is apart from the empty one
+nil-apart : {R : Type 0} {path other : List ℕ} → path ≡ [] → Diverge path other → R
+nil-apart e (here n) = never (cc)
+nil-apart e (later v) = never (cc)
+
+-- the empty path has no first branch
+nil-append : {R : Type 0} (pre : List ℕ) (i : ℕ) (rest : List ℕ) → [] ≡ pre ++ i ∷ rest → R
+nil-append [] i rest e = never (cc)
+nil-append (j ∷ pre) i rest e = never (cc)
+
+-- some process is found at a path
+pub data Found (path : List ℕ) (p : Process) : Type 0 where
+  found : (q : Process) → look path p ≡ some q → Found path p
+
+-- and in a branch
+data FoundIn (i : ℕ) (path : List ℕ) (bs : Branches) : Type 0 where
+  found-in : (b q : Process) → branchAt i bs ≡ some b → look path b ≡ some q → FoundIn i path bs
+
+-- what a process runs: its part; in a PAR also the PAR's workspace and the index of the code where it goes on
+pub data Label : Type 0 where
+  alone : Part → Label
+  parted : Part → (w onward : ℕ) → Label
+
+-- the part of them
+abbrev pub running : Option Label → Option Part
+running none = none
+running (some (alone a)) = some a
+running (some (parted a w onward)) = some a
+
+-- two tellings of what is run where agree but for the branch i
+abbrev SameBut : ℕ → (at there : ℕ → List ℕ → Option Label) → Type 0
+SameBut i at there = (j : ℕ) (path : List ℕ) → i ≢ j → there j path ≡ at j path
+
+-- but for the first branch
+same-first : (at there : ℕ → List ℕ → Option Label) → ((j : ℕ) (path : List ℕ) → there (suc j) path ≡ at (suc j) path) → SameBut 0 at there
+same-first at there h zero path n = absurd (n refl)
+same-first at there h (suc j) path n = h j path
+
+-- but for a later branch
+same-later : (i : ℕ) (at there : ℕ → List ℕ → Option Label) → ((path : List ℕ) → there 0 path ≡ at 0 path)
+    → SameBut i (λ j. at (suc j)) (λ j. there (suc j)) → SameBut (suc i) at there
+same-later i at there z h zero path n = z path
+same-later i at there z h (suc j) path n = h j path (λ e. n (ap suc e))
+
+-- what is apart from a branch at a path: apart from the path, or under it
+data Split (path rest other : List ℕ) : Type 0 where
+  early : Diverge path other → Split path rest other
+  late : (inner : List ℕ) → other ≡ path ++ inner → Diverge rest inner → Split path rest other
+
+-- which of the two it is
+split : (path rest : List ℕ) {other : List ℕ} → Diverge (path ++ rest) other → Split path rest other
+split [] rest {other} v = late other refl v
+split (i ∷ path) rest (here n) = early (here n)
+split (i ∷ path) rest (later v) = elim (split path rest v) [
+  | early w ↦ early (later w)
+  | late inner e w ↦ late inner (ap (λ z. i ∷ z) e) w
+]
+
+-- how far the workspace of a branch is below the one of its PAR: what the branches before it need
+unfoldable pub distanceOf : ℕ → Stmts → ℕ
+distanceOf i noStmt = 0
+distanceOf zero (stmt s ss) = 0
+distanceOf (suc i) (stmt s ss) = need s + distanceOf i ss
+
+-- a part is the one of the branch i, of the branches from distance d on
+pub data BranchPart (w d : ℕ) (ss : Stmts) (i : ℕ) (b : Part) : Type 0 where
+  branch-part : (s : Stmt) → stmtAt i ss ≡ some s → b ≡ partOf (w - (d + distanceOf i ss)) (joins (d + distanceOf i ss)) s
+      → BranchPart w d ss i b
+
+-- counted with the branch before
+later-part : (w d : ℕ) (s : Stmt) (ss : Stmts) (i : ℕ) {b : Part} → BranchPart w (d + need s) ss i b → BranchPart w d (stmt s ss) (suc i) b
+unfolding stmtAt distanceOf
+later-part w d s ss i {b} (branch-part r e h) =
+    branch-part r e (subst (λ z. b ≡ partOf (w - z) (joins z) r) (omega arith) h)
+
+module _ (S : Setting) where
+  mutual
+    -- a process with the parts that it and the processes in it run: the branches of a PAR run those of the PAR's code
+    pub data Tree : Part → Process → Type 0 where
+      t-leaf : {a : Part} {q : Process} → Leaf q → Tree a q
+      t-par : {a : Part} {s : Stmt} {ss : Stmts} {vars chans : List Site} {k : List Frame} {hi i w : ℕ} {bs : Branches}
+          → ParCode S a s ss vars chans k hi i w → Forest w 0 (stmt s ss) bs → Tree a (inPar bs k)
+
+    -- the branches of a PAR whose workspace is w, from the one at distance d on
+    pub data Forest : (w d : ℕ) → Stmts → Branches → Type 0 where
+      f-none : {w d : ℕ} → Forest w d noStmt noBranch
+      f-live : {w d : ℕ} {s : Stmt} {ss : Stmts} {p : Process} {bs : Branches} → Tree (partOf (w - d) (joins d) s) p
+          → Forest w (d + need s) ss bs → Forest w d (stmt s ss) (branch p bs)
+      f-over : {w d : ℕ} {s : Stmt} {ss : Stmts} {bs : Branches} → Forest w (d + need s) ss bs → Forest w d (stmt s ss) (over bs)
+
+  -- what the process at a path runs
+  unfoldable mutual
+    pub labelAt : {a : Part} {p : Process} → Tree a p → List ℕ → Option Label
+    labelAt {a} (t-leaf l) [] = some (alone a)
+    labelAt (t-leaf l) (i ∷ path) = none
+    labelAt (t-par {a} {w} c f) [] = some (parted a w (c .over))
+    labelAt (t-par c f) (i ∷ path) = labelIn f i path
+
+    -- in a branch
+    pub labelIn : {w d : ℕ} {ss : Stmts} {bs : Branches} → Forest w d ss bs → ℕ → List ℕ → Option Label
+    labelIn f-none i path = none
+    labelIn (f-live t f) zero path = labelAt t path
+    labelIn (f-live t f) (suc i) path = labelIn f i path
+    labelIn (f-over f) zero path = none
+    labelIn (f-over f) (suc i) path = labelIn f i path
+
+  -- the part that it runs
+  abbrev pub partAt : {a : Part} {p : Process} → Tree a p → List ℕ → Option Part
+  partAt t path = running (labelAt t path)
+
+  -- in a branch
+  abbrev pub partIn : {w d : ℕ} {ss : Stmts} {bs : Branches} → Forest w d ss bs → ℕ → List ℕ → Option Part
+  partIn f i path = running (labelIn f i path)
+
+  -- the whole runs its part
+  pub part-nil : {a : Part} {p : Process} (t : Tree a p) → partAt t [] ≡ some a
+  unfolding labelAt labelIn
+  part-nil (t-leaf l) = refl
+  part-nil (t-par c f) = refl
+
+  -- each part is inside the one of the whole
+  mutual
+    unfolding labelAt labelIn
+
+    pub part-inside : {a : Part} {p : Process} (t : Tree a p) (path : List ℕ) {b : Part} → partAt t path ≡ some b → Inside b a
+    part-inside {a} (t-leaf l) [] e = subst (λ z. Inside z a) (cc) (inside-refl a)
+    part-inside (t-leaf l) (i ∷ path) e = never (cc)
+    part-inside {a} (t-par c f) [] e = subst (λ z. Inside z a) (cc) (inside-refl a)
+    part-inside (t-par {a} {vars} {chans} c f) (i ∷ path) e = forest-inside f a vars chans (c .fine) i path e
+
+    forest-inside : {w d : ℕ} {ss : Stmts} {bs : Branches} (f : Forest w d ss bs) (a : Part) (vars chans : List Site)
+        → FineBranches (S .word) a vars chans w d ss → (i : ℕ) (path : List ℕ) {b : Part} → partIn f i path ≡ some b → Inside b a
+    forest-inside f-none a vars chans g i path e = never (cc)
+    forest-inside (f-live t f) a vars chans g zero path e = inside-trans (part-inside t path e) (g .0)
+    forest-inside (f-live t f) a vars chans g (suc i) path e = forest-inside f a vars chans (g .3) i path e
+    forest-inside (f-over f) a vars chans g zero path e = never (cc)
+    forest-inside (f-over f) a vars chans g (suc i) path e = forest-inside f a vars chans (g .3) i path e
+
+  -- a part that is beside the branches is apart from all in them
+  forest-beside : {w d : ℕ} {ss : Stmts} {bs : Branches} (f : Forest w d ss bs) (b : Part) → Beside (S .word) b w d ss
+      → (i : ℕ) (path : List ℕ) {c : Part} → partIn f i path ≡ some c → Apart b c
+  unfolding labelAt labelIn
+  forest-beside f-none b g i path e = never (cc)
+  forest-beside (f-live t f) b g zero path e = apart-inside (g .0) (inside-refl b) (part-inside t path e)
+  forest-beside (f-live t f) b g (suc i) path e = forest-beside f b (g .1) i path e
+  forest-beside (f-over f) b g zero path e = never (cc)
+  forest-beside (f-over f) b g (suc i) path e = forest-beside f b (g .1) i path e
+
+  -- what two branches run is apart
+  forest-apart : {w d : ℕ} {ss : Stmts} {bs : Branches} (f : Forest w d ss bs) (a : Part) (vars chans : List Site)
+      → FineBranches (S .word) a vars chans w d ss → (i j : ℕ) (ps qs : List ℕ) → i ≢ j → {b c : Part} → partIn f i ps ≡ some b
+      → partIn f j qs ≡ some c → Apart b c
+  unfolding labelAt labelIn
+  forest-apart f-none a vars chans g i j ps qs n e h = never (cc)
+  forest-apart (f-live t f) a vars chans g zero zero ps qs n e h = absurd (n refl)
+  forest-apart (f-live t f) a vars chans g zero (suc j) ps qs n {b} {c} e h =
+      apart-inside (forest-beside f _ (g .2) j qs h) (part-inside t ps e) (inside-refl c)
+  forest-apart (f-live t f) a vars chans g (suc i) zero ps qs n {b} {c} e h =
+      apart-sym (apart-inside (forest-beside f _ (g .2) i ps e) (part-inside t qs h) (inside-refl b))
+  forest-apart (f-live t f) a vars chans g (suc i) (suc j) ps qs n e h =
+      forest-apart f a vars chans (g .3) i j ps qs (λ u. n (ap suc u)) e h
+  forest-apart (f-over f) a vars chans g zero j ps qs n e h = never (cc)
+  forest-apart (f-over f) a vars chans g (suc i) zero ps qs n e h = never (cc)
+  forest-apart (f-over f) a vars chans g (suc i) (suc j) ps qs n e h =
+      forest-apart f a vars chans (g .3) i j ps qs (λ u. n (ap suc u)) e h
+
+  -- the processes at two paths that part run parts that are apart
+  mutual
+    unfolding labelAt labelIn
+
+    pub parts-apart : {a : Part} {p : Process} (t : Tree a p) {path other : List ℕ} → Diverge path other → {b c : Part}
+        → partAt t path ≡ some b → partAt t other ≡ some c → Apart b c
+    parts-apart (t-leaf l) (here n) e h = never (cc)
+    parts-apart (t-leaf l) (later v) e h = never (cc)
+    parts-apart (t-par {a} {vars} {chans} c f) (here {i} {j} {ps} {qs} n) e h =
+        forest-apart f a vars chans (c .fine) i j ps qs n e h
+    parts-apart (t-par c f) (later {i} v) e h = parts-later f i v e h
+
+    parts-later : {w d : ℕ} {ss : Stmts} {bs : Branches} (f : Forest w d ss bs) (i : ℕ) {path other : List ℕ} → Diverge path other
+        → {b c : Part} → partIn f i path ≡ some b → partIn f i other ≡ some c → Apart b c
+    parts-later f-none i v e h = never (cc)
+    parts-later (f-live t f) zero v e h = parts-apart t v e h
+    parts-later (f-live t f) (suc i) v e h = parts-later f i v e h
+    parts-later (f-over f) zero v e h = never (cc)
+    parts-later (f-over f) (suc i) v e h = parts-later f i v e h
+
+  -- the process q at a path, in a whole that runs a: its part and its tree. `at` says what is run where
+  pub data Owner (a : Part) (at : List ℕ → Option Label) (path : List ℕ) (q : Process) : Type 0 where
+    owner : (b : Part) (u : Tree b q) → Inside b a → running (at path) ≡ some b → ((rest : List ℕ) → at (path ++ rest) ≡ labelAt u rest)
+        → Owner a at path q
+
+  -- the tree of what is found at a path
+  mutual
+    unfolding labelAt labelIn branchAt look
+
+    pub owner-of : {a : Part} {p : Process} (t : Tree a p) (path : List ℕ) {q : Process} → look path p ≡ some q → Owner a (labelAt t) path q
+    owner-of {a} (t-leaf l) [] e = subst (Owner a (labelAt (t-leaf l)) []) (cc) (owner a (t-leaf l) (inside-refl a) refl (λ rest. refl))
+    owner-of (t-leaf l) (i ∷ path) e = never (cc (leaf-ends i path l, e))
+    owner-of {a} (t-par c f) [] e = subst (Owner a (labelAt (t-par c f)) []) (cc) (owner a (t-par c f) (inside-refl a) refl (λ rest. refl))
+    owner-of (t-par {a} {vars} {chans} {k} {bs} c f) (i ∷ path) e =
+        elim (look-under i path (inPar bs k) e) [
+          | under b g h ↦ elim (owner-in f a vars chans (c .fine) i path g h) [ owner x u v y z ↦ owner x u v y z ]
+        ]
+
+    owner-in : {w d : ℕ} {ss : Stmts} {bs : Branches} (f : Forest w d ss bs) (a : Part) (vars chans : List Site)
+        → FineBranches (S .word) a vars chans w d ss → (i : ℕ) (path : List ℕ) {b q : Process} → branchAt i bs ≡ some b
+        → look path b ≡ some q → Owner a (labelIn f i) path q
+    owner-in f-none a vars chans g i path e h = never (cc)
+    owner-in (f-live t f) a vars chans g zero path e h =
+        elim (owner-of t path (ap (look path) (some-same e) ∙ h)) [ owner x u v y z ↦ owner x u (inside-trans v (g .0)) y z ]
+    owner-in (f-live t f) a vars chans g (suc i) path e h =
+        elim (owner-in f a vars chans (g .3) i path e h) [ owner x u v y z ↦ owner x u v y z ]
+    owner-in (f-over f) a vars chans g zero path e h = never (cc)
+    owner-in (f-over f) a vars chans g (suc i) path e h =
+        elim (owner-in f a vars chans (g .3) i path e h) [ owner x u v y z ↦ owner x u v y z ]
+
+  -- a part is run only where a process is
+  mutual
+    unfolding labelAt labelIn branchAt look
+
+    pub part-found : {a : Part} {p : Process} (t : Tree a p) (path : List ℕ) {b : Part} → partAt t path ≡ some b → Found path p
+    part-found (t-leaf {q} l) [] e = found q refl
+    part-found (t-leaf l) (i ∷ path) e = never (cc)
+    part-found (t-par {k} {bs} c f) [] e = found (inPar bs k) refl
+    part-found (t-par {k} {bs} c f) (i ∷ path) e = elim (part-found-in f i path e) [
+      | found-in b q g h ↦ found q (look-in i path (inPar bs k) g ∙ h)
+    ]
+
+    part-found-in : {w d : ℕ} {ss : Stmts} {bs : Branches} (f : Forest w d ss bs) (i : ℕ) (path : List ℕ) {b : Part}
+        → partIn f i path ≡ some b → FoundIn i path bs
+    part-found-in f-none i path e = never (cc)
+    part-found-in (f-live {p} t f) zero path e = elim (part-found t path e) [ found q h ↦ found-in p q refl h ]
+    part-found-in (f-live t f) (suc i) path e = elim (part-found-in f i path e) [ found-in b q g h ↦ found-in b q g h ]
+    part-found-in (f-over f) zero path e = never (cc)
+    part-found-in (f-over f) (suc i) path e = elim (part-found-in f i path e) [ found-in b q g h ↦ found-in b q g h ]
+
+  -- a tree whose process is q, made from t by a tree u at a path: what is under the path is as in u, what is beside or above it as in t
+  pub record Rebuilt {a : Part} {p : Process} (t : Tree a p) (path : List ℕ) {b : Part} {r : Process} (u : Tree b r) (q : Process)
+      : Type 0 where
+    pub tree : Tree a q
+    pub below : (rest : List ℕ) → labelAt tree (path ++ rest) ≡ labelAt u rest
+    pub aside : (other : List ℕ) → Diverge path other → labelAt tree other ≡ labelAt t other
+    pub above : (pre : List ℕ) (i : ℕ) (rest : List ℕ) → path ≡ pre ++ i ∷ rest → labelAt tree pre ≡ labelAt t pre
+
+  -- a forest made from f by a tree u at a path in the branch i
+  record Regrown {w d : ℕ} {ss : Stmts} {bs : Branches} (f : Forest w d ss bs) (i : ℕ) (path : List ℕ) {b : Part} {r : Process}
+      (u : Tree b r) : Type 0 where
+    pub process : Process
+    pub found : branchAt i bs ≡ some process
+    pub forest : Forest w d ss (setBranch i (put path r process) bs)
+    pub below : (rest : List ℕ) → labelIn forest i (path ++ rest) ≡ labelAt u rest
+    pub aside : (other : List ℕ) → Diverge path other → labelIn forest i other ≡ labelIn f i other
+    pub above : (pre : List ℕ) (j : ℕ) (rest : List ℕ) → path ≡ pre ++ j ∷ rest → labelIn forest i pre ≡ labelIn f i pre
+    pub others : SameBut i (labelIn f) (labelIn forest)
+
+  -- the whole is replaced
+  rebuilt-nil : {a : Part} {p : Process} (t : Tree a p) {b : Part} {r : Process} (u : Tree b r) → a ≡ b → Rebuilt t [] u r
+  rebuilt-nil {a} t {b} {r} u e = subst (λ z. (u : Tree z r) → Rebuilt t [] u r) e (λ u. whole u) u
+    where
+      whole : (u : Tree a r) → Rebuilt t [] u r
+      whole u =
+          record {
+            tree = u;
+            below = λ rest. refl;
+            aside = λ other v. nil-apart refl v;
+            above = λ pre i rest e. nil-append pre i rest e;
+          }
+
+  -- by way of a PAR's branch
+  module _ {a : Part} {s : Stmt} {ss : Stmts} {vars chans : List Site} {k : List Frame} {hi n w : ℕ} {bs : Branches}
+      (c : ParCode S a s ss vars chans k hi n w) (f : Forest w 0 (stmt s ss) bs) (i : ℕ) (path : List ℕ) {b : Part} {r : Process}
+      (u : Tree b r) where
+    par-aside : (g : Regrown f i path u) (other : List ℕ) → Diverge (i ∷ path) other
+        → labelAt (t-par c (g .forest)) other ≡ labelAt (t-par c f) other
+    unfolding labelAt labelIn
+    par-aside g other (here {j} {qs} m) = g .others j qs m
+    par-aside g other (later {qs} v) = g .aside qs v
+
+    par-above : (g : Regrown f i path u) (pre : List ℕ) (j : ℕ) (rest : List ℕ) → i ∷ path ≡ pre ++ j ∷ rest
+        → labelAt (t-par c (g .forest)) pre ≡ labelAt (t-par c f) pre
+    unfolding labelAt labelIn
+    par-above g [] j rest e = refl
+    par-above g (l ∷ pre) j rest e =
+        let h : i ≡ l = cc in subst (λ z. labelIn (g .forest) z pre ≡ labelIn f z pre) h (g .above pre j rest (cc))
+
+    rebuilt-par : (g : Regrown f i path u) → Rebuilt (t-par c f) (i ∷ path) u (put (i ∷ path) r (inPar bs k))
+    unfolding labelAt labelIn
+    rebuilt-par g =
+        subst (Rebuilt (t-par c f) (i ∷ path) u) (sym (put-in i path r (inPar bs k) (g .found)))
+        (record {
+          tree = t-par c (g .forest);
+          below = g .below;
+          aside = par-aside g;
+          above = par-above g;
+        })
+
+  -- another tree of the same part at a path
+  mutual
+    unfolding labelAt labelIn branchAt setBranch look put
+
+    pub rebuild : {a : Part} {p : Process} (t : Tree a p) (path : List ℕ) {b : Part} {r : Process} (u : Tree b r)
+        → partAt t path ≡ some b → Rebuilt t path u (put path r p)
+    rebuild (t-leaf l) [] u e = rebuilt-nil (t-leaf l) u (some-same e)
+    rebuild (t-leaf l) (i ∷ path) u e = never (cc)
+    rebuild (t-par c f) [] u e = rebuilt-nil (t-par c f) u (some-same e)
+    rebuild (t-par c f) (i ∷ path) u e = rebuilt-par c f i path u (regrow f i path u e)
+
+    regrow : {w d : ℕ} {ss : Stmts} {bs : Branches} (f : Forest w d ss bs) (i : ℕ) (path : List ℕ) {b : Part} {r : Process} (u : Tree b r)
+        → partIn f i path ≡ some b → Regrown f i path u
+    regrow f-none i path u e = never (cc)
+    regrow (f-live {p} t f) zero path u e =
+        let g = rebuild t path u e in
+        record {
+          process = p;
+          found = refl;
+          forest = f-live (g .tree) f;
+          below = g .below;
+          aside = g .aside;
+          above = g .above;
+          others = same-first (labelIn (f-live t f)) (labelIn (f-live (g .tree) f)) (λ j other. refl);
+        }
+    regrow (f-live t f) (suc i) path u e =
+        let g = regrow f i path u e in
+        record {
+          process = g .process;
+          found = g .found;
+          forest = f-live t (g .forest);
+          below = g .below;
+          aside = g .aside;
+          above = g .above;
+          others = same-later i (labelIn (f-live t f)) (labelIn (f-live t (g .forest))) (λ other. refl) (g .others);
+        }
+    regrow (f-over f) zero path u e = never (cc)
+    regrow (f-over {s} f) (suc i) path u e =
+        let g = regrow f i path u e in
+        record {
+          process = g .process;
+          found = g .found;
+          forest = f-over (g .forest);
+          below = g .below;
+          aside = g .aside;
+          above = g .above;
+          others = same-later i (labelIn (f-over {s = s} f)) (labelIn (f-over {s = s} (g .forest))) (λ other. refl) (g .others);
+        }
+
+  -- what was put runs its part
+  pub rebuilt-here : {a : Part} {p : Process} {t : Tree a p} {path : List ℕ} {b : Part} {r : Process} {u : Tree b r} {q : Process}
+      (g : Rebuilt t path u q) → partAt (g .tree) path ≡ some b
+  rebuilt-here {path} {u} g = ap (partAt (g .tree)) (sym (append-nil path)) ∙ ap running (g .below []) ∙ part-nil u
+
+  -- the branches of a PAR that was just started
+  unfoldable pub begun : (w d : ℕ) (ss : Stmts) → Forest w d ss (branches ss)
+  unfolding branches
+  begun w d noStmt = f-none
+  begun w d (stmt s ss) = f-live (t-leaf (leaf-begin s [])) (begun w (d + need s) ss)
+
+  -- each runs its statement, as far below as the branches before it need
+  begun-part : (w d : ℕ) (ss : Stmts) (i : ℕ) {s : Stmt} → stmtAt i ss ≡ some s
+      → partIn (begun w d ss) i [] ≡ some (partOf (w - (d + distanceOf i ss)) (joins (d + distanceOf i ss)) s)
+  unfolding labelAt labelIn begun branches stmtAt distanceOf
+  begun-part w d noStmt i e = never (cc)
+  begun-part w d (stmt s ss) zero e = let h : d + 0 ≡ d = omega arith in rw (h, some-same e) refl
+  begun-part w d (stmt s ss) (suc i) e =
+      let h : d + (need s + distanceOf i ss) ≡ d + need s + distanceOf i ss = omega arith in rw h (begun-part w (d + need s) ss i e)
+
+  -- the tree of a PAR that was just started
+  abbrev pub started : {a : Part} {s : Stmt} {ss : Stmts} {vars chans : List Site} {k : List Frame} {hi i w : ℕ}
+      → ParCode S a s ss vars chans k hi i w → Tree a (inPar (branches (stmt s ss)) k)
+  started {s} {ss} {w} c = t-par c (begun w 0 (stmt s ss))
+
+  -- what its branches run
+  pub started-part : {a : Part} {s : Stmt} {ss : Stmts} {vars chans : List Site} {k : List Frame} {hi n w : ℕ}
+      (c : ParCode S a s ss vars chans k hi n w) (i : ℕ) {r : Stmt} → stmtAt i (stmt s ss) ≡ some r
+      → partAt (started c) (i ∷ []) ≡ some (partOf (w - distanceOf i (stmt s ss)) (joins (distanceOf i (stmt s ss))) r)
+  unfolding labelAt labelIn
+  started-part {s} {ss} {w} c i {r} e =
+      subst (λ z. partIn (begun w 0 (stmt s ss)) i [] ≡ some (partOf (w - z) (joins z) r)) (omega arith) (begun-part w 0 (stmt s ss) i e)
+
+  -- whatever a PAR's branches have come to, each runs that part
+  forest-part : {w d : ℕ} {ss : Stmts} {bs : Branches} (f : Forest w d ss bs) (i : ℕ) {b : Part} → partIn f i [] ≡ some b
+      → BranchPart w d ss i b
+  unfolding labelAt labelIn stmtAt distanceOf
+  forest-part f-none i e = never (cc)
+  forest-part {w} {d} (f-live {s} t f) zero {b} e =
+      branch-part s refl (subst (λ z. b ≡ partOf (w - z) (joins z) s) (omega arith) (some-same (sym e ∙ part-nil t)))
+  forest-part {w} {d} (f-live {s} {ss} t f) (suc i) e = later-part w d s ss i (forest-part f i e)
+  forest-part (f-over f) zero e = never (cc)
+  forest-part {w} {d} (f-over {s} {ss} f) (suc i) e = later-part w d s ss i (forest-part f i e)
+
+  -- the same of a PAR's tree
+  pub par-part : {a : Part} {s : Stmt} {ss : Stmts} {vars chans : List Site} {k : List Frame} {hi n w : ℕ} {bs : Branches}
+      (c : ParCode S a s ss vars chans k hi n w) (f : Forest w 0 (stmt s ss) bs) (i : ℕ) {b : Part}
+      → partAt (t-par c f) (i ∷ []) ≡ some b → BranchPart w 0 (stmt s ss) i b
+  unfolding labelAt labelIn
+  par-part c f i e = forest-part f i e
+
+  -- the branches after one's end
+  unfoldable cut : {w d : ℕ} {ss : Stmts} {bs : Branches} → Forest w d ss bs → (i : ℕ) → Forest w d ss (endBranch i bs)
+  unfolding endBranch
+  cut f-none i = f-none
+  cut (f-live t f) zero = f-over f
+  cut (f-live t f) (suc i) = f-live t (cut f i)
+  cut (f-over f) zero = f-over f
+  cut (f-over f) (suc i) = f-over (cut f i)
+
+  -- nothing runs in it
+  cut-gone : {w d : ℕ} {ss : Stmts} {bs : Branches} (f : Forest w d ss bs) (i : ℕ) (path : List ℕ) → labelIn (cut f i) i path ≡ none
+  unfolding labelAt labelIn cut endBranch
+  cut-gone f-none i path = refl
+  cut-gone (f-live t f) zero path = refl
+  cut-gone (f-live t f) (suc i) path = cut-gone f i path
+  cut-gone (f-over f) zero path = refl
+  cut-gone (f-over f) (suc i) path = cut-gone f i path
+
+  -- the others run what they did
+  cut-others : {w d : ℕ} {ss : Stmts} {bs : Branches} (f : Forest w d ss bs) (i : ℕ) → SameBut i (labelIn f) (labelIn (cut f i))
+  unfolding labelAt labelIn cut endBranch
+  cut-others f-none i j path n = refl
+  cut-others (f-live t f) zero zero path n = absurd (n refl)
+  cut-others (f-live t f) zero (suc j) path n = refl
+  cut-others (f-live t f) (suc i) zero path n = refl
+  cut-others (f-live t f) (suc i) (suc j) path n = cut-others f i j path (λ e. n (ap suc e))
+  cut-others (f-over f) zero j path n = refl
+  cut-others (f-over f) (suc i) zero path n = refl
+  cut-others (f-over f) (suc i) (suc j) path n = cut-others f i j path (λ e. n (ap suc e))
+
+  -- the tree of a PAR after the end of the branch i
+  pub record Ended {a : Part} {bs : Branches} {k : List Frame} (t : Tree a (inPar bs k)) (i : ℕ) : Type 0 where
+    pub tree : Tree a (inPar (endBranch i bs) k)
+    pub whole : labelAt tree [] ≡ labelAt t []
+    pub gone : (rest : List ℕ) → labelAt tree (i ∷ rest) ≡ none
+    pub others : (j : ℕ) (rest : List ℕ) → i ≢ j → labelAt tree (j ∷ rest) ≡ labelAt t (j ∷ rest)
+
+  -- the end of a branch of a PAR
+  pub ended : {a : Part} {bs : Branches} {k : List Frame} (t : Tree a (inPar bs k)) (i : ℕ) → Ended t i
+  unfolding labelAt labelIn
+  ended (t-leaf l) i = absurd (leaf-par l refl)
+  ended (t-par c f) i = record { tree = t-par c (cut f i); whole = refl; gone = cut-gone f i; others = cut-others f i }
+
+  -- in a leaf's tree nothing runs under it
+  leaf-none : {b : Part} {q : Process} (u : Tree b q) → Leaf q → (i : ℕ) (rest : List ℕ) → labelAt u (i ∷ rest) ≡ none
+  unfolding labelAt labelIn
+  leaf-none (t-leaf l) m i rest = refl
+  leaf-none (t-par c f) m i rest = absurd (leaf-par m refl)
+
+  -- it runs its part alone
+  leaf-alone : {b : Part} {q : Process} (u : Tree b q) → Leaf q → labelAt u [] ≡ some (alone b)
+  unfolding labelAt labelIn
+  leaf-alone (t-leaf l) m = refl
+  leaf-alone (t-par c f) m = absurd (leaf-par m refl)
+
+  -- a tree of q that runs the same as t
+  pub record Kept {a : Part} {p : Process} (t : Tree a p) (q : Process) : Type 0 where
+    pub tree : Tree a q
+    pub same : (path : List ℕ) → labelAt tree path ≡ labelAt t path
+
+  -- where a leaf becomes a leaf, all run the same
+  pub kept : {a : Part} {p : Process} (t : Tree a p) (path : List ℕ) {q r : Process} → look path p ≡ some q → Leaf q → Leaf r
+      → Kept t (put path r p)
+  kept {a} {p} t path {q} {r} e l m = elim (owner-of t path e) [ owner b u n g h ↦ with-part b u g h ]
+    where
+      with-part : (b : Part) (u : Tree b q) → partAt t path ≡ some b → ((rest : List ℕ) → labelAt t (path ++ rest) ≡ labelAt u rest)
+          → Kept t (put path r p)
+      with-part b u g h = record { tree = v .tree; same = λ other. at other (compare path other) }
+        where
+          z : Tree b r
+          z = t-leaf m
+
+          v : Rebuilt t path z (put path r p)
+          v = rebuild t path z g
+
+          at : (other : List ℕ) → Compared path other → labelAt (v .tree) other ≡ labelAt t other
+          at other (equal x) =
+              subst (λ y. labelAt (v .tree) y ≡ labelAt t y) (append-nil path ∙ x)
+              (v .below [] ∙ leaf-alone z m ∙ sym (h [] ∙ leaf-alone u l))
+          at other (below i rest x) =
+              subst (λ y. labelAt (v .tree) y ≡ labelAt t y) (sym x)
+              (v .below (i ∷ rest) ∙ leaf-none z m i rest ∙ sym (h (i ∷ rest) ∙ leaf-none u l i rest))
+          at other (above i rest x) = v .above other i rest x
+          at other (apart x) = v .aside other x
+
+  -- the tree of q after the end of the branch i of the PAR at a path
+  pub record EndedAt {a : Part} {p : Process} (t : Tree a p) (path : List ℕ) (i : ℕ) (q : Process) : Type 0 where
+    pub tree : Tree a q
+    pub gone : (rest : List ℕ) → labelAt tree (path ++ i ∷ rest) ≡ none
+    pub at-par : labelAt tree path ≡ labelAt t path
+    pub above : (pre : List ℕ) (j : ℕ) (rest : List ℕ) → path ≡ pre ++ j ∷ rest → labelAt tree pre ≡ labelAt t pre
+    pub others : (other : List ℕ) → Diverge (path ++ i ∷ []) other → labelAt tree other ≡ labelAt t other
+
+  -- the end of a branch of the PAR at a path, where others are left
+  pub ended-at : {a : Part} {p : Process} (t : Tree a p) (path : List ℕ) (i : ℕ) {bs : Branches} {k : List Frame}
+      → look path p ≡ some (inPar bs k) → EndedAt t path i (put path (inPar (endBranch i bs) k) p)
+  ended-at {a} {p} t path i {bs} {k} e = elim (owner-of t path e) [ owner b u n g h ↦ with-part b u g h ]
+    where
+      with-part : (b : Part) (u : Tree b (inPar bs k)) → partAt t path ≡ some b
+          → ((rest : List ℕ) → labelAt t (path ++ rest) ≡ labelAt u rest) → EndedAt t path i (put path (inPar (endBranch i bs) k) p)
+      with-part b u g h =
+          record {
+            tree = v .tree;
+            gone = λ rest. v .below (i ∷ rest) ∙ z .gone rest;
+            at-par =
+                subst (λ y. labelAt (v .tree) y ≡ labelAt t y) (append-nil path) (v .below [] ∙ z .whole ∙ sym (h []));
+            above = v .above;
+            others = λ other w. at other (split path (i ∷ []) w);
+          }
+        where
+          z : Ended u i
+          z = ended u i
+
+          v : Rebuilt t path (z .tree) (put path (inPar (endBranch i bs) k) p)
+          v = rebuild t path (z .tree) g
+
+          beside : (inner : List ℕ) → Diverge (i ∷ []) inner → labelAt (z .tree) inner ≡ labelAt u inner
+          beside inner (here {j} {qs} n) = z .others j qs n
+          beside inner (later w) = nil-apart refl w
+
+          at : (other : List ℕ) → Split path (i ∷ []) other → labelAt (v .tree) other ≡ labelAt t other
+          at other (early w) = v .aside other w
+          at other (late inner x w) =
+              subst (λ y. labelAt (v .tree) y ≡ labelAt t y) (sym x) (v .below inner ∙ beside inner w ∙ sym (h inner))

@@ -1,0 +1,154 @@
+-- Quiet paths. Between two significant instructions a process only loads, computes in its registers, moves its workspace and jumps.
+-- A path says that from an instruction, with some registers, the next significant instruction is reached, and in how many bytes.
+-- It reads the variables in scope and no other word, so it stays as it is under whatever happens elsewhere.
+use Prim.Native.Nat.{ℕ, suc, _+_, _*_, _≤_}
+use mathlib.Core.Path.{_≡_, refl}
+use mathlib.Core.List.{List}
+use mathlib.Core.Option.{some}
+use lib.ListN.{length, getElem?}
+use lib.Bits.{bitAnd, bitOr, bitXor}
+use lib.Dec.{eqb}
+use Rattle.model.specs.Word.{low, less, truth, notProcess}
+use Rattle.model.specs.Code.{functionIn, operandIn}
+use Rattle.model.specs.Syntax.{Site}
+use Rattle.model.specs.Instruction.{Function, ldlp, ldc, ldl, cj, ajw, eqc, opr, Instruction, plain}
+use Rattle.model.specs.Instruction.{distance, operationOf, operationCode, coded}
+use Rattle.model.specs.Instruction as I
+use Rattle.model.specs.Machine.{World, done, withCpu, stack, work}
+use Rattle.model.specs.Execute.{execute, operate, above}
+use Rattle.model.specs.Occam.{Store}
+use Rattle.model.specs.declared.Cpu.{Cpu}
+
+-- the registers that a quiet instruction may change
+pub record Regs : Type 0 where
+  pub a : ℕ
+  pub b : ℕ
+  pub c : ℕ
+  pub w : ℕ
+
+abbrev pub regsOf : Cpu → Regs
+regsOf r = record { a = r .a; b = r .b; c = r .c; w = r .workspace }
+
+abbrev pub load : Regs → Cpu → Cpu
+load r q = stack (r .a) (r .b) (r .c) (work (r .w) q)
+
+-- an instruction that changes these registers, and nothing else, where the next byte is at a place
+abbrev pub Quiet : (place : ℕ) → Function → ℕ → (Regs → Regs) → Type 0
+Quiet p f n g =
+    (s : World) → s .machine .cpu .place ≡ p
+    → execute f n s ≡ done tt (withCpu (load (g (regsOf (s .machine .cpu))) (s .machine .cpu)) s)
+
+abbrev pub pushing : ℕ → Regs → Regs
+pushing v r = record { a = v; b = r .a; c = r .b; w = r .w }
+
+-- two values give one
+abbrev pub reducing : (ℕ → ℕ → ℕ) → Regs → Regs
+reducing f r = record { a = f (r .b) (r .a); b = r .c; c = r .c; w = r .w }
+
+abbrev pub pointing : ℕ → Regs → Regs
+pointing n r = pushing (low (r .w + n)) r
+
+abbrev pub reversing : Regs → Regs
+reversing r = record { a = r .b; b = r .a; c = r .c; w = r .w }
+
+-- a distance becomes a place
+abbrev pub placing : ℕ → Regs → Regs
+placing p r = record { a = low (p + r .a); b = r .b; c = r .c; w = r .w }
+
+abbrev pub moving : ℕ → Regs → Regs
+moving n r = record { a = r .a; b = r .b; c = r .c; w = low (r .w + n) }
+
+abbrev pub testing : ℕ → Regs → Regs
+testing n r = record { a = truth (eqb (r .a) n); b = r .b; c = r .c; w = r .w }
+
+pub quiet-ldc : {p : ℕ} (n : ℕ) → Quiet p ldc n (pushing n)
+unfolding execute
+quiet-ldc n s e = refl
+
+pub quiet-ajw : {p : ℕ} (n : ℕ) → Quiet p ajw n (moving n)
+unfolding execute
+quiet-ajw n s e = refl
+
+pub quiet-eqc : {p : ℕ} (n : ℕ) → Quiet p eqc n (testing n)
+unfolding execute
+quiet-eqc n s e = refl
+
+pub quiet-sum : {p : ℕ} → Quiet p opr (operationCode I.sum) (reducing (λ l r. low (l + r)))
+unfolding execute operate operationOf operationCode coded
+quiet-sum s e = refl
+
+pub quiet-diff : {p : ℕ} → Quiet p opr (operationCode I.diff) (reducing less)
+unfolding execute operate operationOf operationCode coded
+quiet-diff s e = refl
+
+pub quiet-prod : {p : ℕ} → Quiet p opr (operationCode I.prod) (reducing (λ l r. low (l * r)))
+unfolding execute operate operationOf operationCode coded
+quiet-prod s e = refl
+
+pub quiet-gt : {p : ℕ} → Quiet p opr (operationCode I.gt) (reducing (λ l r. truth (above l r)))
+unfolding execute operate operationOf operationCode coded
+quiet-gt s e = refl
+
+pub quiet-and : {p : ℕ} → Quiet p opr (operationCode I.and) (reducing bitAnd)
+unfolding execute operate operationOf operationCode coded
+quiet-and s e = refl
+
+pub quiet-or : {p : ℕ} → Quiet p opr (operationCode I.or) (reducing bitOr)
+unfolding execute operate operationOf operationCode coded
+quiet-or s e = refl
+
+pub quiet-xor : {p : ℕ} → Quiet p opr (operationCode I.xor) (reducing bitXor)
+unfolding execute operate operationOf operationCode coded
+quiet-xor s e = refl
+
+pub quiet-ldlp : {p : ℕ} (n : ℕ) → Quiet p ldlp n (pointing n)
+unfolding execute
+quiet-ldlp n s e = refl
+
+pub quiet-rev : {p : ℕ} → Quiet p opr (operationCode I.rev) reversing
+unfolding execute operate operationOf operationCode coded
+quiet-rev s e = refl
+
+pub quiet-mint : {p : ℕ} → Quiet p opr (operationCode I.mint) (pushing notProcess)
+unfolding execute operate operationOf operationCode coded
+quiet-mint s e = refl
+
+pub quiet-ldpi : {p : ℕ} → Quiet p opr (operationCode I.ldpi) (placing p)
+unfolding execute operate operationOf operationCode coded
+quiet-ldpi s e = rw (← e)
+
+-- what a memory holds at each word
+abbrev pub Mem : Type 0
+Mem = ℕ → ℕ
+
+-- From the instruction i with registers r the next significant instruction is reached, at which `Point` holds; or the program's end,
+-- where `End` holds. `hi` bounds the bytes: at a place, at most hi - place of them are left. J may let others run, so what follows it
+-- holds for any registers and memory; `Clear` holds of the workspace there. `Readable` variables are read, and no other word
+module _ (xs : List Instruction) (off : ℕ → ℕ) (word : Site → ℕ) where
+  pub data Way (Point : ℕ → Mem → ℕ → Regs → Type 0) (End : Type 0) (σ : Store) (Readable : Site → Type 0) (Clear : ℕ → Type 0)
+      : ℕ → Mem → ℕ → Regs → Type 0 where
+    arrived : {hi : ℕ} {μ : Mem} {i : ℕ} {r : Regs} → Point hi μ i r → off (suc i) ≤ hi → Way Point End σ Readable Clear hi μ i r
+    through : {hi : ℕ} {μ : Mem} {i : ℕ} {r : Regs} → i ≡ length xs → off i ≤ hi → End → Way Point End σ Readable Clear hi μ i r
+    quiet : {hi : ℕ} {μ : Mem} {i : ℕ} {x : Instruction} {r : Regs} (g : Regs → Regs) → getElem? xs i ≡ some x
+        → Quiet (off (suc i)) (functionIn x) (operandIn off x) g
+        → Way Point End σ Readable Clear hi μ (suc i) (g r) → Way Point End σ Readable Clear hi μ i r
+    loads : {hi : ℕ} {μ : Mem} {i o : ℕ} {r : Regs} (x : Site) → getElem? xs i ≡ some (plain ldl o) → low (r .w + o) ≡ word x
+        → Readable x
+        → Way Point End σ Readable Clear hi μ (suc i) (pushing (σ x) r) → Way Point End σ Readable Clear hi μ i r
+    jumps : {hi : ℕ} {μ : Mem} {i t hi′ : ℕ} {r : Regs} → getElem? xs i ≡ some (distance I.j t i) → t ≤ length xs → Clear (r .w)
+        → hi′ + off (suc i) ≤ hi + off t
+        → ((μ′ : Mem) (r′ : Regs) → r′ .w ≡ r .w → Way Point End σ Readable Clear hi′ μ′ t r′) → Way Point End σ Readable Clear hi μ i r
+    falls : {hi : ℕ} {μ : Mem} {i t : ℕ} {r : Regs} → getElem? xs i ≡ some (distance cj t i) → t ≤ length xs → r .a ≡ 0
+        → off (suc i) ≤ off t
+        → Way Point End σ Readable Clear hi μ t r → Way Point End σ Readable Clear hi μ i r
+
+  -- a path stays under a change of other variables and of words that its significant instruction does not look at
+  pub way-stable : {P Q : ℕ → Mem → ℕ → Regs → Type 0} {E : Type 0} {σ σ′ : Store} {R : Site → Type 0} {C : ℕ → Type 0} {hi : ℕ} {μ μ′ : Mem}
+      {i : ℕ} {r : Regs} → ((x : Site) → R x → σ x ≡ σ′ x) → ((h : ℕ) (ν : Mem) (i : ℕ) (r : Regs) → P h ν i r → Q h ν i r)
+      → ((h i : ℕ) (r : Regs) → P h μ i r → Q h μ′ i r) → Way P E σ R C hi μ i r → Way Q E σ′ R C hi μ′ i r
+  way-stable h k l (arrived p b) = arrived (l _ _ _ p) b
+  way-stable h k l (through e b f) = through e b f
+  way-stable h k l (quiet g at q v) = quiet g at q (way-stable h k l v)
+  way-stable h k l (loads x at a m v) = loads x at a m (rw (h x m) at (way-stable h k l v))
+  way-stable h k l (jumps at i c e v) = jumps at i c e (λ ν r q. way-stable h k (λ h. k h ν) (v ν r q))
+  way-stable h k l (falls at i a e v) = falls at i a e (way-stable h k l v)
