@@ -22,7 +22,7 @@ use Rattle.model.specs.Scheme.{initialise, howMany, wholeSize, size, siz
 use Rattle.model.specs.Scheme.{local, wholeCode, inputCode, code, codeAll, codePairs, codeStarts, codeEnds, codeEnable}
 use Rattle.model.specs.Scheme.{codeDisable, codeBranches}
 use Rattle.model.specs.Occam.{Store, value, Frame, inWhile, Process, before, finished, framesOf, resume, begin}
-use Rattle.model.specs.Occam.{enter, enterAll, firstTrue, State}
+use Rattle.model.specs.Occam.{enter, enterAll, firstTrue}
 use Rattle.model.specs.Demand.{liveIn}
 use Rattle.model.proofs.Ways.{Regs, Quiet, pushing, pointing, reversing, placing, moving, Mem, Way, arrived, through, quiet, jumps}
 use Rattle.model.proofs.Ways.{falls, quiet-ldc, quiet-ajw, quiet-ldlp, quiet-rev, quiet-mint, quiet-ldpi}
@@ -34,8 +34,8 @@ use Rattle.model.proofs.Sizes.{ends-length, pairs-length, branches-leng
 use Rattle.model.proofs.Points.{Setting, whole, At}
 use Rattle.model.proofs.Arrive.{inside, up, rises-le, init-at, tested, loop-parts, pair-parts}
 use Rattle.model.proofs.Parts.{Part, the-end, joins, Words, Within, FineWhole, Fine, FineAll, FinePairs}
-use Rattle.model.proofs.Conts.{Scoped, scoped-up, Cont, c-end, c-join, c-seq, c-var, c-chan, c-up, c-while, c-hop}
-use Rattle.model.proofs.Conts.{cont-inside, cont-low, cont-scoped, cont-bound}
+use Rattle.model.proofs.Conts.{Placed, placed-down, Cont, c-end, c-join, c-seq, c-var, c-chan, c-up, c-while, c-hop}
+use Rattle.model.proofs.Conts.{cont-inside, cont-low, cont-placed, cont-bound}
 use Rattle.model.proofs.Marks.{Skips, Settled, s-none, s-skip, s-if, s-par, AltCode, Opening, ParCode, Clear, Point, pt-stop, pt-assign}
 use Rattle.model.proofs.Marks.{pt-var, pt-chan, pt-taken, pt-none, pt-while, pt-in, pt-out, pt-par-place, pt-end, pt-alt}
 
@@ -78,47 +78,6 @@ sound-chans l v =
     }
 
 module _ (S : Setting) (a : Part) where
-  -- the variables and channels in scope where the part is over
-  abbrev pub outerVars : {hi i w : ℕ} {vars chans : List Site} {k : List Frame} → Cont S a hi vars chans k i w → List Site
-  outerVars (c-end {vars} e h) = vars
-  outerVars (c-join {vars} e x y h) = vars
-  outerVars (c-seq g f c) = outerVars c
-  outerVars (c-var e h c) = outerVars c
-  outerVars (c-chan e h c) = outerVars c
-  outerVars (c-up e c) = outerVars c
-  outerVars (c-while g f n b c) = outerVars c
-  outerVars (c-hop e h l c) = outerVars c
-
-  abbrev pub outerChans : {hi i w : ℕ} {vars chans : List Site} {k : List Frame} → Cont S a hi vars chans k i w → List Site
-  outerChans (c-end {chans} e h) = chans
-  outerChans (c-join {chans} e x y h) = chans
-  outerChans (c-seq g f c) = outerChans c
-  outerChans (c-var e h c) = outerChans c
-  outerChans (c-chan e h c) = outerChans c
-  outerChans (c-up e c) = outerChans c
-  outerChans (c-while g f n b c) = outerChans c
-  outerChans (c-hop e h l c) = outerChans c
-
-  pub outer-vars : {hi i w : ℕ} {vars chans : List Site} {k : List Frame} (c : Cont S a hi vars chans k i w) → Within (outerVars c) vars
-  outer-vars (c-end e h) x m = m
-  outer-vars (c-join e y z h) x m = m
-  outer-vars (c-seq g f c) x m = outer-vars c x m
-  outer-vars (c-var {p} {n} e h c) x m = Memᴰ·append-right (names p n) (outer-vars c x m)
-  outer-vars (c-chan e h c) x m = outer-vars c x m
-  outer-vars (c-up e c) x m = outer-vars c x m
-  outer-vars (c-while g f n b c) x m = outer-vars c x m
-  outer-vars (c-hop e h l c) x m = outer-vars c x m
-
-  pub outer-chans : {hi i w : ℕ} {vars chans : List Site} {k : List Frame} (c : Cont S a hi vars chans k i w) → Within (outerChans c) chans
-  outer-chans (c-end e h) x m = m
-  outer-chans (c-join e y z h) x m = m
-  outer-chans (c-seq g f c) x m = outer-chans c x m
-  outer-chans (c-var e h c) x m = outer-chans c x m
-  outer-chans (c-chan {p} {n} e h c) x m = Memᴰ·append-right (names p n) (outer-chans c x m)
-  outer-chans (c-up e c) x m = outer-chans c x m
-  outer-chans (c-while g f n b c) x m = outer-chans c x m
-  outer-chans (c-hop e h l c) x m = outer-chans c x m
-
   -- live variables are in scope
   pub cont-live : {hi i w : ℕ} {vars chans : List Site} {k : List Frame} → Cont S a hi vars chans k i w → Within (liveIn k) vars
   cont-live (c-end e h) x m = absurd (List·Memᴰ·not-nil m)
@@ -131,62 +90,50 @@ module _ (S : Setting) (a : Part) where
   cont-live (c-while g f n b c) x m = cont-live c x m
   cont-live (c-hop e h l c) x m = cont-live c x m
 
-  -- where frames are k, vars and chans are in scope: some of the former ones, among them the live variables and all outer names; and
-  -- their words are at and above w
-  pub record Scope (ov oc vars chans : List Site) (k : List Frame) (vars′ chans′ : List Site) (w : ℕ) : Type 0 where
+  -- where frames are k, vars′ and chans′ are in scope: some of the former ones, among them the live variables
+  pub record Scope (vars chans : List Site) (k : List Frame) (vars′ chans′ : List Site) (w : ℕ) : Type 0 where
     pub vars-in : Within vars′ vars
     pub chans-in : Within chans′ chans
     pub live : Within (liveIn k) vars′
-    pub outer-vars : Within ov vars′
-    pub outer-chans : Within oc chans′
-    pub scoped : Scoped S w vars′ chans′
+    pub placed : Placed S a w vars′ chans′
 
-  here : {hi i w : ℕ} {vars chans : List Site} {k : List Frame} (c : Cont S a hi vars chans k i w)
-      → Scope (outerVars c) (outerChans c) vars chans k vars chans w
-  here c =
-      record {
-        vars-in = λ x m. m;
-        chans-in = λ x m. m;
-        live = cont-live c;
-        outer-vars = outer-vars c;
-        outer-chans = outer-chans c;
-        scoped = cont-scoped S a c;
-      }
+  here : {hi i w : ℕ} {vars chans : List Site} {k : List Frame} (c : Cont S a hi vars chans k i w) → Scope vars chans k vars chans w
+  here c = record { vars-in = λ x m. m; chans-in = λ x m. m; live = cont-live c; placed = cont-placed S a c }
 
-  module _ (st : State) where
+  module _ (σ : Store) where
     -- the path to the next significant instruction of q, with these names in scope
     abbrev pub Goes : (vars chans : List Site) (q : Process) (hi : ℕ) (μ : Mem) (i : ℕ) (r : Regs) → Type 0
     Goes vars chans q hi μ i r =
-        Way (S .xs) (S .off) (S .word) (Point S a st vars chans q) ((q ≡ finished) × (a .ending ≡ the-end)) (st .store)
+        Way (S .xs) (S .off) (S .word) (Point S a σ vars chans q) ((q ≡ finished) × (a .ending ≡ the-end)) σ
         (λ x. List·Memᴰ x vars × List·Memᴰ x (a .reads)) (Clear S a vars chans) hi μ i r
 
     -- from index i, at workspace w, a process is led to its next significant instruction, after steps without code
-    pub data Comes (ov oc vars chans : List Site) (hi : ℕ) (p : Process) (i w : ℕ) : Type 0 where
-      comes : {q : Process} {vars′ chans′ : List Site} → Skips p q → Settled q → Scope ov oc vars chans (framesOf q) vars′ chans′ w
-          → ((μ : Mem) (r : Regs) → r .w ≡ w → Goes vars′ chans′ q hi μ i r) → Comes ov oc vars chans hi p i w
+    pub data Comes (vars chans : List Site) (hi : ℕ) (p : Process) (i w : ℕ) : Type 0 where
+      comes : {q : Process} {vars′ chans′ : List Site} → Skips p q → Settled q → Scope vars chans (framesOf q) vars′ chans′ w
+          → ((μ : Mem) (r : Regs) → r .w ≡ w → Goes vars′ chans′ q hi μ i r) → Comes vars chans hi p i w
 
     abbrev pub setW : ℕ → Regs → Regs
     setW w r = record { a = r .a; b = r .b; c = r .c; w = w }
 
     pub onto : {vars chans : List Site} {q : Process} {hi : ℕ} {μ : Mem} {i w : ℕ} (r : Regs) → r .w ≡ w
-        → Point S a st vars chans q hi μ i (setW w r) → Point S a st vars chans q hi μ i r
-    onto {vars} {chans} {q} {hi} {μ} {i} r e pt = subst (λ z. Point S a st vars chans q hi μ i (setW z r)) (sym e) pt
+        → Point S a σ vars chans q hi μ i (setW w r) → Point S a σ vars chans q hi μ i r
+    onto {vars} {chans} {q} {hi} {μ} {i} r e pt = subst (λ z. Point S a σ vars chans q hi μ i (setW z r)) (sym e) pt
 
     -- through an expression of a statement whose frames are k
     module _ {k : List Frame} {hi′ c w : ℕ} {vars chans : List Site} (cont : Cont S a hi′ vars chans k c w)
-        (v : Sound S a (st .store) vars chans) where
+        (v : Sound S a σ vars chans) where
       wide : w < 2 ^ 32
       wide = omega (arith, cont-low S a cont, v .high)
 
       clear : (r : Regs) → r .w ≡ w → a .bottom + 2 ≤ w → Clear S a vars chans (r .w)
       clear r e room =
-          subst (λ w. Clear S a vars chans w) (sym e) (record { room = room; low = cont-low S a cont; scoped = cont-scoped S a cont })
+          subst (λ w. Clear S a vars chans w) (sym e) (record { room = room; placed = cont-placed S a cont })
 
       through-expr : (q : Process) (e : Whole) {hi i i′ : ℕ} {μ : Mem} {r : Regs} → FineWhole a vars e
           → Seg (S .xs) i (wholeCode (S .word) w e) i′
-          → r .w ≡ w → ((r′ : Regs) → r′ .a ≡ value (st .store) e → r′ .w ≡ w → Goes vars chans q hi μ i′ r′) → Goes vars chans q hi μ i r
+          → r .w ≡ w → ((r′ : Regs) → r′ .a ≡ value σ e → r′ .w ≡ w → Goes vars chans q hi μ i′ r′) → Goes vars chans q hi μ i r
       through-expr q e f g p next =
-          evaluates (S .xs) (S .off) (S .word) (Point S a st vars chans q) ((q ≡ finished) × (a .ending ≡ the-end)) (st .store) vars (a .reads)
+          evaluates (S .xs) (S .off) (S .word) (Point S a σ vars chans q) ((q ≡ finished) × (a .ending ≡ the-end)) σ vars (a .reads)
           (Clear S a vars chans) w wide (v .vars-word) (v .values) (e .expr) g (f .0) (f .1) (f .2) p
           (λ r′ d. next r′ (d .value) (d .same-w ∙ p))
 
@@ -208,35 +155,35 @@ module _ (S : Setting) (a : Part) where
             let near-on : hi′ ≤ whole S + S .off test = omega (arith, rises-le S i test (omega arith) (omega (arith, inside S d))) in
             let ahead : suc test ≤ suc m = omega arith in
             through-expr (before (WHILE e s) k) e (f .1) g₁ q (λ r′ val q′.
-            arrived (onto r′ q′ (pt-while x ahead val g₂ (f .2) back near-back (subst (λ z. Cont S a hi′ vars chans k z w) p cont) near-on)) bound)
+            arrived (onto r′ q′ (pt-while x ahead (f .1) val g₂ (f .2) back near-back (subst (λ z. Cont S a hi′ vars chans k z w) p cont) near-on)) bound)
       ]
 
       -- at the CJ of a pair: its branch is taken, or the path goes on by `other`
       pair-way : (all : Pairs) (e : Whole) (s : Stmt) (ps : Pairs) {i m : ℕ} {μ : Mem} {r : Regs} → a .bottom + 2 ≤ w
-          → Fine (S .word) a vars chans w s
-          → firstTrue (st .store) all k ≡ firstTrue (st .store) (pair e s ps) k → hi′ ≤ whole S + S .off i → At S i (distance cj (suc m) i)
-          → Seg (S .xs) (suc i) (code (S .word) w (suc i) s) m → At S m (distance I.j c m) → suc m ≤ c → r .a ≡ value (st .store) e
+          → FinePairs (S .word) a vars chans w all → Fine (S .word) a vars chans w s
+          → firstTrue σ all k ≡ firstTrue σ (pair e s ps) k → hi′ ≤ whole S + S .off i → At S i (distance cj (suc m) i)
+          → Seg (S .xs) (suc i) (code (S .word) w (suc i) s) m → At S m (distance I.j c m) → suc m ≤ c → r .a ≡ value σ e
           → r .w ≡ w
-          → (t : Bool) → eqb (value (st .store) e) 0 ≡ t
-          → (r .a ≡ 0 → firstTrue (st .store) all k ≡ firstTrue (st .store) ps k → Goes vars chans (before (IF all) k) hi′ μ i r)
+          → (t : Bool) → eqb (value σ e) 0 ≡ t
+          → (r .a ≡ 0 → firstTrue σ all k ≡ firstTrue σ ps k → Goes vars chans (before (IF all) k) hi′ μ i r)
           → Goes vars chans (before (IF all) k) hi′ μ i r
       unfolding firstTrue
-      pair-way all e s ps {i} {m} {r} two f same near x g d l val q false z other =
-          let taken : firstTrue (st .store) all k ≡ begin s k = same ∙ rw z in
+      pair-way all e s ps {i} {m} {r} two fa f same near x g d l val q false z other =
+          let taken : firstTrue σ all k ≡ begin s k = same ∙ rw z in
           let yes : r .a ≢ 0 = λ h. eqb-false _ _ z (sym val ∙ h) in
           let bound : S .off (suc i) ≤ hi′ =
           omega (arith, cont-bound S a cont, rises-le S (suc i) c (omega (arith, seg-length g)) (cont-inside S a cont)) in
-          arrived (onto r q (pt-taken s x yes taken g f (c-hop d two l cont) near)) bound
-      pair-way all e s ps two f same near x g d l val q true z other = other (val ∙ eqb-true _ _ z) (same ∙ rw z)
+          arrived (onto r q (pt-taken s x yes fa taken g f (c-hop d two l cont) near)) bound
+      pair-way all e s ps two fa f same near x g d l val q true z other = other (val ∙ eqb-true _ _ z) (same ∙ rw z)
 
       -- through the conditions of an IF that are false, to the CJ of the first true pair or of the last
       pairs-way : (all : Pairs) (e : Whole) (s : Stmt) (ps : Pairs) {i : ℕ} → Seg (S .xs) i (codePairs (S .word) w i c (pair e s ps)) c
-          → a .bottom + 2 ≤ w → FinePairs (S .word) a vars chans w (pair e s ps)
-          → firstTrue (st .store) all k ≡ firstTrue (st .store) (pair e s ps) k
+          → a .bottom + 2 ≤ w → FinePairs (S .word) a vars chans w all → FinePairs (S .word) a vars chans w (pair e s ps)
+          → firstTrue σ all k ≡ firstTrue σ (pair e s ps) k
           → hi′ ≤ whole S + S .off i
           → (μ : Mem) (r : Regs) → r .w ≡ w → Goes vars chans (before (IF all) k) hi′ μ i r
       unfolding firstTrue codePairs
-      pairs-way all e s noPair {i} g two f same near μ r q = elim (pair-parts S e s noPair g) [
+      pairs-way all e s noPair {i} g two fa f same near μ r q = elim (pair-parts S e s noPair g) [
         | tested m g₁ x g₂ d g₃ ↦
             let p : c ≡ suc m = seg-length g₃ ∙ omega arith in
             let test = i + wholeSize e in
@@ -245,10 +192,10 @@ module _ (S : Setting) (a : Part) where
             omega (arith, cont-bound S a cont, rises-le S (suc test) c (omega (arith, seg-length g₂)) (cont-inside S a cont)) in
             let ahead : suc test ≤ suc m = omega (arith, seg-length g₂) in
             through-expr (before (IF all) k) e (f .0) g₁ q (λ r′ val q′.
-            pair-way all e s noPair two (f .1) same near-on x g₂ d (omega arith) val q′ (eqb (value (st .store) e) 0) refl (λ z none.
-            arrived (onto r′ q′ (pt-none x ahead z none (subst (λ n. Cont S a hi′ vars chans k n w) p cont) near-on)) bound))
+            pair-way all e s noPair two fa (f .1) same near-on x g₂ d (omega arith) val q′ (eqb (value σ e) 0) refl (λ z none.
+            arrived (onto r′ q′ (pt-none x ahead z fa none (subst (λ n. Cont S a hi′ vars chans k n w) p cont) near-on)) bound))
       ]
-      pairs-way all e s (pair e₂ s₂ ps) {i} g two f same near μ r q = elim (pair-parts S e s (pair e₂ s₂ ps) g) [
+      pairs-way all e s (pair e₂ s₂ ps) {i} g two fa f same near μ r q = elim (pair-parts S e s (pair e₂ s₂ ps) g) [
         | tested m g₁ x g₂ d g₃ ↦
             let test = i + wholeSize e in
             let later : suc test ≤ suc m = omega (arith, seg-length g₂) in
@@ -257,9 +204,9 @@ module _ (S : Setting) (a : Part) where
             omega (arith, rises-le S i (suc m) (omega arith) (omega (arith, inside S d))) in
             let hop : S .off (suc test) ≤ S .off (suc m) = rises-le S (suc test) (suc m) later (inside S d) in
             through-expr (before (IF all) k) e (f .0) g₁ q (λ r′ val q′.
-            pair-way all e s (pair e₂ s₂ ps) two (f .1) same near-on x g₂ d (omega (arith, seg-length g₃)) val q′ (eqb (value (st .store) e) 0) refl
+            pair-way all e s (pair e₂ s₂ ps) two fa (f .1) same near-on x g₂ d (omega (arith, seg-length g₃)) val q′ (eqb (value σ e) 0) refl
             (λ z none.
-            falls x (inside S d) z hop (pairs-way all e₂ s₂ ps g₃ two (f .2) none near-next μ r′ q′)))
+            falls x (inside S d) z hop (pairs-way all e₂ s₂ ps g₃ two fa (f .2) none near-next μ r′ q′)))
       ]
 
     -- a VAR's or CHAN's code
@@ -300,7 +247,7 @@ module _ (S : Setting) (a : Part) where
         → ((p : ℕ) → Quiet p (functionIn f) (operandIn (S .off) f) (pushing v)) → Opened f p n s vars chans k hi i w → 1 ≤ n → n ≤ w
         → w < 2 ^ 32
         → (Opening S a f p n s vars chans k hi (suc i) (w - n) → (μ : Mem) (r : Regs) → r .a ≡ v
-        → Point S a st vars chans q hi μ (suc (suc i)) (setW (w - n) r))
+        → Point S a σ vars chans q hi μ (suc (suc i)) (setW (w - n) r))
         → (μ : Mem) (r : Regs) → r .w ≡ w → Goes vars chans q hi μ i r
     unfolding functionIn operandIn
     open-way {f} {n} {hi} {i} {w} q v calm (opened x op) one fits wide pt μ r e =
@@ -395,6 +342,7 @@ module _ (S : Setting) (a : Part) where
           branches = seg-join body ends;
           fine = f .1;
           room = omega (arith, f .0);
+          placed = subst (λ n. Placed S a n vars chans) q (cont-placed S a c);
           after = c-up y (subst (λ n. Cont S a hi vars chans k (suc over) n) q c);
           near = omega (arith, up S x₁, up S x₂, up S x₃, up S x₄, up S x₅, up S x₆);
         }) x₁ (subst (λ n. At S (suc i) (distance ldc over n)) e₂ x₂) x₃ x₄ x₅ x₆
@@ -429,16 +377,16 @@ module _ (S : Setting) (a : Part) where
         → Seg (S .xs) i (wholeCode (S .word) w e) m
         → Seg (S .xs) m (plain stl (local (S .word) w x) ∷ []) i′ → Fine (S .word) a vars chans w (assign x e)
         → (c : Cont S a hi vars chans k i′ w) → hi ≤ whole S + S .off i
-        → Sound S a (st .store) vars chans → Comes (outerVars c) (outerChans c) vars chans hi (before (assign x e) k) i w
+        → Sound S a σ vars chans → Comes vars chans hi (before (assign x e) k) i w
     assign-comes x e {hi} {i} {m} {w} {vars} {chans} {k} g (at y nil) f c near v =
         let named : low (w + less (S .word x) w) ≡ S .word x = local-word w (S .word x) (wide c v) (v .vars-word x (f .0 .0)) in
         let near-on : hi ≤ whole S + S .off m = omega (arith, rises-le S i m (omega (arith, seg-length g)) (omega (arith, inside S y))) in
         comes s-none tt (here c) (λ μ r q. through-expr c v (before (assign x e) k) e (f .1) g q (λ r′ val q′.
-        arrived (onto r′ q′ (pt-assign y named (f .0) val (eval-word (st .store) (v .values) (e .expr) (f .1 .0)) c near-on)) (cont-bound S a c)))
+        arrived (onto r′ q′ (pt-assign y named f val (eval-word σ (v .values) (e .expr) (f .1 .0)) c near-on)) (cont-bound S a c)))
 
     input-comes : (d x : Site) {hi i i′ w : ℕ} {vars chans : List Site} {k : List Frame} → Seg (S .xs) i (inputCode (S .word) w d x) i′
         → Fine (S .word) a vars chans w (input d x) → (c : Cont S a hi vars chans k i′ w) → hi ≤ whole S + S .off i
-        → Sound S a (st .store) vars chans → Comes (outerVars c) (outerChans c) vars chans hi (before (input d x) k) i w
+        → Sound S a σ vars chans → Comes vars chans hi (before (input d x) k) i w
     unfolding functionIn operandIn
     input-comes d x {hi} {i} {w} (at p₁ (at p₂ (at p₃ (at p₄ nil)))) f c near v =
         let o = less (S .word x) w in
@@ -457,7 +405,7 @@ module _ (S : Setting) (a : Part) where
         → Seg (S .xs) m
         (plain ldlp (local (S .word) w d) ∷ operation I.rev ∷ plain ajw (minus 1) ∷ operation I.outword ∷ plain ajw 1 ∷ []) i′
         → Fine (S .word) a vars chans w (output d e) → (c : Cont S a hi vars chans k i′ w) → hi ≤ whole S + S .off i
-        → Sound S a (st .store) vars chans → Comes (outerVars c) (outerChans c) vars chans hi (before (output d e) k) i w
+        → Sound S a σ vars chans → Comes vars chans hi (before (output d e) k) i w
     unfolding functionIn operandIn
     output-comes d e {hi} {i} {m} {w} {vars} {chans} {k} g (at p₁ (at p₂ (at p₃ (at p₄ (at p₅ nil))))) f c near v =
         let o = less (S .word d) w in
@@ -472,24 +420,24 @@ module _ (S : Setting) (a : Part) where
         (quiet reversing p₂ quiet-rev
         (quiet (moving (minus 1)) p₃ (quiet-ajw (minus 1))
         (arrived (onto (moving (minus 1) (reversing (pointing o r′))) down
-        (pt-out p₄ val (eval-word (st .store) (v .values) (e .expr) (f .1 .0)) (rw q′ vd)
+        (pt-out p₄ val (eval-word σ (v .values) (e .expr) (f .1 .0)) (rw q′ vd)
         (subst (λ n. Fine (S .word) a vars chans n (output d e)) back f) p₅
         (subst (λ n. Cont S a hi vars chans k (suc (suc (suc (suc (suc m))))) n) back c) near-on))
         bound)))))
 
     module _ {hi i i′ w : ℕ} {vars chans : List Site} {k : List Frame} (c : Cont S a hi vars chans k i′ w) (near : hi ≤ whole S + S .off i)
-        (v : Sound S a (st .store) vars chans) where
+        (v : Sound S a σ vars chans) where
       if-comes : (e : Whole) (s : Stmt) (ps : Pairs) → Seg (S .xs) i (code (S .word) w i (IF (pair e s ps))) i′
           → Fine (S .word) a vars chans w (IF (pair e s ps))
-          → Comes (outerVars c) (outerChans c) vars chans hi (before (IF (pair e s ps)) k) i w
+          → Comes vars chans hi (before (IF (pair e s ps)) k) i w
       unfolding code
       if-comes e s ps g f =
           let over = i + sizePairs (pair e s ps) in
           let p : over ≡ i′ = sym (seg-length g ∙ ap (λ n. i + n) (pairs-length (S .word) w i over (pair e s ps))) in
-          comes s-none tt (here c) (pairs-way c v (pair e s ps) e s ps (rw p at g) (f .0) (f .1) refl near)
+          comes s-none tt (here c) (pairs-way c v (pair e s ps) e s ps (rw p at g) (f .0) (f .1) (f .1) refl near)
 
       while-comes : (e : Whole) (s : Stmt) → Seg (S .xs) i (code (S .word) w i (WHILE e s)) i′
-          → Fine (S .word) a vars chans w (WHILE e s) → Comes (outerVars c) (outerChans c) vars chans hi (before (WHILE e s) k) i w
+          → Fine (S .word) a vars chans w (WHILE e s) → Comes vars chans hi (before (WHILE e s) k) i w
       while-comes e s g f = elim (loop-parts S e s g) [
         | tested m g₁ x g₂ d g₃ ↦
             let test = i + wholeSize e in
@@ -499,7 +447,7 @@ module _ (S : Setting) (a : Part) where
       ]
 
       var-comes : (p n : ℕ) (s : Stmt) → Seg (S .xs) i (code (S .word) w i (VAR p n s)) i′ → Fine (S .word) a vars chans w (VAR p n s)
-          → Comes (outerVars c) (outerChans c) vars chans hi (before (VAR p n s) k) i w
+          → Comes vars chans hi (before (VAR p n s) k) i w
       unfolding code functionIn operandIn
       var-comes p n s g f =
           let fits : n ≤ w = omega (arith, f .1) in
@@ -510,7 +458,7 @@ module _ (S : Setting) (a : Part) where
           (λ op μ r z. pt-var op (f .4) same (f .0) e z (λ l h. absurd (omega arith))))
 
       chan-comes : (p n : ℕ) (s : Stmt) → Seg (S .xs) i (code (S .word) w i (CHAN p n s)) i′ → Fine (S .word) a vars chans w (CHAN p n s)
-          → Comes (outerVars c) (outerChans c) vars chans hi (before (CHAN p n s) k) i w
+          → Comes vars chans hi (before (CHAN p n s) k) i w
       unfolding code functionIn operandIn
       chan-comes p n s g f =
           let fits : n ≤ w = omega (arith, f .1) in
@@ -522,7 +470,7 @@ module _ (S : Setting) (a : Part) where
 
       par-comes : (p : ℕ) (s : Stmt) (ss : Stmts) → Seg (S .xs) i (code (S .word) w i (PAR p (stmt s ss))) i′
           → Fine (S .word) a vars chans w (PAR p (stmt s ss))
-          → Comes (outerVars c) (outerChans c) vars chans hi (before (PAR p (stmt s ss)) k) i w
+          → Comes vars chans hi (before (PAR p (stmt s ss)) k) i w
       unfolding functionIn operandIn
       par-comes p s ss g f = elim (par-parts p s ss g f c near) [
         | par-opened t x₁ x₂ x₃ x₄ x₅ x₆ ↦
@@ -544,7 +492,7 @@ module _ (S : Setting) (a : Part) where
       ]
 
       alt-comes : (gs : Guards) → Seg (S .xs) i (code (S .word) w i (ALT gs)) i′ → Fine (S .word) a vars chans w (ALT gs)
-          → Comes (outerVars c) (outerChans c) vars chans hi (before (ALT gs) k) i w
+          → Comes vars chans hi (before (ALT gs) k) i w
       unfolding functionIn operandIn
       alt-comes gs g f =
           let t = alt-parts gs g f c near in
@@ -559,16 +507,16 @@ module _ (S : Setting) (a : Part) where
           let down : low (r .w + minus 1) ≡ w - 1 = rw q (omega (arith, f .0, wide c v)) in
           quiet (moving (minus 1)) (t .lowers) (quiet-ajw (minus 1))
           (arrived (onto (moving (minus 1) r) down
-          (subst (λ n. Point S a st vars chans (before (ALT gs) k) hi μ n (setW (w - 1) (moving (minus 1) r))) one (pt-alt t′ same))) bound))
+          (subst (λ n. Point S a σ vars chans (before (ALT gs) k) hi μ n (setW (w - 1) (moving (minus 1) r))) one (pt-alt t′ same))) bound))
 
     mutual
       unfolding enter enterAll code resume
 
       pub enters : (s : Stmt) {hi i i′ w : ℕ} {vars chans : List Site} {k : List Frame} → Seg (S .xs) i (code (S .word) w i s) i′
           → Fine (S .word) a vars chans w s → (c : Cont S a hi vars chans k i′ w) → hi ≤ whole S + S .off i
-          → Sound S a (st .store) vars chans
-          → Comes (outerVars c) (outerChans c) vars chans hi (resume k) i′ w
-          → Comes (outerVars c) (outerChans c) vars chans hi (begin s k) i w
+          → Sound S a σ vars chans
+          → Comes vars chans hi (resume k) i′ w
+          → Comes vars chans hi (begin s k) i w
       enters SKIP nil f c near v (comes sk settled sub way) = comes (s-skip sk) settled sub way
       enters STOP (at x nil) f c near v rest =
           comes s-none tt (here c) (λ μ r q. arrived (pt-stop x (clear c v r q f)) (cont-bound S a c))
@@ -591,9 +539,9 @@ module _ (S : Setting) (a : Part) where
 
       pub enters-all : (ss : Stmts) {hi i i′ w : ℕ} {vars chans : List Site} {k : List Frame} → Seg (S .xs) i (codeAll (S .word) w i ss) i′
           → FineAll (S .word) a vars chans w ss
-          → (c : Cont S a hi vars chans k i′ w) → hi ≤ whole S + S .off i → Sound S a (st .store) vars chans
-          → Comes (outerVars c) (outerChans c) vars chans hi (resume k) i′ w
-          → Comes (outerVars c) (outerChans c) vars chans hi (enterAll ss k (resume k)) i w
+          → (c : Cont S a hi vars chans k i′ w) → hi ≤ whole S + S .off i → Sound S a σ vars chans
+          → Comes vars chans hi (resume k) i′ w
+          → Comes vars chans hi (enterAll ss k (resume k)) i w
       enters-all noStmt nil f c near v rest = rest
       enters-all (stmt s ss) {hi} {i} {w} {k} g f c near v rest =
           let (g₁, g₂) = cut (code (S .word) w i s) (i + size s) (omega (arith, code-length (S .word) w i s)) g in
@@ -603,7 +551,7 @@ module _ (S : Setting) (a : Part) where
 
     -- from where the frames' parts are over
     pub arrives : {hi i w : ℕ} {vars chans : List Site} {k : List Frame} (c : Cont S a hi vars chans k i w) → hi ≤ whole S + S .off i
-        → Sound S a (st .store) vars chans → Comes (outerVars c) (outerChans c) vars chans hi (resume k) i w
+        → Sound S a σ vars chans → Comes vars chans hi (resume k) i w
     unfolding resume functionIn operandIn
     arrives (c-end e h) near v =
         comes s-none tt (here (c-end e h)) (λ μ r q. let last : whole S ≤ whole S = omega arith in through refl last (refl, e))
@@ -620,9 +568,7 @@ module _ (S : Setting) (a : Part) where
                 vars-in = λ x m. Memᴰ·append-right (names p n) (sub .vars-in x m);
                 chans-in = sub .chans-in;
                 live = sub .live;
-                outer-vars = sub .outer-vars;
-                outer-chans = sub .outer-chans;
-                scoped = scoped-up S w n (sub .scoped);
+                placed = placed-down S w n (sub .placed);
               })
               (λ μ r q. quiet (moving n) e (quiet-ajw n) (way μ (moving n r) (rw q (omega (arith, cont-low S a c, v .high)))))
         ]
@@ -633,9 +579,7 @@ module _ (S : Setting) (a : Part) where
                 vars-in = sub .vars-in;
                 chans-in = λ x m. Memᴰ·append-right (names p n) (sub .chans-in x m);
                 live = sub .live;
-                outer-vars = sub .outer-vars;
-                outer-chans = sub .outer-chans;
-                scoped = scoped-up S w n (sub .scoped);
+                placed = placed-down S w n (sub .placed);
               })
               (λ μ r q. quiet (moving n) e (quiet-ajw n) (way μ (moving n r) (rw q (omega (arith, cont-low S a c, v .high)))))
         ]
@@ -646,9 +590,7 @@ module _ (S : Setting) (a : Part) where
                 vars-in = sub .vars-in;
                 chans-in = sub .chans-in;
                 live = sub .live;
-                outer-vars = sub .outer-vars;
-                outer-chans = sub .outer-chans;
-                scoped = scoped-up S w n (sub .scoped);
+                placed = placed-down S w n (sub .placed);
               })
               (λ μ r q. quiet (moving n) e (quiet-ajw n) (way μ (moving n r) (rw q (omega (arith, cont-low S a c, v .high)))))
         ]
@@ -666,7 +608,7 @@ module _ (S : Setting) (a : Part) where
           | comes {vars′} {chans′} sk settled sub way ↦
               comes sk settled sub (λ μ r q.
               let ready : Clear S a vars′ chans′ (r .w) =
-              subst (λ w. Clear S a vars′ chans′ w) (sym q) (record { room = two; low = cont-low S a c; scoped = sub .scoped }) in
+              subst (λ w. Clear S a vars′ chans′ w) (sym q) (record { room = two; placed = sub .placed }) in
               let reach : hi + S .off (suc i) ≤ hi + S .off t = omega (arith, rises-le S (suc i) t l (cont-inside S a c)) in
               jumps e (cont-inside S a c) ready reach (λ μ′ r′ q′. way μ′ r′ (q′ ∙ q)))
         ]

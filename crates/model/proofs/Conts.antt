@@ -2,8 +2,8 @@
 use Prim.Native.Nat.{ℕ, zero, suc, _+_, _-_, _≤_, _<_}
 use native.Mathlib.Omega.{arith}
 use mathlib.Core.Path.{_≡_, sym, ap, _∙_}
-use mathlib.Core.Logic.{⊎-elim}
-use mathlib.Core.List.{List, [], _∷_, _++_, List·Memᴰ, List·Memᴰ·append-cases}
+use mathlib.Core.Logic.{_⊎_, inl, inr, ⊎-elim}
+use mathlib.Core.List.{List, [], _∷_, _++_, List·Memᴰ, Memᴰ·append-right, List·Memᴰ·append-cases}
 use lib.ListN.{length}
 use Rattle.model.specs.Syntax.{Site, declared, Whole, Stmt, WHILE, Stmts}
 use Rattle.model.specs.Reader.{names}
@@ -14,7 +14,7 @@ use Rattle.model.specs.Occam.{Frame, inSeq, inVar, inWhile}
 use Rattle.model.proofs.Expr.{Seg, seg-length}
 use Rattle.model.proofs.Points.{Setting, whole, At}
 use Rattle.model.proofs.Arrive.{named, named-in, inside, rises-le, up, tested, loop-parts}
-use Rattle.model.proofs.Parts.{Part, Ending, the-end, joins, Words, Fine, FineAll}
+use Rattle.model.proofs.Parts.{Part, Ending, the-end, joins, Words, Within, Fine, FineAll}
 
 module _ (S : Setting) where
   -- the names in scope: their words are at and above w, and each has its own
@@ -25,9 +25,9 @@ module _ (S : Setting) where
     pub chans-distinct : (x y : Site) → List·Memᴰ x chans → List·Memᴰ y chans → S .word x ≡ S .word y → x ≡ y
     pub apart : (x y : Site) → List·Memᴰ x vars → List·Memᴰ y chans → S .word x ≡ S .word y → ⊥
 
-  -- more words
-  pub scoped-up : (w n : ℕ) {vars chans : List Site} → Scoped (w + n) vars chans → Scoped w vars chans
-  scoped-up w n h =
+  -- more words below
+  pub scoped-below : {w w′ : ℕ} {vars chans : List Site} → w′ ≤ w → Scoped w vars chans → Scoped w′ vars chans
+  scoped-below l h =
       record {
         vars-above = λ x m. omega (arith, h .vars-above x m);
         chans-above = λ x m. omega (arith, h .chans-above x m);
@@ -35,6 +35,9 @@ module _ (S : Setting) where
         chans-distinct = h .chans-distinct;
         apart = h .apart;
       }
+
+  pub scoped-up : (w n : ℕ) {vars chans : List Site} → Scoped (w + n) vars chans → Scoped w vars chans
+  scoped-up w n h = scoped-below (omega arith) h
 
   -- names that are declared
   module _ (p n w : ℕ) (words : Words (S .word) p n w) where
@@ -95,14 +98,77 @@ module _ (S : Setting) where
               (List·Memᴰ·append-cases (names p n) k);
         }
 
+  -- names that are in scope in a part, at a workspace: each has a word of its own above it, and was in scope where the part began or is
+  -- declared in it
+  pub record Placed (a : Part) (w : ℕ) (vars chans : List Site) : Type 0 where
+    pub scoped : Scoped w vars chans
+    pub low : w ≤ a .top
+    pub vars-origin : (x : Site) → List·Memᴰ x vars → List·Memᴰ x (a .vars) ⊎ (S .word x < a .top)
+    pub chans-origin : (c : Site) → List·Memᴰ c chans → List·Memᴰ c (a .chans) ⊎ (S .word c < a .top)
+    pub vars-outer : Within (a .vars) vars
+    pub chans-outer : Within (a .chans) chans
+
+  -- where the part is over
+  placed-top : (a : Part) → Scoped (a .top) (a .vars) (a .chans) → Placed a (a .top) (a .vars) (a .chans)
+  placed-top a h =
+      record {
+        scoped = h;
+        low = omega arith;
+        vars-origin = λ x m. inl m;
+        chans-origin = λ x m. inl m;
+        vars-outer = λ x m. m;
+        chans-outer = λ x m. m;
+      }
+
+  -- below
+  pub placed-down : {a : Part} (w n : ℕ) {vars chans : List Site} → Placed a (w + n) vars chans → Placed a w vars chans
+  placed-down w n h =
+      record {
+        scoped = scoped-up w n (h .scoped);
+        low = omega (arith, h .low);
+        vars-origin = h .vars-origin;
+        chans-origin = h .chans-origin;
+        vars-outer = h .vars-outer;
+        chans-outer = h .chans-outer;
+      }
+
+  -- with declared variables, or channels
+  module _ {a : Part} (p n w : ℕ) (words : Words (S .word) p n w) {vars chans : List Site} (h : Placed a (w + n) vars chans) where
+    named-origin : (l m : List Site) → ((x : Site) → List·Memᴰ x l → List·Memᴰ x m ⊎ (S .word x < a .top))
+        → (x : Site) → List·Memᴰ x (names p n ++ l) → List·Memᴰ x m ⊎ (S .word x < a .top)
+    named-origin l m f x k =
+        ⊎-elim (λ k. inr (omega (arith, names-here p n w words x k .1, h .low))) (f x) (List·Memᴰ·append-cases (names p n) k)
+
+    pub placed-vars : Placed a w (names p n ++ vars) chans
+    placed-vars =
+        record {
+          scoped = scoped-vars p n w words (h .scoped);
+          low = omega (arith, h .low);
+          vars-origin = named-origin vars (a .vars) (h .vars-origin);
+          chans-origin = h .chans-origin;
+          vars-outer = λ x m. Memᴰ·append-right (names p n) (h .vars-outer x m);
+          chans-outer = h .chans-outer;
+        }
+
+    pub placed-chans : Placed a w vars (names p n ++ chans)
+    placed-chans =
+        record {
+          scoped = scoped-chans p n w words (h .scoped);
+          low = omega (arith, h .low);
+          vars-origin = h .vars-origin;
+          chans-origin = named-origin chans (a .chans) (h .chans-origin);
+          vars-outer = h .vars-outer;
+          chans-outer = λ x m. Memᴰ·append-right (names p n) (h .chans-outer x m);
+        }
+
   module _ (a : Part) where
     -- in the part a, the frames k are gone through by the code from index i on, at the workspace w, with these variables and channels in
     -- scope; paths from here end at the byte hi at the latest
     pub data Cont : (hi : ℕ) (vars chans : List Site) → List Frame → (i w : ℕ) → Type 0 where
-      c-end : {vars chans : List Site} → a .ending ≡ the-end → Scoped (a .top) vars chans
-          → Cont (whole S) vars chans [] (length (S .xs)) (a .top)
-      c-join : {i d : ℕ} {vars chans : List Site} → a .ending ≡ joins d → At S i (plain ldlp d) → At S (suc i) (operation endp)
-          → Scoped (a .top) vars chans → Cont (S .off (suc (suc i))) vars chans [] i (a .top)
+      c-end : a .ending ≡ the-end → Scoped (a .top) (a .vars) (a .chans)
+          → Cont (whole S) (a .vars) (a .chans) [] (length (S .xs)) (a .top)
+      c-join : {i d : ℕ} → a .ending ≡ joins d → At S i (plain ldlp d) → At S (suc i) (operation endp)
+          → Scoped (a .top) (a .vars) (a .chans) → Cont (S .off (suc (suc i))) (a .vars) (a .chans) [] i (a .top)
       c-seq : {hi i i′ w : ℕ} {vars chans : List Site} {ss : Stmts} {k : List Frame} → Seg (S .xs) i (codeAll (S .word) w i ss) i′
           → FineAll (S .word) a vars chans w ss → Cont hi vars chans k i′ w → Cont hi vars chans (inSeq ss ∷ k) i w
       c-var : {hi i w p n : ℕ} {vars chans : List Site} {k : List Frame} → At S i (plain ajw n) → Words (S .word) p n w
@@ -128,26 +194,22 @@ module _ (S : Setting) where
     cont-inside (c-while g f n b c) = omega (arith, cont-inside c)
     cont-inside (c-hop e h l c) = omega (arith, cont-inside c)
 
-    pub cont-low : {hi i w : ℕ} {vars chans : List Site} {k : List Frame} → Cont hi vars chans k i w → w ≤ a .top
-    cont-low (c-end e h) = omega arith
-    cont-low (c-join e x y h) = omega arith
-    cont-low (c-seq g f c) = cont-low c
-    cont-low (c-var e h c) = omega (arith, cont-low c)
-    cont-low (c-chan e h c) = omega (arith, cont-low c)
-    cont-low (c-up e c) = omega (arith, cont-low c)
-    cont-low (c-while g f n b c) = cont-low c
-    cont-low (c-hop e h l c) = cont-low c
-
     -- the names in scope have words of their own, at and above the workspace
+    pub cont-placed : {hi i w : ℕ} {vars chans : List Site} {k : List Frame} → Cont hi vars chans k i w → Placed a w vars chans
+    cont-placed (c-end e h) = placed-top a h
+    cont-placed (c-join e x y h) = placed-top a h
+    cont-placed (c-seq g f c) = cont-placed c
+    cont-placed (c-var {w} {p} {n} e h c) = placed-vars p n w h (cont-placed c)
+    cont-placed (c-chan {w} {p} {n} e h c) = placed-chans p n w h (cont-placed c)
+    cont-placed (c-up {w} {n} e c) = placed-down w n (cont-placed c)
+    cont-placed (c-while g f n b c) = cont-placed c
+    cont-placed (c-hop e h l c) = cont-placed c
+
+    pub cont-low : {hi i w : ℕ} {vars chans : List Site} {k : List Frame} → Cont hi vars chans k i w → w ≤ a .top
+    cont-low c = cont-placed c .low
+
     pub cont-scoped : {hi i w : ℕ} {vars chans : List Site} {k : List Frame} → Cont hi vars chans k i w → Scoped w vars chans
-    cont-scoped (c-end e h) = h
-    cont-scoped (c-join e x y h) = h
-    cont-scoped (c-seq g f c) = cont-scoped c
-    cont-scoped (c-var {w} {p} {n} e h c) = scoped-vars p n w h (cont-scoped c)
-    cont-scoped (c-chan {w} {p} {n} e h c) = scoped-chans p n w h (cont-scoped c)
-    cont-scoped (c-up {w} {n} e c) = scoped-up w n (cont-scoped c)
-    cont-scoped (c-while g f n b c) = cont-scoped c
-    cont-scoped (c-hop e h l c) = cont-scoped c
+    cont-scoped c = cont-placed c .scoped
 
     pub cont-bound : {hi i w : ℕ} {vars chans : List Site} {k : List Frame} → Cont hi vars chans k i w → S .off i ≤ hi
     cont-bound (c-end e h) = omega arith

@@ -99,8 +99,8 @@ covers-second : {a : Part} (u v : Usage) (ds es : List Site) → Covers a (u ⊕
 covers-second u v ds es c = covers-declared v ds es (covers-after u v (ds ++ es) c)
 
 -- a part of its own
-covers-own : (w : ℕ) (e : Ending) (s : Stmt) → Covers (partOf w e s) (usage s) (declares s)
-covers-own w e s =
+covers-own : (vars chans : List Site) (w : ℕ) (e : Ending) (s : Stmt) → Covers (partOf vars chans w e s) (usage s) (declares s)
+covers-own vars chans w e s =
     record {
       reads = λ x m. m;
       changes = λ x m. Memᴰ·append-left _ m;
@@ -205,9 +205,9 @@ module _ (sc : Scope) (lo : ℕ) (before : (x : Site) → List·Memᴰ x (sc .va
 
   -- two branches of a PAR
   branches-apart : (s t : Stmt) (mid lo₂ hi : ℕ) → Well sc s → Placed lo mid s → mid ≤ lo₂ → Well sc t → Placed lo₂ hi t
-      → clash (usage s) (usage t) ≡ false → (w d e : ℕ) → d + need s ≤ e
-      → Apart (partOf (w - d) (joins d) s) (partOf (w - e) (joins e) t)
-  branches-apart s t mid lo₂ hi ws hs le wt ht c w d e far =
+      → clash (usage s) (usage t) ≡ false → (vars chans : List Site) (w d e : ℕ) → d + need s ≤ e
+      → Apart (partOf vars chans (w - d) (joins d) s) (partOf vars chans (w - e) (joins e) t)
+  branches-apart s t mid lo₂ hi ws hs le wt ht c vars chans w d e far =
       let apart = clash-disjoint (usage s) (usage t) c in
       record {
         words = inr (omega arith);
@@ -227,15 +227,15 @@ module _ (word : Site → ℕ) where
   -- a branch and all later ones
   beside : (ss : Stmts) (sc : Scope) (lo : ℕ) → ((x : Site) → List·Memᴰ x (sc .variables) → Between 0 lo x)
       → (s : Stmt) (mid lo₂ hi : ℕ) → Well sc s → Placed lo mid s → mid ≤ lo₂ → WellAll sc ss → PlacedAll lo₂ hi ss
-      → clashesLater (usage s) ss ≡ false → (w d e : ℕ) → d + need s ≤ e
-      → Beside word (partOf (w - d) (joins d) s) w e ss
+      → clashesLater (usage s) ss ≡ false → (vars chans : List Site) (w d e : ℕ) → d + need s ≤ e
+      → Beside word (partOf vars chans (w - d) (joins d) s) vars chans w e ss
   unfolding clashesLater
-  beside noStmt sc lo before s mid lo₂ hi ws hs le wss hss c w d e far = tt
-  beside (stmt t ss) sc lo before s mid lo₂ hi ws hs le wss hss c w d e far =
+  beside noStmt sc lo before s mid lo₂ hi ws hs le wss hss c vars chans w d e far = tt
+  beside (stmt t ss) sc lo before s mid lo₂ hi ws hs le wss hss c vars chans w d e far =
       let (no-clash, later) = neither (clash (usage s) (usage t)) (clashesLater (usage s) ss) c in
       let rising = placed-le t (hss .1) in (
-        branches-apart sc lo before s t mid lo₂ (hss .0) ws hs le (wss .0) (hss .1) no-clash w d e far,
-        beside ss sc lo before s mid (hss .0) hi ws hs (omega arith) (wss .1) (hss .2) later w d (e + need t) (omega arith),
+        branches-apart sc lo before s t mid lo₂ (hss .0) ws hs le (wss .0) (hss .1) no-clash vars chans w d e far,
+        beside ss sc lo before s mid (hss .0) hi ws hs (omega arith) (wss .1) (hss .2) later vars chans w d (e + need t) (omega arith),
       )
 
   module _ (at : ℕ → ℕ) (named : (p k : ℕ) → word (declared p k) ≡ at p + k) where
@@ -336,9 +336,9 @@ module _ (word : Site → ℕ) where
               inputs = first .inputs;
               outputs = first .outputs;
             },
-            fine s (partOf (w - d) (joins d) s) sc vars chans lo (pl .0) (w - d) k (h .0) (pl .1) laid
-                (covers-own (w - d) (joins d) s) (fs .0) (ds .0) (omega arith) (omega arith),
-            beside ss sc lo (k .before) s (pl .0) (pl .0) hi (h .0) (pl .1) (omega arith) (h .1) (pl .2) later w d (d + need s)
+            fine s (partOf vars chans (w - d) (joins d) s) sc vars chans lo (pl .0) (w - d) k (h .0) (pl .1) laid
+                (covers-own vars chans (w - d) (joins d) s) (fs .0) (ds .0) (omega arith) (omega arith),
+            beside ss sc lo (k .before) s (pl .0) (pl .0) hi (h .0) (pl .1) (omega arith) (h .1) (pl .2) later vars chans w d (d + need s)
                 (omega arith),
             fine-branches ss a sc vars chans (pl .0) hi w (d + need s) (v - need s) (omega arith) (scoped-later (placed-le s (pl .1)) k)
                 (h .1) (pl .2) (l .1) (covers-second (usage s) (usageAll ss) (declares s) (declaresAll ss) c) rest (fs .1) (ds .1)
@@ -397,22 +397,28 @@ module _ (word : Site → ℕ) where
                 (covers-second (usage s) (usageGuards gs) (declares s) (declaresGuards gs) after) (fs .1) (ds .2) (omega arith) t,
           )
 
+-- the outside channels
+abbrev pub outsideNames : Program → List Site
+outsideNames p = numbered inputOf (p .inputs) ++ numbered outputOf (p .outputs)
+
+-- the whole program as a part
+abbrev pub wholePart : Program → Part
+wholePart p = partOf [] (outsideNames p) (base p) the-end (p .body)
+
 -- a program that was read and passed every check
 pub program-fine : (p : Program) (end : ℕ) → WellProgram p → Placed 0 end (p .body) → Passed p
-    → Fine (wordOf p) (partOf (base p) the-end (p .body)) [] (numbered inputOf (p .inputs) ++ numbered outputOf (p .outputs)) (base p)
-    (p .body)
+    → Fine (wordOf p) (wholePart p) [] (outsideNames p) (base p) (p .body)
 unfolding wordOf
 program-fine p end well placed passed =
     fine (wordOf p) (λ q. workspaceOf q (layout (base p) (p .body))) (λ q k. refl) (p .body)
-    (partOf (base p) the-end (p .body)) (outermost p) [] (outermost p .channels) 0 end (base p)
+    (wholePart p) (outermost p) [] (outermost p .channels) 0 end (base p)
     (record { variables = λ x m. m; channels = λ x m. m; before = λ x m. absurd (List·Memᴰ·not-nil m) })
-    (well .2) placed (program-laid 0 end (base p) (p .body) placed) (covers-own (base p) the-end (p .body))
+    (well .2) placed (program-laid 0 end (base p) (p .body) placed) (covers-own [] (outsideNames p) (base p) the-end (p .body))
     (passed .0) (passed .1) (omega arith) (omega arith)
 
 -- every accepted table
 pub accepted-fine : (table : List ℕ) (p : Program) → accept table ≡ program p
-    → Fine (wordOf p) (partOf (base p) the-end (p .body)) [] (numbered inputOf (p .inputs) ++ numbered outputOf (p .outputs)) (base p)
-    (p .body)
+    → Fine (wordOf p) (wholePart p) [] (outsideNames p) (base p) (p .body)
 accepted-fine table p h =
     let (well, places) = read-well table p (accept-reads table p h) in
     program-fine p _ well places (accept-passed table p h)

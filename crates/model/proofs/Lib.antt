@@ -24,9 +24,9 @@ pub mod Arrive
 pub mod Conts
 pub mod Marks
 pub mod Trees
+pub mod Zones
 pub mod Arrivals
 pub mod Onwards
-pub mod Leaves
 pub mod Comes
 pub mod Effects
 pub mod Acts

@@ -2,7 +2,7 @@
 use Prim.Native.Nat.{ℕ, zero, suc, _+_, _-_, _^_, _≤_, _<_}
 use mathlib.Core.Path.{_≡_}
 use mathlib.Core.Logic.{_≢_, _⊎_}
-use mathlib.Core.Bool.{true}
+use mathlib.Core.Bool.{true, false}
 use mathlib.Core.List.{List, [], _∷_, _++_, List·Memᴰ}
 use lib.ListN.{length}
 use Rattle.model.specs.Word.{low, less, notProcess}
@@ -21,8 +21,8 @@ use Rattle.model.specs.Occam.{State, Sender}
 use Rattle.model.proofs.Ways.{Regs, Mem, Way}
 use Rattle.model.proofs.Expr.{Seg}
 use Rattle.model.proofs.Points.{Setting, whole, At}
-use Rattle.model.proofs.Parts.{Part, joins, partOf, Words, Target, Fine, FineBranches}
-use Rattle.model.proofs.Conts.{Scoped, Cont}
+use Rattle.model.proofs.Parts.{Part, joins, Words, FineWhole, Fine, FinePairs, FineBranches}
+use Rattle.model.proofs.Conts.{Scoped, Placed, Cont}
 
 -- a guard that is ready
 pub data Ready (st : State) : Guards → Type 0 where
@@ -48,12 +48,14 @@ pub data Rest : Guards → (b : ℕ) → Guards → (t : ℕ) → Type 0 where
       → Rest (inputGuard e c x s gs) b hs t
   rest-skip : {e : Whole} {s : Stmt} {gs hs : Guards} {b t : ℕ} → Rest gs (b + 1 + size s + 1) hs t → Rest (skipGuard e s gs) b hs t
 
--- the guards from the first list up to the second, which is the rest of it. Each with a true condition is ready or marked with w
+-- of the guards from the first list up to the second, which is the rest of it, none is ready; each with a true condition is marked with w
 pub data Noticed (st : State) (word : Site → ℕ) (μ : Mem) (w : ℕ) : Guards → Guards → Type 0 where
   n-none : {gs : Guards} → Noticed st word μ w gs gs
-  n-input : {e : Whole} {c x : Site} {s : Stmt} {gs hs : Guards} → (isTrue (st .store) e ≡ true → (μ (word c) ≡ w) ⊎ Sender st c)
+  n-input : {e : Whole} {c x : Site} {s : Stmt} {gs hs : Guards}
+      → (isTrue (st .store) e ≡ true → (μ (word c) ≡ w) × (Sender st c → ⊥))
       → Noticed st word μ w gs hs → Noticed st word μ w (inputGuard e c x s gs) hs
-  n-skip : {e : Whole} {s : Stmt} {gs hs : Guards} → Noticed st word μ w gs hs → Noticed st word μ w (skipGuard e s gs) hs
+  n-skip : {e : Whole} {s : Stmt} {gs hs : Guards} → isTrue (st .store) e ≡ false → Noticed st word μ w gs hs
+      → Noticed st word μ w (skipGuard e s gs) hs
 
 -- a channel that a guard of a list with a true condition inputs from
 pub data Guarded (σ : Store) (c : Site) : Guards → Type 0 where
@@ -85,15 +87,19 @@ Coded (IF (pair e s ps)) = Unit {0}
 Coded (WHILE e s) = Unit {0}
 Coded (ALT gs) = Unit {0}
 
--- no step without code is next
+-- a process that begins a statement with code, or has finished
 abbrev pub Settled : Process → Type 0
 Settled (before s k) = Coded s
-Settled (atInput c x k) = Unit {0}
-Settled (atOutput c v k) = Unit {0}
-Settled (atStop k) = Unit {0}
-Settled (atAlt gs k) = Unit {0}
-Settled (inPar bs k) = Unit {0}
+Settled (atInput c x k) = ⊥
+Settled (atOutput c v k) = ⊥
+Settled (atStop k) = ⊥
+Settled (atAlt gs k) = ⊥
+Settled (inPar bs k) = ⊥
 Settled finished = Unit {0}
+
+-- a word that is a workspace of a part
+abbrev pub Own : Part → ℕ → Type 0
+Own a v = (a .bottom < v) × (v ≤ a .top)
 
 module _ (S : Setting) (a : Part) where
   -- an ALT's code: from index i, at the workspace w, up to `over`
@@ -131,54 +137,23 @@ module _ (S : Setting) (a : Part) where
         (code (S .word) w first s ++ plain ldlp 0 ∷ operation I.endp ∷ codeEnds (S .word) w (need s) (first + size s + 2) ss) over
     pub fine : FineBranches (S .word) a vars chans w 0 (stmt s ss)
     pub room : a .bottom + sumNeed (stmt s ss) ≤ w
+    pub placed : Placed S a (w + 2) vars chans
     pub after : Cont S a hi vars chans k over w
     pub near : hi ≤ whole S + S .off i
 
   -- what J and waiting need of a workspace
   pub record Clear (vars chans : List Site) (w : ℕ) : Type 0 where
     pub room : a .bottom + 2 ≤ w
-    pub low : w ≤ a .top
-    pub scoped : Scoped S w vars chans
+    pub placed : Placed S a w vars chans
 
-  module _ (st : State) (vars chans : List Site) where
-    abbrev σ : Store
-    σ = st .store
-
-    -- the guards of an ALT before hs are enabled: marked or ready, and the state says whether one is ready
-    pub record Enabling (gs hs : Guards) (μ : Mem) (w : ℕ) : Type 0 where
-      pub noticed : Noticed st (S .word) μ w gs hs
-      pub marks : (c : Site) → List·Memᴰ c chans → μ (S .word c) ≡ w → Guarded σ c gs
-      pub state : (μ (stateWord w) ≡ enabling) ⊎ ((μ (stateWord w) ≡ ready) × Ready st gs)
-
-    -- before the ENBC or ENBS of the first guard of a list, with the rest of the enabling behind it
-    pub data Enables : Guards → (i : ℕ) → Regs → (i′ : ℕ) → Type 0 where
-      e-input : {e : Whole} {c x : Site} {s : Stmt} {gs : Guards} {i i′ : ℕ} {r : Regs} → At S i (operation I.enbc) → r .a ≡ value σ e
-          → r .b ≡ S .word c → Seg (S .xs) (suc i) (codeEnable (S .word) (r .w) gs) i′ → Enables (inputGuard e c x s gs) i r i′
-      e-skip : {e : Whole} {s : Stmt} {gs : Guards} {i i′ : ℕ} {r : Regs} → At S i (operation I.enbs) → r .a ≡ value σ e
-          → Seg (S .xs) (suc i) (codeEnable (S .word) (r .w) gs) i′ → Enables (skipGuard e s gs) i r i′
-
-    -- the guards of an ALT before hs are disabled: no mark of theirs is left; a branch is chosen, or one of the rest is ready
-    pub record Disabling (k : List Frame) (gs hs : Guards) (choice : ℕ) (μ : Mem) (w : ℕ) : Type 0 where
-      pub marks : (c : Site) → List·Memᴰ c chans → μ (S .word c) ≡ w → Guarded σ c hs
-      pub chosen : ((t : ℕ) × (p : Process) × Picks st k gs (choice + 1) t p × (μ w ≡ operandIn (S .off) (distance ldc t choice)))
-          ⊎ ((μ w ≡ noneSelected) × Ready st hs)
-
-    -- before the DISC or DISS of the first guard of a list, whose branch is at b, with the rest of the disabling behind it
-    pub data Disables : Guards → (choice b i : ℕ) → Regs → (i′ : ℕ) → Type 0 where
-      d-input : {e : Whole} {c x : Site} {s : Stmt} {gs : Guards} {choice b i i′ : ℕ} {r : Regs} → At S i (operation I.disc)
-          → r .a ≡ operandIn (S .off) (distance ldc b choice) → r .b ≡ value σ e → r .c ≡ S .word c
-          → Seg (S .xs) (suc i) (codeDisable (S .word) (r .w) choice (b + 1 + 4 + size s + 1) gs) i′
-          → Disables (inputGuard e c x s gs) choice b i r i′
-      d-skip : {e : Whole} {s : Stmt} {gs : Guards} {choice b i i′ : ℕ} {r : Regs} → At S i (operation I.diss)
-          → r .a ≡ operandIn (S .off) (distance ldc b choice) → r .b ≡ value σ e
-          → Seg (S .xs) (suc i) (codeDisable (S .word) (r .w) choice (b + 1 + size s + 1) gs) i′ → Disables (skipGuard e s gs) choice b i r i′
-
-    -- the significant instruction that a process stands before, with its registers; `up` is the bound of the path to it
+  module _ (σ : Store) (vars chans : List Site) where
+    -- the significant instruction that a process stands before, with its registers; `up` is the bound of the path to it. Those inside an
+    -- ALT and behind a PAR's count are apart
     pub data Point : Process → (up : ℕ) → Mem → ℕ → Regs → Type 0 where
       pt-stop : {k : List Frame} {up : ℕ} {μ : Mem} {i : ℕ} {r : Regs} → At S i (operation I.stopp) → Clear vars chans (r .w)
           → Point (before STOP k) up μ i r
       pt-assign : {x : Site} {e : Whole} {k : List Frame} {up : ℕ} {μ : Mem} {i o hi : ℕ} {r : Regs} → At S i (plain stl o)
-          → low (r .w + o) ≡ S .word x → Target a vars x → r .a ≡ value σ e → value σ e < 2 ^ 32
+          → low (r .w + o) ≡ S .word x → Fine (S .word) a vars chans (r .w) (assign x e) → r .a ≡ value σ e → value σ e < 2 ^ 32
           → Cont S a hi vars chans k (suc i) (r .w) → hi ≤ whole S + S .off i → Point (before (assign x e) k) up μ i r
       pt-var : {p n : ℕ} {s : Stmt} {k : List Frame} {up : ℕ} {μ : Mem} {i hi c j : ℕ} {r : Regs}
           → Opening (plain ldc 0) p n s vars chans k hi c (r .w) → Fine (S .word) a (names p n ++ vars) chans (r .w) s
@@ -189,14 +164,14 @@ module _ (S : Setting) (a : Part) where
           → hi ≤ up → j < n → i ≡ suc (c + (j + j)) → r .a ≡ notProcess → ((l : ℕ) → l < j → μ (r .w + l) ≡ notProcess)
           → Point (before (CHAN p n s) k) up μ i r
       pt-taken : {ps : Pairs} (s : Stmt) {k : List Frame} {up : ℕ} {μ : Mem} {i t m hi : ℕ} {r : Regs} → At S i (distance cj t i)
-          → r .a ≢ 0 → firstTrue σ ps k ≡ begin s k → Seg (S .xs) (suc i) (code (S .word) (r .w) (suc i) s) m
+          → r .a ≢ 0 → FinePairs (S .word) a vars chans (r .w) ps → firstTrue σ ps k ≡ begin s k → Seg (S .xs) (suc i) (code (S .word) (r .w) (suc i) s) m
           → Fine (S .word) a vars chans (r .w) s → Cont S a hi vars chans k m (r .w) → hi ≤ whole S + S .off i
           → Point (before (IF ps) k) up μ i r
       pt-none : {ps : Pairs} {k : List Frame} {up : ℕ} {μ : Mem} {i t hi : ℕ} {r : Regs} → At S i (distance cj t i) → suc i ≤ t
-          → r .a ≡ 0 → firstTrue σ ps k ≡ resume k → Cont S a hi vars chans k t (r .w) → hi ≤ whole S + S .off i
+          → r .a ≡ 0 → FinePairs (S .word) a vars chans (r .w) ps → firstTrue σ ps k ≡ resume k → Cont S a hi vars chans k t (r .w) → hi ≤ whole S + S .off i
           → Point (before (IF ps) k) up μ i r
       pt-while : {e : Whole} {s : Stmt} {k : List Frame} {up : ℕ} {μ : Mem} {i t m hi hi′ : ℕ} {r : Regs} → At S i (distance cj t i)
-          → suc i ≤ t → r .a ≡ value σ e → Seg (S .xs) (suc i) (code (S .word) (r .w) (suc i) s) m
+          → suc i ≤ t → FineWhole a vars e → r .a ≡ value σ e → Seg (S .xs) (suc i) (code (S .word) (r .w) (suc i) s) m
           → Fine (S .word) a vars chans (r .w) s → Cont S a hi′ vars chans (inWhile e s ∷ k) m (r .w)
           → hi′ ≤ whole S + S .off (suc i) → Cont S a hi vars chans k t (r .w) → hi ≤ whole S + S .off i
           → Point (before (WHILE e s) k) up μ i r
@@ -218,23 +193,64 @@ module _ (S : Setting) (a : Part) where
       -- a branch's end
       pt-end : {d : ℕ} {up : ℕ} {μ : Mem} {i : ℕ} {r : Regs} → a .ending ≡ joins d → At S i (operation I.endp) → r .a ≡ a .top + d
           → r .w ≡ a .top → Point finished up μ i r
-      -- an ALT: the state, the guards, waiting
+      -- an ALT
       pt-alt : {gs : Guards} {k : List Frame} {up : ℕ} {μ : Mem} {i hi : ℕ} {r : Regs} → AltCode gs vars chans k hi i (r .w + 1) → hi ≤ up
           → Point (before (ALT gs) k) up μ (i + 1) r
+
+  module _ (st : State) (vars chans : List Site) where
+    abbrev σ : Store
+    σ = st .store
+
+    -- a channel word that holds a workspace of this part holds w, and a guard with a true condition inputs from it
+    abbrev pub Marked : (gs : Guards) (μ : Mem) (w : ℕ) → Type 0
+    Marked gs μ w = (c : Site) → List·Memᴰ c chans → Own a (μ (S .word c)) → (μ (S .word c) ≡ w) × Guarded σ c gs
+
+    -- the guards of an ALT before hs are enabled, and the state says whether one is ready
+    pub record Enabling (gs hs : Guards) (μ : Mem) (w : ℕ) : Type 0 where
+      pub rest : (t : ℕ) × Rest gs 0 hs t
+      pub marks : Marked gs μ w
+      pub state : ((μ (stateWord w) ≡ enabling) × Noticed st (S .word) μ w gs hs) ⊎ ((μ (stateWord w) ≡ ready) × Ready st gs)
+
+    -- before the ENBC or ENBS of the first guard of a list, with the rest of the enabling behind it
+    pub data Enables : Guards → (i : ℕ) → Regs → (i′ : ℕ) → Type 0 where
+      e-input : {e : Whole} {c x : Site} {s : Stmt} {gs : Guards} {i i′ : ℕ} {r : Regs} → At S i (operation I.enbc) → r .a ≡ value σ e
+          → r .b ≡ S .word c → Seg (S .xs) (suc i) (codeEnable (S .word) (r .w) gs) i′ → Enables (inputGuard e c x s gs) i r i′
+      e-skip : {e : Whole} {s : Stmt} {gs : Guards} {i i′ : ℕ} {r : Regs} → At S i (operation I.enbs) → r .a ≡ value σ e
+          → Seg (S .xs) (suc i) (codeEnable (S .word) (r .w) gs) i′ → Enables (skipGuard e s gs) i r i′
+
+    -- the guards of an ALT before hs are disabled: no mark of theirs is left; a branch is chosen, or one of the rest is ready
+    pub record Disabling (k : List Frame) (gs hs : Guards) (choice : ℕ) (μ : Mem) (w : ℕ) : Type 0 where
+      pub marks : Marked hs μ w
+      pub chosen : ((t : ℕ) × (p : Process) × Picks st k gs (choice + 1) t p × (μ w ≡ operandIn (S .off) (distance ldc t choice)))
+          ⊎ ((μ w ≡ noneSelected) × Ready st hs)
+
+    -- before the DISC or DISS of the first guard of a list, whose branch is at b, with the rest of the disabling behind it
+    pub data Disables : Guards → (choice b i : ℕ) → Regs → (i′ : ℕ) → Type 0 where
+      d-input : {e : Whole} {c x : Site} {s : Stmt} {gs : Guards} {choice b i i′ : ℕ} {r : Regs} → At S i (operation I.disc)
+          → r .a ≡ operandIn (S .off) (distance ldc b choice) → r .b ≡ value σ e → r .c ≡ S .word c
+          → Seg (S .xs) (suc i) (codeDisable (S .word) (r .w) choice (b + 1 + 4 + size s + 1) gs) i′
+          → Disables (inputGuard e c x s gs) choice b i r i′
+      d-skip : {e : Whole} {s : Stmt} {gs : Guards} {choice b i i′ : ℕ} {r : Regs} → At S i (operation I.diss)
+          → r .a ≡ operandIn (S .off) (distance ldc b choice) → r .b ≡ value σ e
+          → Seg (S .xs) (suc i) (codeDisable (S .word) (r .w) choice (b + 1 + size s + 1) gs) i′ → Disables (skipGuard e s gs) choice b i r i′
+
+    -- the significant instructions of an ALT behind its first
+    pub data AltPoint : Process → (up : ℕ) → Mem → ℕ → Regs → Type 0 where
       pt-enable : {gs hs : Guards} {k : List Frame} {up : ℕ} {μ : Mem} {i j hi : ℕ} {r : Regs} → AltCode gs vars chans k hi i (r .w + 1)
-          → hi ≤ up → Enabling gs hs μ (r .w) → Enables hs j r (i + 2 + sizeEnable gs) → Point (before (ALT gs) k) up μ j r
+          → hi ≤ up → Enabling gs hs μ (r .w) → Enables hs j r (i + 2 + sizeEnable gs) → AltPoint (before (ALT gs) k) up μ j r
       pt-wait : {gs : Guards} {k : List Frame} {up : ℕ} {μ : Mem} {i hi : ℕ} {r : Regs} → AltCode gs vars chans k hi i (r .w + 1)
-          → Enabling gs noGuard μ (r .w) → Point (before (ALT gs) k) up μ (i + 2 + sizeEnable gs) r
+          → Enabling gs noGuard μ (r .w) → AltPoint (before (ALT gs) k) up μ (i + 2 + sizeEnable gs) r
       -- disabling, and the choice
       pt-disable : {gs hs : Guards} {k : List Frame} {up : ℕ} {μ : Mem} {i j b hi : ℕ} {r : Regs} (c : AltCode gs vars chans k hi i (r .w + 1))
           → hi ≤ up → Rest gs (c .choice + 1) hs b → Disabling k gs hs (c .choice) μ (r .w) → Disables hs (c .choice) b j r (c .choice)
-          → Point (atAlt gs k) up μ j r
+          → AltPoint (atAlt gs k) up μ j r
       pt-choose : {gs : Guards} {k : List Frame} {up : ℕ} {μ : Mem} {i hi : ℕ} {r : Regs} (c : AltCode gs vars chans k hi i (r .w + 1))
-          → Disabling k gs noGuard (c .choice) μ (r .w) → Point (atAlt gs k) up μ (c .choice) r
-      -- the start of another branch of the PAR by its first branch, which will be q after its steps without code: the branch at distance d,
-      -- with its code at index b
-      pt-start : (s₀ s : Stmt) (ss : Stmts) {q : Process} {up : ℕ} {μ : Mem} {i b m first hi : ℕ} (d : ℕ) {r : Regs} → At S i (operation I.startp)
-          → r .a ≡ r .w - d → low (S .off (suc i) + r .b) ≡ S .off b → Seg (S .xs) (suc i) (codeStarts (S .word) (d + need s) (suc i) (b + size s + 2) ss) first
-          → Seg (S .xs) first (code (S .word) (r .w) first s₀) m → Fine (S .word) a vars chans (r .w) s₀ → Skips (begin s₀ []) q
-          → Cont S a hi vars chans [] m (r .w) → hi ≤ up → d + sumNeed (stmt s ss) ≤ r .w → b + sizeEnds (stmt s ss) ≤ length (S .xs)
-          → Point q up μ i r
+          → Disabling k gs noGuard (c .choice) μ (r .w) → AltPoint (atAlt gs k) up μ (c .choice) r
+
+-- before the STARTP of the branch s of a PAR whose workspace is w, at distance d, with its code at index b; then come the others
+pub record StartPoint (S : Setting) (s : Stmt) (ss : Stmts) (d b first w : ℕ) (i : ℕ) (r : Regs) : Type 0 where
+  pub starts : At S i (operation I.startp)
+  pub child : r .a ≡ w - d
+  pub same-w : r .w ≡ w
+  pub place : low (S .off (suc i) + r .b) ≡ S .off b
+  pub rest : Seg (S .xs) (suc i) (codeStarts (S .word) (d + need s) (suc i) (b + size s + 2) ss) first

@@ -17,7 +17,8 @@ pub data Ending : Type 0 where
   the-end : Ending
   joins : (distance : ℕ) → Ending
 
--- a part: its words are from bottom up to top, the W with which it begins; what it reads and changes, and its channels
+-- a part: its words are from bottom up to top, the W with which it begins; what it reads and changes, and its channels; the names in
+-- scope where it begins
 pub record Part : Type 0 where
   pub bottom : ℕ
   pub top : ℕ
@@ -26,6 +27,8 @@ pub record Part : Type 0 where
   pub inputs : List Site
   pub outputs : List Site
   pub ending : Ending
+  pub vars : List Site
+  pub chans : List Site
 
 -- the variables that a statement declares
 unfoldable mutual
@@ -56,9 +59,9 @@ unfoldable mutual
   declaresGuards (inputGuard e c x s gs) = declares s ++ declaresGuards gs
   declaresGuards (skipGuard e s gs) = declares s ++ declaresGuards gs
 
--- a statement as a part of its own, at a workspace
-abbrev pub partOf : (w : ℕ) → Ending → Stmt → Part
-partOf w e s =
+-- a statement as a part of its own, at a workspace, with these names in scope
+abbrev pub partOf : (vars chans : List Site) (w : ℕ) → Ending → Stmt → Part
+partOf vars chans w e s =
     record {
       bottom = w - need s;
       top = w;
@@ -67,6 +70,8 @@ partOf w e s =
       inputs = usage s .inputs;
       outputs = usage s .outputs;
       ending = e;
+      vars = vars;
+      chans = chans;
     }
 
 -- no name is in both lists
@@ -137,13 +142,13 @@ module _ (word : Site → ℕ) where
     pub FineBranches : Part → (vars chans : List Site) (w d : ℕ) → Stmts → Type 0
     FineBranches a vars chans w d noStmt = Unit {0}
     FineBranches a vars chans w d (stmt s ss) =
-        let b = partOf (w - d) (joins d) s in
-        Inside b a × Fine b vars chans (w - d) s × Beside b w (d + need s) ss × FineBranches a vars chans w (d + need s) ss
+        let b = partOf vars chans (w - d) (joins d) s in
+        Inside b a × Fine b vars chans (w - d) s × Beside b vars chans w (d + need s) ss × FineBranches a vars chans w (d + need s) ss
 
     -- a branch is apart from all later ones
-    pub Beside : Part → (w d : ℕ) → Stmts → Type 0
-    Beside b w d noStmt = Unit {0}
-    Beside b w d (stmt s ss) = Apart b (partOf (w - d) (joins d) s) × Beside b w (d + need s) ss
+    pub Beside : Part → (vars chans : List Site) (w d : ℕ) → Stmts → Type 0
+    Beside b vars chans w d noStmt = Unit {0}
+    Beside b vars chans w d (stmt s ss) = Apart b (partOf vars chans (w - d) (joins d) s) × Beside b vars chans w (d + need s) ss
 
     pub FinePairs : Part → (vars chans : List Site) (w : ℕ) → Pairs → Type 0
     FinePairs a vars chans w noPair = Unit {0}

@@ -1,5 +1,5 @@
 -- Which part of the program each process runs: the whole one part, the branches of a PAR parts inside it that are apart.
-use Prim.Native.Nat.{ℕ, zero, suc, _+_, _-_}
+use Prim.Native.Nat.{ℕ, zero, suc, _+_, _-_, _≤_, _<_}
 use native.Mathlib.Omega.{arith}
 use mathlib.Core.Path.{_≡_, refl, sym, ap, subst, _∙_}
 use mathlib.Core.Logic.{_≢_, inl, inr, ⊎-elim}
@@ -12,8 +12,9 @@ use Rattle.model.specs.Occam.{branchAt, setBranch, endBranch, look, put}
 use Rattle.model.proofs.Cases.{never}
 use Rattle.model.proofs.Paths.{Apart as Diverge, here, later, Leaf, leaf-par, leaf-begin, leaf-ends, look-in, put-in}
 use Rattle.model.proofs.Paths.{under, look-under, stmtAt, Compared, equal, below, above, apart, compare}
-use Rattle.model.proofs.Points.{Setting}
+use Rattle.model.proofs.Points.{Setting, whole}
 use Rattle.model.proofs.Parts.{Part, joins, partOf, Apart, Inside, FineBranches, Beside}
+use Rattle.model.proofs.Conts.{Scoped, scoped-up, scoped-below, Placed}
 use Rattle.model.proofs.Marks.{ParCode}
 
 -- a part is inside itself
@@ -63,7 +64,7 @@ apart-inside h f g =
     }
 
 -- what is the same in `some`
-some-same : {A : Type 0} {x y : A} → _≡_ {A = Option A} (some x) (some y) → x ≡ y
+pub some-same : {A : Type 0} {x y : A} → _≡_ {A = Option A} (some x) (some y) → x ≡ y
 some-same e = cc
 
 -- no path is apart from the empty one
@@ -84,16 +85,25 @@ pub data Found (path : List ℕ) (p : Process) : Type 0 where
 data FoundIn (i : ℕ) (path : List ℕ) (bs : Branches) : Type 0 where
   found-in : (b q : Process) → branchAt i bs ≡ some b → look path b ≡ some q → FoundIn i path bs
 
--- what a process runs: its part; in a PAR also the PAR's workspace and the index of the code where it goes on
+-- what is known of a process that is in no PAR of its own: the names in scope, a workspace below their words, and a bound on the bytes
+-- until its next step
+pub record Info : Type 0 where
+  pub vars : List Site
+  pub chans : List Site
+  pub w : ℕ
+  pub left : ℕ
+
+-- what a process runs: its part, and what is known of it; in a PAR the names in scope, the PAR's workspace and the index of the code where
+-- it goes on
 pub data Label : Type 0 where
-  alone : Part → Label
-  parted : Part → (w onward : ℕ) → Label
+  alone : Part → Info → Label
+  parted : Part → (vars chans : List Site) (w onward : ℕ) → Label
 
 -- the part of them
 abbrev pub running : Option Label → Option Part
 running none = none
-running (some (alone a)) = some a
-running (some (parted a w onward)) = some a
+running (some (alone a i)) = some a
+running (some (parted a vars chans w onward)) = some a
 
 -- two tellings of what is run where agree but for the branch i
 abbrev SameBut : ℕ → (at there : ℕ → List ℕ → Option Label) → Type 0
@@ -131,41 +141,50 @@ distanceOf zero (stmt s ss) = 0
 distanceOf (suc i) (stmt s ss) = need s + distanceOf i ss
 
 -- a part is the one of the branch i, of the branches from distance d on
-pub data BranchPart (w d : ℕ) (ss : Stmts) (i : ℕ) (b : Part) : Type 0 where
-  branch-part : (s : Stmt) → stmtAt i ss ≡ some s → b ≡ partOf (w - (d + distanceOf i ss)) (joins (d + distanceOf i ss)) s
-      → BranchPart w d ss i b
+pub data BranchPart (vars chans : List Site) (w d : ℕ) (ss : Stmts) (i : ℕ) (b : Part) : Type 0 where
+  branch-part : (s : Stmt) → stmtAt i ss ≡ some s → b ≡ partOf vars chans (w - (d + distanceOf i ss)) (joins (d + distanceOf i ss)) s
+      → BranchPart vars chans w d ss i b
 
 -- counted with the branch before
-later-part : (w d : ℕ) (s : Stmt) (ss : Stmts) (i : ℕ) {b : Part} → BranchPart w (d + need s) ss i b → BranchPart w d (stmt s ss) (suc i) b
+later-part : (vars chans : List Site) (w d : ℕ) (s : Stmt) (ss : Stmts) (i : ℕ) {b : Part} → BranchPart vars chans w (d + need s) ss i b
+    → BranchPart vars chans w d (stmt s ss) (suc i) b
 unfolding stmtAt distanceOf
-later-part w d s ss i {b} (branch-part r e h) =
-    branch-part r e (subst (λ z. b ≡ partOf (w - z) (joins z) r) (omega arith) h)
+later-part vars chans w d s ss i {b} (branch-part r e h) =
+    branch-part r e (subst (λ z. b ≡ partOf vars chans (w - z) (joins z) r) (omega arith) h)
 
 module _ (S : Setting) where
+  -- what is known fits the part
+  pub record Sits (a : Part) (i : Info) : Type 0 where
+    pub placed : Placed S a (i .w) (i .vars) (i .chans)
+    pub room : a .bottom ≤ i .w
+    pub few : i .left ≤ whole S
+
   mutual
     -- a process with the parts that it and the processes in it run: the branches of a PAR run those of the PAR's code
     pub data Tree : Part → Process → Type 0 where
-      t-leaf : {a : Part} {q : Process} → Leaf q → Tree a q
+      t-leaf : {a : Part} {q : Process} → Leaf q → (i : Info) → Sits a i → Tree a q
       t-par : {a : Part} {s : Stmt} {ss : Stmts} {vars chans : List Site} {k : List Frame} {hi i w : ℕ} {bs : Branches}
-          → ParCode S a s ss vars chans k hi i w → Forest w 0 (stmt s ss) bs → Tree a (inPar bs k)
+          → ParCode S a s ss vars chans k hi i w → Forest vars chans w 0 (stmt s ss) bs → Tree a (inPar bs k)
 
     -- the branches of a PAR whose workspace is w, from the one at distance d on
-    pub data Forest : (w d : ℕ) → Stmts → Branches → Type 0 where
-      f-none : {w d : ℕ} → Forest w d noStmt noBranch
-      f-live : {w d : ℕ} {s : Stmt} {ss : Stmts} {p : Process} {bs : Branches} → Tree (partOf (w - d) (joins d) s) p
-          → Forest w (d + need s) ss bs → Forest w d (stmt s ss) (branch p bs)
-      f-over : {w d : ℕ} {s : Stmt} {ss : Stmts} {bs : Branches} → Forest w (d + need s) ss bs → Forest w d (stmt s ss) (over bs)
+    pub data Forest : (vars chans : List Site) (w d : ℕ) → Stmts → Branches → Type 0 where
+      f-none : {vars chans : List Site} {w d : ℕ} → Forest vars chans w d noStmt noBranch
+      f-live : {vars chans : List Site} {w d : ℕ} {s : Stmt} {ss : Stmts} {p : Process} {bs : Branches}
+          → Tree (partOf vars chans (w - d) (joins d) s) p
+          → Forest vars chans w (d + need s) ss bs → Forest vars chans w d (stmt s ss) (branch p bs)
+      f-over : {vars chans : List Site} {w d : ℕ} {s : Stmt} {ss : Stmts} {bs : Branches}
+          → Forest vars chans w (d + need s) ss bs → Forest vars chans w d (stmt s ss) (over bs)
 
   -- what the process at a path runs
   unfoldable mutual
     pub labelAt : {a : Part} {p : Process} → Tree a p → List ℕ → Option Label
-    labelAt {a} (t-leaf l) [] = some (alone a)
-    labelAt (t-leaf l) (i ∷ path) = none
-    labelAt (t-par {a} {w} c f) [] = some (parted a w (c .over))
+    labelAt {a} (t-leaf l i h) [] = some (alone a i)
+    labelAt (t-leaf l j h) (i ∷ path) = none
+    labelAt (t-par {a} {vars} {chans} {w} c f) [] = some (parted a vars chans w (c .over))
     labelAt (t-par c f) (i ∷ path) = labelIn f i path
 
     -- in a branch
-    pub labelIn : {w d : ℕ} {ss : Stmts} {bs : Branches} → Forest w d ss bs → ℕ → List ℕ → Option Label
+    pub labelIn : {vars chans : List Site} {w d : ℕ} {ss : Stmts} {bs : Branches} → Forest vars chans w d ss bs → ℕ → List ℕ → Option Label
     labelIn f-none i path = none
     labelIn (f-live t f) zero path = labelAt t path
     labelIn (f-live t f) (suc i) path = labelIn f i path
@@ -177,13 +196,13 @@ module _ (S : Setting) where
   partAt t path = running (labelAt t path)
 
   -- in a branch
-  abbrev pub partIn : {w d : ℕ} {ss : Stmts} {bs : Branches} → Forest w d ss bs → ℕ → List ℕ → Option Part
+  abbrev pub partIn : {vars chans : List Site} {w d : ℕ} {ss : Stmts} {bs : Branches} → Forest vars chans w d ss bs → ℕ → List ℕ → Option Part
   partIn f i path = running (labelIn f i path)
 
   -- the whole runs its part
   pub part-nil : {a : Part} {p : Process} (t : Tree a p) → partAt t [] ≡ some a
   unfolding labelAt labelIn
-  part-nil (t-leaf l) = refl
+  part-nil (t-leaf l n m) = refl
   part-nil (t-par c f) = refl
 
   -- each part is inside the one of the whole
@@ -191,21 +210,21 @@ module _ (S : Setting) where
     unfolding labelAt labelIn
 
     pub part-inside : {a : Part} {p : Process} (t : Tree a p) (path : List ℕ) {b : Part} → partAt t path ≡ some b → Inside b a
-    part-inside {a} (t-leaf l) [] e = subst (λ z. Inside z a) (cc) (inside-refl a)
-    part-inside (t-leaf l) (i ∷ path) e = never (cc)
+    part-inside {a} (t-leaf l n m) [] e = subst (λ z. Inside z a) (cc) (inside-refl a)
+    part-inside (t-leaf l n m) (i ∷ path) e = never (cc)
     part-inside {a} (t-par c f) [] e = subst (λ z. Inside z a) (cc) (inside-refl a)
-    part-inside (t-par {a} {vars} {chans} c f) (i ∷ path) e = forest-inside f a vars chans (c .fine) i path e
+    part-inside (t-par {a} c f) (i ∷ path) e = forest-inside f a (c .fine) i path e
 
-    forest-inside : {w d : ℕ} {ss : Stmts} {bs : Branches} (f : Forest w d ss bs) (a : Part) (vars chans : List Site)
+    forest-inside : {vars chans : List Site} {w d : ℕ} {ss : Stmts} {bs : Branches} (f : Forest vars chans w d ss bs) (a : Part)
         → FineBranches (S .word) a vars chans w d ss → (i : ℕ) (path : List ℕ) {b : Part} → partIn f i path ≡ some b → Inside b a
-    forest-inside f-none a vars chans g i path e = never (cc)
-    forest-inside (f-live t f) a vars chans g zero path e = inside-trans (part-inside t path e) (g .0)
-    forest-inside (f-live t f) a vars chans g (suc i) path e = forest-inside f a vars chans (g .3) i path e
-    forest-inside (f-over f) a vars chans g zero path e = never (cc)
-    forest-inside (f-over f) a vars chans g (suc i) path e = forest-inside f a vars chans (g .3) i path e
+    forest-inside f-none a g i path e = never (cc)
+    forest-inside (f-live t f) a g zero path e = inside-trans (part-inside t path e) (g .0)
+    forest-inside (f-live t f) a g (suc i) path e = forest-inside f a (g .3) i path e
+    forest-inside (f-over f) a g zero path e = never (cc)
+    forest-inside (f-over f) a g (suc i) path e = forest-inside f a (g .3) i path e
 
   -- a part that is beside the branches is apart from all in them
-  forest-beside : {w d : ℕ} {ss : Stmts} {bs : Branches} (f : Forest w d ss bs) (b : Part) → Beside (S .word) b w d ss
+  forest-beside : {vars chans : List Site} {w d : ℕ} {ss : Stmts} {bs : Branches} (f : Forest vars chans w d ss bs) (b : Part) → Beside (S .word) b vars chans w d ss
       → (i : ℕ) (path : List ℕ) {c : Part} → partIn f i path ≡ some c → Apart b c
   unfolding labelAt labelIn
   forest-beside f-none b g i path e = never (cc)
@@ -215,22 +234,22 @@ module _ (S : Setting) where
   forest-beside (f-over f) b g (suc i) path e = forest-beside f b (g .1) i path e
 
   -- what two branches run is apart
-  forest-apart : {w d : ℕ} {ss : Stmts} {bs : Branches} (f : Forest w d ss bs) (a : Part) (vars chans : List Site)
+  forest-apart : {vars chans : List Site} {w d : ℕ} {ss : Stmts} {bs : Branches} (f : Forest vars chans w d ss bs) (a : Part)
       → FineBranches (S .word) a vars chans w d ss → (i j : ℕ) (ps qs : List ℕ) → i ≢ j → {b c : Part} → partIn f i ps ≡ some b
       → partIn f j qs ≡ some c → Apart b c
   unfolding labelAt labelIn
-  forest-apart f-none a vars chans g i j ps qs n e h = never (cc)
-  forest-apart (f-live t f) a vars chans g zero zero ps qs n e h = absurd (n refl)
-  forest-apart (f-live t f) a vars chans g zero (suc j) ps qs n {b} {c} e h =
+  forest-apart f-none a g i j ps qs n e h = never (cc)
+  forest-apart (f-live t f) a g zero zero ps qs n e h = absurd (n refl)
+  forest-apart (f-live t f) a g zero (suc j) ps qs n {b} {c} e h =
       apart-inside (forest-beside f _ (g .2) j qs h) (part-inside t ps e) (inside-refl c)
-  forest-apart (f-live t f) a vars chans g (suc i) zero ps qs n {b} {c} e h =
+  forest-apart (f-live t f) a g (suc i) zero ps qs n {b} {c} e h =
       apart-sym (apart-inside (forest-beside f _ (g .2) i ps e) (part-inside t qs h) (inside-refl b))
-  forest-apart (f-live t f) a vars chans g (suc i) (suc j) ps qs n e h =
-      forest-apart f a vars chans (g .3) i j ps qs (λ u. n (ap suc u)) e h
-  forest-apart (f-over f) a vars chans g zero j ps qs n e h = never (cc)
-  forest-apart (f-over f) a vars chans g (suc i) zero ps qs n e h = never (cc)
-  forest-apart (f-over f) a vars chans g (suc i) (suc j) ps qs n e h =
-      forest-apart f a vars chans (g .3) i j ps qs (λ u. n (ap suc u)) e h
+  forest-apart (f-live t f) a g (suc i) (suc j) ps qs n e h =
+      forest-apart f a (g .3) i j ps qs (λ u. n (ap suc u)) e h
+  forest-apart (f-over f) a g zero j ps qs n e h = never (cc)
+  forest-apart (f-over f) a g (suc i) zero ps qs n e h = never (cc)
+  forest-apart (f-over f) a g (suc i) (suc j) ps qs n e h =
+      forest-apart f a (g .3) i j ps qs (λ u. n (ap suc u)) e h
 
   -- the processes at two paths that part run parts that are apart
   mutual
@@ -238,13 +257,13 @@ module _ (S : Setting) where
 
     pub parts-apart : {a : Part} {p : Process} (t : Tree a p) {path other : List ℕ} → Diverge path other → {b c : Part}
         → partAt t path ≡ some b → partAt t other ≡ some c → Apart b c
-    parts-apart (t-leaf l) (here n) e h = never (cc)
-    parts-apart (t-leaf l) (later v) e h = never (cc)
-    parts-apart (t-par {a} {vars} {chans} c f) (here {i} {j} {ps} {qs} n) e h =
-        forest-apart f a vars chans (c .fine) i j ps qs n e h
+    parts-apart (t-leaf l j m) (here n) e h = never (cc)
+    parts-apart (t-leaf l n m) (later v) e h = never (cc)
+    parts-apart (t-par {a} c f) (here {i} {j} {ps} {qs} n) e h =
+        forest-apart f a (c .fine) i j ps qs n e h
     parts-apart (t-par c f) (later {i} v) e h = parts-later f i v e h
 
-    parts-later : {w d : ℕ} {ss : Stmts} {bs : Branches} (f : Forest w d ss bs) (i : ℕ) {path other : List ℕ} → Diverge path other
+    parts-later : {vars chans : List Site} {w d : ℕ} {ss : Stmts} {bs : Branches} (f : Forest vars chans w d ss bs) (i : ℕ) {path other : List ℕ} → Diverge path other
         → {b c : Part} → partIn f i path ≡ some b → partIn f i other ≡ some c → Apart b c
     parts-later f-none i v e h = never (cc)
     parts-later (f-live t f) zero v e h = parts-apart t v e h
@@ -262,39 +281,39 @@ module _ (S : Setting) where
     unfolding labelAt labelIn branchAt look
 
     pub owner-of : {a : Part} {p : Process} (t : Tree a p) (path : List ℕ) {q : Process} → look path p ≡ some q → Owner a (labelAt t) path q
-    owner-of {a} (t-leaf l) [] e = subst (Owner a (labelAt (t-leaf l)) []) (cc) (owner a (t-leaf l) (inside-refl a) refl (λ rest. refl))
-    owner-of (t-leaf l) (i ∷ path) e = never (cc (leaf-ends i path l, e))
+    owner-of {a} (t-leaf l n m) [] e = subst (Owner a (labelAt (t-leaf l n m)) []) (cc) (owner a (t-leaf l n m) (inside-refl a) refl (λ rest. refl))
+    owner-of (t-leaf l n m) (i ∷ path) e = never (cc (leaf-ends i path l, e))
     owner-of {a} (t-par c f) [] e = subst (Owner a (labelAt (t-par c f)) []) (cc) (owner a (t-par c f) (inside-refl a) refl (λ rest. refl))
-    owner-of (t-par {a} {vars} {chans} {k} {bs} c f) (i ∷ path) e =
+    owner-of (t-par {a} {k} {bs} c f) (i ∷ path) e =
         elim (look-under i path (inPar bs k) e) [
-          | under b g h ↦ elim (owner-in f a vars chans (c .fine) i path g h) [ owner x u v y z ↦ owner x u v y z ]
+          | under b g h ↦ elim (owner-in f a (c .fine) i path g h) [ owner x u v y z ↦ owner x u v y z ]
         ]
 
-    owner-in : {w d : ℕ} {ss : Stmts} {bs : Branches} (f : Forest w d ss bs) (a : Part) (vars chans : List Site)
+    owner-in : {vars chans : List Site} {w d : ℕ} {ss : Stmts} {bs : Branches} (f : Forest vars chans w d ss bs) (a : Part)
         → FineBranches (S .word) a vars chans w d ss → (i : ℕ) (path : List ℕ) {b q : Process} → branchAt i bs ≡ some b
         → look path b ≡ some q → Owner a (labelIn f i) path q
-    owner-in f-none a vars chans g i path e h = never (cc)
-    owner-in (f-live t f) a vars chans g zero path e h =
+    owner-in f-none a g i path e h = never (cc)
+    owner-in (f-live t f) a g zero path e h =
         elim (owner-of t path (ap (look path) (some-same e) ∙ h)) [ owner x u v y z ↦ owner x u (inside-trans v (g .0)) y z ]
-    owner-in (f-live t f) a vars chans g (suc i) path e h =
-        elim (owner-in f a vars chans (g .3) i path e h) [ owner x u v y z ↦ owner x u v y z ]
-    owner-in (f-over f) a vars chans g zero path e h = never (cc)
-    owner-in (f-over f) a vars chans g (suc i) path e h =
-        elim (owner-in f a vars chans (g .3) i path e h) [ owner x u v y z ↦ owner x u v y z ]
+    owner-in (f-live t f) a g (suc i) path e h =
+        elim (owner-in f a (g .3) i path e h) [ owner x u v y z ↦ owner x u v y z ]
+    owner-in (f-over f) a g zero path e h = never (cc)
+    owner-in (f-over f) a g (suc i) path e h =
+        elim (owner-in f a (g .3) i path e h) [ owner x u v y z ↦ owner x u v y z ]
 
   -- a part is run only where a process is
   mutual
     unfolding labelAt labelIn branchAt look
 
     pub part-found : {a : Part} {p : Process} (t : Tree a p) (path : List ℕ) {b : Part} → partAt t path ≡ some b → Found path p
-    part-found (t-leaf {q} l) [] e = found q refl
-    part-found (t-leaf l) (i ∷ path) e = never (cc)
+    part-found (t-leaf {q} l n m) [] e = found q refl
+    part-found (t-leaf l n m) (i ∷ path) e = never (cc)
     part-found (t-par {k} {bs} c f) [] e = found (inPar bs k) refl
     part-found (t-par {k} {bs} c f) (i ∷ path) e = elim (part-found-in f i path e) [
       | found-in b q g h ↦ found q (look-in i path (inPar bs k) g ∙ h)
     ]
 
-    part-found-in : {w d : ℕ} {ss : Stmts} {bs : Branches} (f : Forest w d ss bs) (i : ℕ) (path : List ℕ) {b : Part}
+    part-found-in : {vars chans : List Site} {w d : ℕ} {ss : Stmts} {bs : Branches} (f : Forest vars chans w d ss bs) (i : ℕ) (path : List ℕ) {b : Part}
         → partIn f i path ≡ some b → FoundIn i path bs
     part-found-in f-none i path e = never (cc)
     part-found-in (f-live {p} t f) zero path e = elim (part-found t path e) [ found q h ↦ found-in p q refl h ]
@@ -311,11 +330,11 @@ module _ (S : Setting) where
     pub above : (pre : List ℕ) (i : ℕ) (rest : List ℕ) → path ≡ pre ++ i ∷ rest → labelAt tree pre ≡ labelAt t pre
 
   -- a forest made from f by a tree u at a path in the branch i
-  record Regrown {w d : ℕ} {ss : Stmts} {bs : Branches} (f : Forest w d ss bs) (i : ℕ) (path : List ℕ) {b : Part} {r : Process}
+  record Regrown {vars chans : List Site} {w d : ℕ} {ss : Stmts} {bs : Branches} (f : Forest vars chans w d ss bs) (i : ℕ) (path : List ℕ) {b : Part} {r : Process}
       (u : Tree b r) : Type 0 where
     pub process : Process
     pub found : branchAt i bs ≡ some process
-    pub forest : Forest w d ss (setBranch i (put path r process) bs)
+    pub forest : Forest vars chans w d ss (setBranch i (put path r process) bs)
     pub below : (rest : List ℕ) → labelIn forest i (path ++ rest) ≡ labelAt u rest
     pub aside : (other : List ℕ) → Diverge path other → labelIn forest i other ≡ labelIn f i other
     pub above : (pre : List ℕ) (j : ℕ) (rest : List ℕ) → path ≡ pre ++ j ∷ rest → labelIn forest i pre ≡ labelIn f i pre
@@ -336,7 +355,7 @@ module _ (S : Setting) where
 
   -- by way of a PAR's branch
   module _ {a : Part} {s : Stmt} {ss : Stmts} {vars chans : List Site} {k : List Frame} {hi n w : ℕ} {bs : Branches}
-      (c : ParCode S a s ss vars chans k hi n w) (f : Forest w 0 (stmt s ss) bs) (i : ℕ) (path : List ℕ) {b : Part} {r : Process}
+      (c : ParCode S a s ss vars chans k hi n w) (f : Forest vars chans w 0 (stmt s ss) bs) (i : ℕ) (path : List ℕ) {b : Part} {r : Process}
       (u : Tree b r) where
     par-aside : (g : Regrown f i path u) (other : List ℕ) → Diverge (i ∷ path) other
         → labelAt (t-par c (g .forest)) other ≡ labelAt (t-par c f) other
@@ -368,12 +387,12 @@ module _ (S : Setting) where
 
     pub rebuild : {a : Part} {p : Process} (t : Tree a p) (path : List ℕ) {b : Part} {r : Process} (u : Tree b r)
         → partAt t path ≡ some b → Rebuilt t path u (put path r p)
-    rebuild (t-leaf l) [] u e = rebuilt-nil (t-leaf l) u (some-same e)
-    rebuild (t-leaf l) (i ∷ path) u e = never (cc)
+    rebuild (t-leaf l n m) [] u e = rebuilt-nil (t-leaf l n m) u (some-same e)
+    rebuild (t-leaf l n m) (i ∷ path) u e = never (cc)
     rebuild (t-par c f) [] u e = rebuilt-nil (t-par c f) u (some-same e)
     rebuild (t-par c f) (i ∷ path) u e = rebuilt-par c f i path u (regrow f i path u e)
 
-    regrow : {w d : ℕ} {ss : Stmts} {bs : Branches} (f : Forest w d ss bs) (i : ℕ) (path : List ℕ) {b : Part} {r : Process} (u : Tree b r)
+    regrow : {vars chans : List Site} {w d : ℕ} {ss : Stmts} {bs : Branches} (f : Forest vars chans w d ss bs) (i : ℕ) (path : List ℕ) {b : Part} {r : Process} (u : Tree b r)
         → partIn f i path ≡ some b → Regrown f i path u
     regrow f-none i path u e = never (cc)
     regrow (f-live {p} t f) zero path u e =
@@ -416,54 +435,81 @@ module _ (S : Setting) where
       (g : Rebuilt t path u q) → partAt (g .tree) path ≡ some b
   rebuilt-here {path} {u} g = ap (partAt (g .tree)) (sym (append-nil path)) ∙ ap running (g .below []) ∙ part-nil u
 
+  -- what is known of a branch that was just started
+  abbrev pub newInfo : (vars chans : List Site) (w : ℕ) → Info
+  newInfo vars chans w = record { vars = vars; chans = chans; w = w; left = whole S }
+
+  pub new-sits : {vars chans : List Site} (w d : ℕ) (s : Stmt) → Scoped S w vars chans
+      → Sits (partOf vars chans (w - d) (joins d) s) (newInfo vars chans (w - d))
+  new-sits w d s h =
+      record {
+        placed = record {
+          scoped = scoped-below S (omega arith) h;
+          low = omega arith;
+          vars-origin = λ x m. inl m;
+          chans-origin = λ x m. inl m;
+          vars-outer = λ x m. m;
+          chans-outer = λ x m. m;
+        };
+        room = omega arith;
+        few = omega arith;
+      }
+
   -- the branches of a PAR that was just started
-  unfoldable pub begun : (w d : ℕ) (ss : Stmts) → Forest w d ss (branches ss)
+  unfoldable pub begun : {vars chans : List Site} (w d : ℕ) (ss : Stmts) → Scoped S w vars chans → Forest vars chans w d ss (branches ss)
   unfolding branches
-  begun w d noStmt = f-none
-  begun w d (stmt s ss) = f-live (t-leaf (leaf-begin s [])) (begun w (d + need s) ss)
+  begun w d noStmt h = f-none
+  begun {vars} {chans} w d (stmt s ss) h =
+      f-live (t-leaf (leaf-begin s []) (newInfo vars chans (w - d)) (new-sits w d s h)) (begun w (d + need s) ss h)
 
   -- each runs its statement, as far below as the branches before it need
-  begun-part : (w d : ℕ) (ss : Stmts) (i : ℕ) {s : Stmt} → stmtAt i ss ≡ some s
-      → partIn (begun w d ss) i [] ≡ some (partOf (w - (d + distanceOf i ss)) (joins (d + distanceOf i ss)) s)
+  begun-label : {vars chans : List Site} (w d : ℕ) (ss : Stmts) (h : Scoped S w vars chans) (i : ℕ) {s : Stmt} → stmtAt i ss ≡ some s
+      → labelIn (begun w d ss h) i []
+      ≡ some (alone (partOf vars chans (w - (d + distanceOf i ss)) (joins (d + distanceOf i ss)) s)
+      (newInfo vars chans (w - (d + distanceOf i ss))))
   unfolding labelAt labelIn begun branches stmtAt distanceOf
-  begun-part w d noStmt i e = never (cc)
-  begun-part w d (stmt s ss) zero e = let h : d + 0 ≡ d = omega arith in rw (h, some-same e) refl
-  begun-part w d (stmt s ss) (suc i) e =
-      let h : d + (need s + distanceOf i ss) ≡ d + need s + distanceOf i ss = omega arith in rw h (begun-part w (d + need s) ss i e)
+  begun-label w d noStmt h i e = never (cc)
+  begun-label w d (stmt s ss) h zero e = let z : d + 0 ≡ d = omega arith in rw (z, some-same e) refl
+  begun-label w d (stmt s ss) h (suc i) e =
+      let z : d + (need s + distanceOf i ss) ≡ d + need s + distanceOf i ss = omega arith in rw z (begun-label w (d + need s) ss h i e)
 
   -- the tree of a PAR that was just started
   abbrev pub started : {a : Part} {s : Stmt} {ss : Stmts} {vars chans : List Site} {k : List Frame} {hi i w : ℕ}
       → ParCode S a s ss vars chans k hi i w → Tree a (inPar (branches (stmt s ss)) k)
-  started {s} {ss} {w} c = t-par c (begun w 0 (stmt s ss))
+  started {s} {ss} {w} c = t-par c (begun w 0 (stmt s ss) (scoped-up S w 2 (c .placed .scoped)))
 
   -- what its branches run
-  pub started-part : {a : Part} {s : Stmt} {ss : Stmts} {vars chans : List Site} {k : List Frame} {hi n w : ℕ}
+  pub started-label : {a : Part} {s : Stmt} {ss : Stmts} {vars chans : List Site} {k : List Frame} {hi n w : ℕ}
       (c : ParCode S a s ss vars chans k hi n w) (i : ℕ) {r : Stmt} → stmtAt i (stmt s ss) ≡ some r
-      → partAt (started c) (i ∷ []) ≡ some (partOf (w - distanceOf i (stmt s ss)) (joins (distanceOf i (stmt s ss))) r)
+      → labelAt (started c) (i ∷ [])
+      ≡ some (alone (partOf vars chans (w - distanceOf i (stmt s ss)) (joins (distanceOf i (stmt s ss))) r)
+      (newInfo vars chans (w - distanceOf i (stmt s ss))))
   unfolding labelAt labelIn
-  started-part {s} {ss} {w} c i {r} e =
-      subst (λ z. partIn (begun w 0 (stmt s ss)) i [] ≡ some (partOf (w - z) (joins z) r)) (omega arith) (begun-part w 0 (stmt s ss) i e)
+  started-label {s} {ss} {vars} {chans} {w} c i {r} e =
+      let h : Scoped S w vars chans = scoped-up S w 2 (c .placed .scoped) in
+      subst (λ z. labelIn (begun w 0 (stmt s ss) h) i [] ≡ some (alone (partOf vars chans (w - z) (joins z) r) (newInfo vars chans (w - z))))
+      (omega arith) (begun-label w 0 (stmt s ss) h i e)
 
   -- whatever a PAR's branches have come to, each runs that part
-  forest-part : {w d : ℕ} {ss : Stmts} {bs : Branches} (f : Forest w d ss bs) (i : ℕ) {b : Part} → partIn f i [] ≡ some b
-      → BranchPart w d ss i b
+  forest-part : {vars chans : List Site} {w d : ℕ} {ss : Stmts} {bs : Branches} (f : Forest vars chans w d ss bs) (i : ℕ) {b : Part} → partIn f i [] ≡ some b
+      → BranchPart vars chans w d ss i b
   unfolding labelAt labelIn stmtAt distanceOf
   forest-part f-none i e = never (cc)
-  forest-part {w} {d} (f-live {s} t f) zero {b} e =
-      branch-part s refl (subst (λ z. b ≡ partOf (w - z) (joins z) s) (omega arith) (some-same (sym e ∙ part-nil t)))
-  forest-part {w} {d} (f-live {s} {ss} t f) (suc i) e = later-part w d s ss i (forest-part f i e)
+  forest-part {vars} {chans} {w} {d} (f-live {s} t f) zero {b} e =
+      branch-part s refl (subst (λ z. b ≡ partOf vars chans (w - z) (joins z) s) (omega arith) (some-same (sym e ∙ part-nil t)))
+  forest-part {vars} {chans} {w} {d} (f-live {s} {ss} t f) (suc i) e = later-part vars chans w d s ss i (forest-part f i e)
   forest-part (f-over f) zero e = never (cc)
-  forest-part {w} {d} (f-over {s} {ss} f) (suc i) e = later-part w d s ss i (forest-part f i e)
+  forest-part {vars} {chans} {w} {d} (f-over {s} {ss} f) (suc i) e = later-part vars chans w d s ss i (forest-part f i e)
 
   -- the same of a PAR's tree
   pub par-part : {a : Part} {s : Stmt} {ss : Stmts} {vars chans : List Site} {k : List Frame} {hi n w : ℕ} {bs : Branches}
-      (c : ParCode S a s ss vars chans k hi n w) (f : Forest w 0 (stmt s ss) bs) (i : ℕ) {b : Part}
-      → partAt (t-par c f) (i ∷ []) ≡ some b → BranchPart w 0 (stmt s ss) i b
+      (c : ParCode S a s ss vars chans k hi n w) (f : Forest vars chans w 0 (stmt s ss) bs) (i : ℕ) {b : Part}
+      → partAt (t-par c f) (i ∷ []) ≡ some b → BranchPart vars chans w 0 (stmt s ss) i b
   unfolding labelAt labelIn
   par-part c f i e = forest-part f i e
 
   -- the branches after one's end
-  unfoldable cut : {w d : ℕ} {ss : Stmts} {bs : Branches} → Forest w d ss bs → (i : ℕ) → Forest w d ss (endBranch i bs)
+  unfoldable cut : {vars chans : List Site} {w d : ℕ} {ss : Stmts} {bs : Branches} → Forest vars chans w d ss bs → (i : ℕ) → Forest vars chans w d ss (endBranch i bs)
   unfolding endBranch
   cut f-none i = f-none
   cut (f-live t f) zero = f-over f
@@ -472,7 +518,7 @@ module _ (S : Setting) where
   cut (f-over f) (suc i) = f-over (cut f i)
 
   -- nothing runs in it
-  cut-gone : {w d : ℕ} {ss : Stmts} {bs : Branches} (f : Forest w d ss bs) (i : ℕ) (path : List ℕ) → labelIn (cut f i) i path ≡ none
+  cut-gone : {vars chans : List Site} {w d : ℕ} {ss : Stmts} {bs : Branches} (f : Forest vars chans w d ss bs) (i : ℕ) (path : List ℕ) → labelIn (cut f i) i path ≡ none
   unfolding labelAt labelIn cut endBranch
   cut-gone f-none i path = refl
   cut-gone (f-live t f) zero path = refl
@@ -481,7 +527,7 @@ module _ (S : Setting) where
   cut-gone (f-over f) (suc i) path = cut-gone f i path
 
   -- the others run what they did
-  cut-others : {w d : ℕ} {ss : Stmts} {bs : Branches} (f : Forest w d ss bs) (i : ℕ) → SameBut i (labelIn f) (labelIn (cut f i))
+  cut-others : {vars chans : List Site} {w d : ℕ} {ss : Stmts} {bs : Branches} (f : Forest vars chans w d ss bs) (i : ℕ) → SameBut i (labelIn f) (labelIn (cut f i))
   unfolding labelAt labelIn cut endBranch
   cut-others f-none i j path n = refl
   cut-others (f-live t f) zero zero path n = absurd (n refl)
@@ -502,50 +548,57 @@ module _ (S : Setting) where
   -- the end of a branch of a PAR
   pub ended : {a : Part} {bs : Branches} {k : List Frame} (t : Tree a (inPar bs k)) (i : ℕ) → Ended t i
   unfolding labelAt labelIn
-  ended (t-leaf l) i = absurd (leaf-par l refl)
+  ended (t-leaf l n m) i = absurd (leaf-par l refl)
   ended (t-par c f) i = record { tree = t-par c (cut f i); whole = refl; gone = cut-gone f i; others = cut-others f i }
 
   -- in a leaf's tree nothing runs under it
   leaf-none : {b : Part} {q : Process} (u : Tree b q) → Leaf q → (i : ℕ) (rest : List ℕ) → labelAt u (i ∷ rest) ≡ none
   unfolding labelAt labelIn
-  leaf-none (t-leaf l) m i rest = refl
+  leaf-none (t-leaf l n h) m i rest = refl
   leaf-none (t-par c f) m i rest = absurd (leaf-par m refl)
 
-  -- it runs its part alone
-  leaf-alone : {b : Part} {q : Process} (u : Tree b q) → Leaf q → labelAt u [] ≡ some (alone b)
+  -- a leaf's label
+  pub data Alone (b : Part) (l : Option Label) : Type 0 where
+    is-alone : (i : Info) → Sits b i → l ≡ some (alone b i) → Alone b l
+
+  leaf-alone : {b : Part} {q : Process} (u : Tree b q) → Leaf q → Alone b (labelAt u [])
   unfolding labelAt labelIn
-  leaf-alone (t-leaf l) m = refl
+  leaf-alone (t-leaf l i h) m = is-alone i h refl
   leaf-alone (t-par c f) m = absurd (leaf-par m refl)
 
-  -- a tree of q that runs the same as t
-  pub record Kept {a : Part} {p : Process} (t : Tree a p) (q : Process) : Type 0 where
+  -- a tree of q that runs the same as t but for what is known of the leaf at a path
+  pub record Kept {a : Part} {p : Process} (t : Tree a p) (path : List ℕ) (b : Part) (i : Info) (q : Process) : Type 0 where
     pub tree : Tree a q
-    pub same : (path : List ℕ) → labelAt tree path ≡ labelAt t path
+    pub here : labelAt tree path ≡ some (alone b i)
+    pub same : (other : List ℕ) → path ≢ other → labelAt tree other ≡ labelAt t other
 
-  -- where a leaf becomes a leaf, all run the same
+  -- where a leaf becomes a leaf
   pub kept : {a : Part} {p : Process} (t : Tree a p) (path : List ℕ) {q r : Process} → look path p ≡ some q → Leaf q → Leaf r
-      → Kept t (put path r p)
-  kept {a} {p} t path {q} {r} e l m = elim (owner-of t path e) [ owner b u n g h ↦ with-part b u g h ]
+      → (b : Part) (i : Info) → partAt t path ≡ some b → Sits b i → Kept t path b i (put path r p)
+  unfolding labelAt labelIn
+  kept {a} {p} t path {q} {r} e l m b i at-b sits = elim (owner-of t path e) [ owner c u n g h ↦ with-part c u h ]
     where
-      with-part : (b : Part) (u : Tree b q) → partAt t path ≡ some b → ((rest : List ℕ) → labelAt t (path ++ rest) ≡ labelAt u rest)
-          → Kept t (put path r p)
-      with-part b u g h = record { tree = v .tree; same = λ other. at other (compare path other) }
+      z : Tree b r
+      z = t-leaf m i sits
+
+      v : Rebuilt t path z (put path r p)
+      v = rebuild t path z at-b
+
+      with-part : (c : Part) (u : Tree c q) → ((rest : List ℕ) → labelAt t (path ++ rest) ≡ labelAt u rest) → Kept t path b i (put path r p)
+      with-part c u h =
+          record {
+            tree = v .tree;
+            here = subst (λ y. labelAt (v .tree) y ≡ some (alone b i)) (append-nil path) (v .below []);
+            same = λ other d. at other d (compare path other);
+          }
         where
-          z : Tree b r
-          z = t-leaf m
-
-          v : Rebuilt t path z (put path r p)
-          v = rebuild t path z g
-
-          at : (other : List ℕ) → Compared path other → labelAt (v .tree) other ≡ labelAt t other
-          at other (equal x) =
-              subst (λ y. labelAt (v .tree) y ≡ labelAt t y) (append-nil path ∙ x)
-              (v .below [] ∙ leaf-alone z m ∙ sym (h [] ∙ leaf-alone u l))
-          at other (below i rest x) =
+          at : (other : List ℕ) → path ≢ other → Compared path other → labelAt (v .tree) other ≡ labelAt t other
+          at other d (equal x) = absurd (d x)
+          at other d (below j rest x) =
               subst (λ y. labelAt (v .tree) y ≡ labelAt t y) (sym x)
-              (v .below (i ∷ rest) ∙ leaf-none z m i rest ∙ sym (h (i ∷ rest) ∙ leaf-none u l i rest))
-          at other (above i rest x) = v .above other i rest x
-          at other (apart x) = v .aside other x
+              (v .below (j ∷ rest) ∙ leaf-none z m j rest ∙ sym (h (j ∷ rest) ∙ leaf-none u l j rest))
+          at other d (above j rest x) = v .above other j rest x
+          at other d (apart x) = v .aside other x
 
   -- the tree of q after the end of the branch i of the PAR at a path
   pub record EndedAt {a : Part} {p : Process} (t : Tree a p) (path : List ℕ) (i : ℕ) (q : Process) : Type 0 where
