@@ -27,12 +27,14 @@ pub mod Trees
 pub mod Zones
 pub mod Arrivals
 pub mod Onwards
+pub mod Leaves
 pub mod Comes
 pub mod Effects
 pub mod Acts
 pub mod Moves
 pub mod Slice
 pub mod Queues
+pub mod Kernel
 pub mod Steps
 pub mod Turns
 pub mod Memory
