@@ -28,6 +28,7 @@ pub mod Zones
 pub mod Arrivals
 pub mod Onwards
 pub mod Leaves
+pub mod Stays
 pub mod Comes
 pub mod Effects
 pub mod Acts
