@@ -80,33 +80,44 @@ module _ (L : Loaded) where
   abbrev pub size : ℕ
   size = memorySize setup
 
+  -- a process is found at a path, and what is known of it
+  pub record LeafAt (st : State) (t : Tree S root (st .process)) (path : List ℕ) (q : Process) (b : Part) (i : Info) : Type 0 where
+    pub found : look path (st .process) ≡ some q
+    pub leaf : Leaf q
+    pub label : labelAt S t path ≡ some (alone b i)
+
+  -- a process or a PAR
+  pub record NodeAt (st : State) (t : Tree S root (st .process)) (path : List ℕ) (l : Label) : Type 0 where
+    pub label : labelAt S t path ≡ some l
+
   -- a channel word's holder: a process for which the channel is in scope
   pub data Owned (st : State) (t : Tree S root (st .process)) (c : Site) (n : ℕ) : Type 0 where
-    owned : (path : List ℕ) {q : Process} {b : Part} {i : Info} → look path (st .process) ≡ some q → Leaf q
-        → labelAt S t path ≡ some (alone b i) → List·Memᴰ c (i .chans) → Own b n → Owned st t c n
+    owned : {path : List ℕ} {q : Process} {b : Part} {i : Info} → LeafAt st t path q b i → List·Memᴰ c (i .chans) → Own b n → Owned st t c n
 
   -- what all words hold, where the processes at some paths (`Out`) are left out. `ws` are the workspaces that are queued
   pub record Rest (st : State) (μ : Mem) (t : Tree S root (st .process)) (Out : List ℕ → Type 0) (ws : List ℕ) : Type 0 where
     -- variables in scope are words, and stand in their words
-    pub vars : (path : List ℕ) {l : Label} → labelAt S t path ≡ some l → (x : Site) → List·Memᴰ x (zoneOf l .vars)
+    pub vars : {path : List ℕ} {l : Label} → NodeAt st t path l → (x : Site) → List·Memᴰ x (zoneOf l .vars)
         → (st .store x ≡ μ (S .word x)) × (st .store x < 2 ^ 32)
     -- a channel in scope is empty, or some process waits at it
-    pub chans : (path : List ℕ) {l : Label} → labelAt S t path ≡ some l → (c : Site) → List·Memᴰ c (zoneOf l .chans)
+    pub chans : {path : List ℕ} {l : Label} → NodeAt st t path l → (c : Site) → List·Memᴰ c (zoneOf l .chans)
         → (μ (S .word c) ≡ notProcess) ⊎ Owned st t c (μ (S .word c))
-    pub live : (path : List ℕ) {q : Process} {b : Part} {i : Info} → look path (st .process) ≡ some q → Leaf q
-        → labelAt S t path ≡ some (alone b i) → Within (liveIn (framesOf q)) (i .vars)
-    pub leaf : (path : List ℕ) {q : Process} {b : Part} {i : Info} → look path (st .process) ≡ some q → Leaf q
-        → labelAt S t path ≡ some (alone b i) → (Out path → ⊥) → Held S b i st μ (member (i .w) ws) q
+    -- live variables are in scope
+    pub live : {path : List ℕ} {q : Process} {b : Part} {i : Info} → LeafAt st t path q b i → Within (liveIn (framesOf q)) (i .vars)
+    pub leaf : {path : List ℕ} {q : Process} {b : Part} {i : Info} → LeafAt st t path q b i → (Out path → ⊥)
+        → Held S b i st μ (member (i .w) ws) q
     -- a PAR's words: where it goes on, and how many branches are not over
-    pub par : (path : List ℕ) {bs : Branches} {k : List Frame} {a : Part} {vs cs : List Site} {w onward : ℕ}
-        → look path (st .process) ≡ some (inPar bs k) → labelAt S t path ≡ some (parted a vs cs w onward)
+    pub par : {path : List ℕ} {bs : Branches} {k : List Frame} {a : Part} {vs cs : List Site} {w onward : ℕ}
+        → look path (st .process) ≡ some (inPar bs k) → NodeAt st t path (parted a vs cs w onward)
         → (μ w ≡ S .off onward) × (μ (w + 1) ≡ left bs)
+
+  -- the process whose workspace is queued
+  pub data Whose (st : State) (t : Tree S root (st .process)) (Out : List ℕ → Type 0) (w : ℕ) : Type 0 where
+    whose : {path : List ℕ} {q : Process} {b : Part} {i : Info} → LeafAt st t path q b i → i .w ≡ w → (Out path → ⊥) → Whose st t Out w
 
   -- each workspace that is queued is a process's, and none is queued twice
   pub record Lined (st : State) (t : Tree S root (st .process)) (Out : List ℕ → Type 0) (ws : List ℕ) : Type 0 where
-    pub whose : (w : ℕ) → List·Memᴰ w ws
-        → (path : List ℕ) × (q : Process) × (b : Part) × (i : Info) × (look path (st .process) ≡ some q) × Leaf q
-        × (labelAt S t path ≡ some (alone b i)) × (i .w ≡ w) × (Out path → ⊥)
+    pub each : (w : ℕ) → List·Memᴰ w ws → Whose st t Out w
     pub once : Apart ws
 
   -- an outside input: nothing is offered, or the machine holds what is

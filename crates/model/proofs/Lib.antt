@@ -36,6 +36,7 @@ pub mod Moves
 pub mod Slice
 pub mod Queues
 pub mod Kernel
+pub mod Writes
 pub mod Steps
 pub mod Turns
 pub mod Memory

@@ -608,3 +608,15 @@ look-end-other path i j rest p {bs} {k} d e =
 pub only-left : (i j : ℕ) (bs : Branches) {b : Process} → branchAt i bs ≡ some b → left bs ≡ 1 → i ≢ j → branchAt j bs ≡ none
 only-left i j bs e z d =
     is-none (branchAt j bs) (λ c f. cc (last-over i bs e z, other-over i j bs d f))
+
+-- two paths are the same or not
+pub same-path : (ps qs : List ℕ) → (ps ≡ qs) ⊎ (ps ≢ qs)
+same-path [] [] = inl refl
+same-path [] (j ∷ qs) = inr (λ e. never (cc))
+same-path (i ∷ ps) [] = inr (λ e. never (cc))
+same-path (i ∷ ps) (j ∷ qs) = by (ℕ-discrete i j) (same-path ps qs)
+  where
+    by : Dec (i ≡ j) → (ps ≡ qs) ⊎ (ps ≢ qs) → (i ∷ ps ≡ j ∷ qs) ⊎ (i ∷ ps ≢ j ∷ qs)
+    by (yes e) (inl f) = inl (cc)
+    by (yes e) (inr d) = inr (λ f. d (cc))
+    by (no d) h = inr (λ f. d (cc))

@@ -99,6 +99,16 @@ pub data Label : Type 0 where
   alone : Part → Info → Label
   parted : Part → (vars chans : List Site) (w onward : ℕ) → Label
 
+-- labels tell parts and what is known
+pub alone-part : {a b : Part} {i j : Info} → alone a i ≡ alone b j → a ≡ b
+alone-part e = cc
+
+pub alone-info : {a b : Part} {i j : Info} → alone a i ≡ alone b j → i ≡ j
+alone-info e = cc
+
+pub alone-parted : {a b : Part} {i : Info} {vs cs : List Site} {w n : ℕ} → parted a vs cs w n ≡ alone b i → _≡_ {A = ℕ} 0 1
+alone-parted e = cc
+
 -- the part of them
 abbrev pub running : Option Label → Option Part
 running none = none
@@ -565,6 +575,25 @@ module _ (S : Setting) where
   unfolding labelAt labelIn
   leaf-alone (t-leaf l i h) m = is-alone i h refl
   leaf-alone (t-par c f) m = absurd (leaf-par m refl)
+
+  -- what is known of a leaf fits its part
+  mutual
+    unfolding labelAt labelIn
+
+    pub label-sits : {a : Part} {p : Process} (t : Tree a p) (path : List ℕ) {b : Part} {i : Info} → labelAt t path ≡ some (alone b i) → Sits b i
+    label-sits {a} (t-leaf l j h) [] {b} {i} e =
+        let z = some-same e in subst (λ c. Sits c i) (alone-part z) (subst (λ k. Sits a k) (alone-info z) h)
+    label-sits (t-leaf l j h) (n ∷ path) e = never (cc)
+    label-sits (t-par c f) [] e = never (alone-parted (some-same e))
+    label-sits (t-par c f) (n ∷ path) e = forest-sits f n path e
+
+    forest-sits : {vars chans : List Site} {w d : ℕ} {ss : Stmts} {bs : Branches} (f : Forest vars chans w d ss bs) (n : ℕ) (path : List ℕ)
+        {b : Part} {i : Info} → labelIn f n path ≡ some (alone b i) → Sits b i
+    forest-sits f-none n path e = never (cc)
+    forest-sits (f-live t f) zero path e = label-sits t path e
+    forest-sits (f-live t f) (suc n) path e = forest-sits f n path e
+    forest-sits (f-over f) zero path e = never (cc)
+    forest-sits (f-over f) (suc n) path e = forest-sits f n path e
 
   -- a tree of q that runs the same as t but for what is known of the leaf at a path
   pub record Kept {a : Part} {p : Process} (t : Tree a p) (path : List ℕ) (b : Part) (i : Info) (q : Process) : Type 0 where

@@ -12,6 +12,7 @@ use Rattle.model.specs.Counts.{need}
 use Rattle.model.specs.Occam.{Process, Branches}
 use Rattle.model.proofs.Cases.{never}
 use Rattle.model.proofs.Points.{Setting}
+use Rattle.model.proofs.Paths.{same-path}
 use Rattle.model.proofs.Parts.{Part, joins, partOf, Apart, Inside, FineBranches, Beside}
 use Rattle.model.proofs.Conts.{Scoped, scoped-up, Placed}
 use Rattle.model.proofs.Marks.{ParCode}
@@ -271,3 +272,53 @@ module _ (S : Setting) where
     same-branch (f-live t f) (suc i) path other n e k = same-branch f i path other n e k
     same-branch (f-over f) zero path other n e k = never (cc)
     same-branch (f-over f) (suc i) path other n e k = same-branch f i path other n e k
+
+  -- names in scope of one process have words of their own
+  pub data Distinct (z : Zone) : Type 0 where
+    distinct : (w : ℕ) → Scoped S w (z .vars) (z .chans) → Distinct z
+
+  mutual
+    unfolding labelAt labelIn
+
+    zone-distinct : {a : Part} {p : Process} (t : Tree S a p) (path : List ℕ) {l : Label} → labelAt S t path ≡ some l → Distinct (zoneOf l)
+    zone-distinct (t-leaf q i h) [] e = subst (λ l. Distinct (zoneOf l)) (some-same e) (distinct (i .w) (h .placed .scoped))
+    zone-distinct (t-leaf q i h) (j ∷ path) e = never (cc)
+    zone-distinct (t-par {w} c f) [] e = subst (λ l. Distinct (zoneOf l)) (some-same e) (distinct (w + 2) (c .placed .scoped))
+    zone-distinct (t-par c f) (j ∷ path) e = branch-distinct f j path e
+
+    branch-distinct : {vars chans : List Site} {w d : ℕ} {ss : Stmts} {bs : Branches} (f : Forest S vars chans w d ss bs) (i : ℕ)
+        (path : List ℕ) {l : Label} → labelIn S f i path ≡ some l → Distinct (zoneOf l)
+    branch-distinct f-none i path e = never (cc)
+    branch-distinct (f-live t f) zero path e = zone-distinct t path e
+    branch-distinct (f-live t f) (suc i) path e = branch-distinct f i path e
+    branch-distinct (f-over f) zero path e = never (cc)
+    branch-distinct (f-over f) (suc i) path e = branch-distinct f i path e
+
+  -- any two names that are in scope, of whichever processes, have different words: variables and channels each among themselves, and
+  -- variables and channels against each other
+  pub record Differ (z y : Zone) : Type 0 where
+    pub vars : (x u : Site) → List·Memᴰ x (z .vars) → List·Memᴰ u (y .vars) → S .word x ≡ S .word u → x ≡ u
+    pub chans : (c d : Site) → List·Memᴰ c (z .chans) → List·Memᴰ d (y .chans) → S .word c ≡ S .word d → c ≡ d
+    pub cross : (x c : Site) → List·Memᴰ x (z .vars) → List·Memᴰ c (y .chans) → S .word x ≡ S .word c → ⊥
+    pub crossed : (c x : Site) → List·Memᴰ c (z .chans) → List·Memᴰ x (y .vars) → S .word c ≡ S .word x → ⊥
+
+  pub names-differ : {a : Part} {p : Process} (t : Tree S a p) (path other : List ℕ) {l m : Label} → labelAt S t path ≡ some l
+      → labelAt S t other ≡ some m → Differ (zoneOf l) (zoneOf m)
+  names-differ t path other {l} {m} e f = ⊎-elim same-one two-of-them (same-path path other)
+    where
+      same-one : path ≡ other → Differ (zoneOf l) (zoneOf m)
+      same-one p =
+          subst (λ k. Differ (zoneOf l) (zoneOf k)) (some-same (sym e ∙ ap (labelAt S t) p ∙ f))
+          (elim (zone-distinct t path e) [
+            | distinct w h ↦ record {
+              vars = h .vars-distinct;
+              chans = h .chans-distinct;
+              cross = h .apart;
+              crossed = λ c x a b q. h .apart x c b a (sym q);
+            }
+          ])
+
+      two-of-them : path ≢ other → Differ (zoneOf l) (zoneOf m)
+      two-of-them d =
+          let far = zones-distant t path other d e f in
+          record { vars = far .vars-same; chans = far .chans-same; cross = far .cross; crossed = far .crossed }
