@@ -37,6 +37,7 @@ pub mod Slice
 pub mod Queues
 pub mod Kernel
 pub mod Writes
+pub mod Puts
 pub mod Steps
 pub mod Turns
 pub mod Memory

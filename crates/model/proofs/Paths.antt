@@ -620,3 +620,50 @@ same-path (i ∷ ps) (j ∷ qs) = by (ℕ-discrete i j) (same-path ps qs)
     by (yes e) (inl f) = inl (cc)
     by (yes e) (inr d) = inr (λ f. d (cc))
     by (no d) h = inr (λ f. d (cc))
+
+-- what is equal in `some`, and in a PAR
+some-inner : {x y : Process} → _≡_ {A = Option Process} (some x) (some y) → x ≡ y
+some-inner e = cc
+
+branches-same : {bs cs : Branches} {k l : List Frame} → inPar bs k ≡ inPar cs l → bs ≡ cs
+branches-same e = cc
+
+frames-same : {bs cs : Branches} {k l : List Frame} → inPar bs k ≡ inPar cs l → k ≡ l
+frames-same e = cc
+
+-- on the way to a process others are found
+pub data Prefixed (path rest : List ℕ) (p q : Process) : Type 0 where
+  prefixed : (r : Process) → look path p ≡ some r → look rest r ≡ some q → Prefixed path rest p q
+
+pub look-prefix : (path rest : List ℕ) (p : Process) {q : Process} → look (path ++ rest) p ≡ some q → Prefixed path rest p q
+look-prefix [] rest p e = prefixed p (look-nil p) e
+look-prefix (i ∷ path) rest p e = elim (look-under i (path ++ rest) p e) [
+  | under b f g ↦ elim (look-prefix path rest b g) [ prefixed r h k ↦ prefixed r (look-in i path p f ∙ h) k ]
+]
+
+-- the PARs after a leaf was put in the place of another: as many branches are left
+pub data SamePar (path : List ℕ) (p : Process) (bs : Branches) (k : List Frame) : Type 0 where
+  same-par : (cs : Branches) → look path p ≡ some (inPar cs k) → left cs ≡ left bs → SamePar path p bs k
+
+pub par-after : (path other : List ℕ) (p : Process) {q r : Process} {bs : Branches} {k : List Frame} → look path p ≡ some q → Leaf q → Leaf r
+    → look other (put path r p) ≡ some (inPar bs k) → SamePar other p bs k
+par-after path other p {q} {r} {bs} {k} e l m f = by (compare path other)
+  where
+    by : Compared path other → SamePar other p bs k
+    by (equal g) = absurd (leaf-par {bs = bs} {k = k} m (cc (look-put-same path p r e, f, ap (λ z. look z (put path r p)) g)))
+    by (below i rest g) =
+        never (cc (look-put-below path (i ∷ rest) r p e, leaf-ends i rest m, f, ap (λ z. look z (put path r p)) g))
+    by (apart a) = same-par bs (sym (look-put-other r p a) ∙ f) refl
+    by (above i rest g) = elim (look-prefix other (i ∷ rest) p (ap (λ z. look z p) (sym g) ∙ e)) [
+      | prefixed z h n ↦ elim (look-under i rest z n) [
+        | under b u v ↦
+            let whole : z ≡ inPar (branchesOf z) (framesOf z) = sym (par-whole i z u) in
+            let now : some (put (i ∷ rest) r z) ≡ some (inPar bs k) =
+            sym (look-put-same other p (put (i ∷ rest) r z) h) ∙ ap (look other) (sym (put-append other (i ∷ rest) r p h))
+            ∙ ap (λ y. look other (put y r p)) (sym g) ∙ f in
+            let inner : inPar (setBranch i (put rest r b) (branchesOf z)) (framesOf z) ≡ inPar bs k =
+            sym (put-in i rest r z u) ∙ some-inner now in
+            same-par (branchesOf z) (h ∙ ap some (whole ∙ ap (inPar (branchesOf z)) (frames-same inner)))
+            (sym (left-set i (put rest r b) (branchesOf z)) ∙ ap left (branches-same inner))
+      ]
+    ]
