@@ -1,6 +1,7 @@
 -- Which part of the program each process runs: the whole one part, the branches of a PAR parts inside it that are apart.
-use Prim.Native.Nat.{ℕ, zero, suc, _+_, _-_, _≤_, _<_}
+use Prim.Native.Nat.{ℕ, zero, suc, _+_, _-_, _*_, _≤_, _<_}
 use native.Mathlib.Omega.{arith}
+use native.Mathlib.Nat.{add-mul}
 use mathlib.Core.Path.{_≡_, refl, sym, ap, subst, _∙_}
 use mathlib.Core.Logic.{_≢_, inl, inr, ⊎-elim}
 use mathlib.Core.List.{List, [], _∷_, _++_, append-nil}
@@ -10,8 +11,9 @@ use Rattle.model.specs.Counts.{need}
 use Rattle.model.specs.Occam.{Frame, Process, inPar, Branches, noBranch, branch, over, branches}
 use Rattle.model.specs.Occam.{branchAt, setBranch, endBranch, look, put}
 use Rattle.model.proofs.Cases.{never}
-use Rattle.model.proofs.Paths.{Apart as Diverge, here, later, Leaf, leaf-par, leaf-begin, leaf-ends, look-in, put-in}
+use Rattle.model.proofs.Paths.{Apart as Diverge, here, later, Leaf, l-before, l-input, l-output, l-stop, l-alt, l-finished, leaf-par, leaf-begin, leaf-ends, look-in, put-in}
 use Rattle.model.proofs.Paths.{under, look-under, stmtAt, Compared, equal, below, above, apart, compare}
+use Rattle.model.proofs.Most.{leaves, leavesIn}
 use Rattle.model.proofs.Points.{Setting, whole}
 use Rattle.model.proofs.Parts.{Part, joins, partOf, Apart, Inside, FineBranches, Beside}
 use Rattle.model.proofs.Conts.{Scoped, scoped-up, scoped-below, Placed}
@@ -201,6 +203,32 @@ module _ (S : Setting) where
     labelIn (f-over f) zero path = none
     labelIn (f-over f) (suc i) path = labelIn f i path
 
+  -- the bytes until the next steps of all processes together
+  unfoldable mutual
+    pub bytesLeft : {a : Part} {p : Process} → Tree a p → ℕ
+    bytesLeft (t-leaf l i h) = i .left
+    bytesLeft (t-par c f) = bytesIn f
+
+    pub bytesIn : {vars chans : List Site} {w d : ℕ} {ss : Stmts} {bs : Branches} → Forest vars chans w d ss bs → ℕ
+    bytesIn f-none = 0
+    bytesIn (f-live t f) = bytesLeft t + bytesIn f
+    bytesIn (f-over f) = bytesIn f
+
+  -- of those at and under a path
+  unfoldable mutual
+    pub bytesAt : {a : Part} {p : Process} → Tree a p → List ℕ → ℕ
+    bytesAt (t-leaf l i h) [] = i .left
+    bytesAt (t-leaf l i h) (j ∷ path) = 0
+    bytesAt (t-par c f) [] = bytesIn f
+    bytesAt (t-par c f) (j ∷ path) = bytesUnder f j path
+
+    pub bytesUnder : {vars chans : List Site} {w d : ℕ} {ss : Stmts} {bs : Branches} → Forest vars chans w d ss bs → ℕ → List ℕ → ℕ
+    bytesUnder f-none i path = 0
+    bytesUnder (f-live t f) zero path = bytesAt t path
+    bytesUnder (f-live t f) (suc i) path = bytesUnder f i path
+    bytesUnder (f-over f) zero path = 0
+    bytesUnder (f-over f) (suc i) path = bytesUnder f i path
+
   -- the part that it runs
   abbrev pub partAt : {a : Part} {p : Process} → Tree a p → List ℕ → Option Part
   partAt t path = running (labelAt t path)
@@ -338,6 +366,7 @@ module _ (S : Setting) where
     pub below : (rest : List ℕ) → labelAt tree (path ++ rest) ≡ labelAt u rest
     pub aside : (other : List ℕ) → Diverge path other → labelAt tree other ≡ labelAt t other
     pub above : (pre : List ℕ) (i : ℕ) (rest : List ℕ) → path ≡ pre ++ i ∷ rest → labelAt tree pre ≡ labelAt t pre
+    pub bytes : bytesLeft tree + bytesAt t path ≡ bytesLeft t + bytesLeft u
 
   -- a forest made from f by a tree u at a path in the branch i
   record Regrown {vars chans : List Site} {w d : ℕ} {ss : Stmts} {bs : Branches} (f : Forest vars chans w d ss bs) (i : ℕ) (path : List ℕ) {b : Part} {r : Process}
@@ -349,6 +378,13 @@ module _ (S : Setting) where
     pub aside : (other : List ℕ) → Diverge path other → labelIn forest i other ≡ labelIn f i other
     pub above : (pre : List ℕ) (j : ℕ) (rest : List ℕ) → path ≡ pre ++ j ∷ rest → labelIn forest i pre ≡ labelIn f i pre
     pub others : SameBut i (labelIn f) (labelIn forest)
+    pub bytes : bytesIn forest + bytesUnder f i path ≡ bytesIn f + bytesLeft u
+
+  -- the bytes of all are those at the top
+  bytes-top : {a : Part} {p : Process} (t : Tree a p) → bytesAt t [] ≡ bytesLeft t
+  unfolding bytesAt bytesLeft bytesIn
+  bytes-top (t-leaf l i h) = refl
+  bytes-top (t-par c f) = refl
 
   -- the whole is replaced
   rebuilt-nil : {a : Part} {p : Process} (t : Tree a p) {b : Part} {r : Process} (u : Tree b r) → a ≡ b → Rebuilt t [] u r
@@ -361,6 +397,7 @@ module _ (S : Setting) where
             below = λ rest. refl;
             aside = λ other v. nil-apart refl v;
             above = λ pre i rest e. nil-append pre i rest e;
+            bytes = omega (arith, bytes-top t);
           }
 
   -- by way of a PAR's branch
@@ -381,7 +418,7 @@ module _ (S : Setting) where
         let h : i ≡ l = cc in subst (λ z. labelIn (g .forest) z pre ≡ labelIn f z pre) h (g .above pre j rest (cc))
 
     rebuilt-par : (g : Regrown f i path u) → Rebuilt (t-par c f) (i ∷ path) u (put (i ∷ path) r (inPar bs k))
-    unfolding labelAt labelIn
+    unfolding labelAt labelIn bytesLeft bytesIn bytesAt bytesUnder
     rebuilt-par g =
         subst (Rebuilt (t-par c f) (i ∷ path) u) (sym (put-in i path r (inPar bs k) (g .found)))
         (record {
@@ -389,11 +426,12 @@ module _ (S : Setting) where
           below = g .below;
           aside = par-aside g;
           above = par-above g;
+          bytes = g .bytes;
         })
 
   -- another tree of the same part at a path
   mutual
-    unfolding labelAt labelIn branchAt setBranch look put
+    unfolding labelAt labelIn branchAt setBranch look put bytesLeft bytesIn bytesAt bytesUnder
 
     pub rebuild : {a : Part} {p : Process} (t : Tree a p) (path : List ℕ) {b : Part} {r : Process} (u : Tree b r)
         → partAt t path ≡ some b → Rebuilt t path u (put path r p)
@@ -415,6 +453,7 @@ module _ (S : Setting) where
           aside = g .aside;
           above = g .above;
           others = same-first (labelIn (f-live t f)) (labelIn (f-live (g .tree) f)) (λ j other. refl);
+          bytes = omega (arith, g .bytes);
         }
     regrow (f-live t f) (suc i) path u e =
         let g = regrow f i path u e in
@@ -426,6 +465,7 @@ module _ (S : Setting) where
           aside = g .aside;
           above = g .above;
           others = same-later i (labelIn (f-live t f)) (labelIn (f-live t (g .forest))) (λ other. refl) (g .others);
+          bytes = omega (arith, g .bytes);
         }
     regrow (f-over f) zero path u e = never (cc)
     regrow (f-over {s} f) (suc i) path u e =
@@ -438,6 +478,7 @@ module _ (S : Setting) where
           aside = g .aside;
           above = g .above;
           others = same-later i (labelIn (f-over {s = s} f)) (labelIn (f-over {s = s} (g .forest))) (λ other. refl) (g .others);
+          bytes = g .bytes;
         }
 
   -- what was put runs its part
@@ -595,16 +636,57 @@ module _ (S : Setting) where
     forest-sits (f-over f) zero path e = never (cc)
     forest-sits (f-over f) (suc n) path e = forest-sits f n path e
 
+  -- the bytes of a leaf
+  mutual
+    unfolding labelAt labelIn bytesAt bytesUnder
+
+    pub leaf-bytes : {a : Part} {p : Process} (t : Tree a p) (path : List ℕ) {b : Part} {i : Info} → labelAt t path ≡ some (alone b i)
+        → bytesAt t path ≡ i .left
+    leaf-bytes (t-leaf l j h) [] e = ap (λ (k : Info). k .left) (alone-info (some-same e))
+    leaf-bytes (t-leaf l j h) (n ∷ path) e = never (cc)
+    leaf-bytes (t-par c f) [] e = never (alone-parted (some-same e))
+    leaf-bytes (t-par c f) (n ∷ path) e = forest-bytes f n path e
+
+    forest-bytes : {vars chans : List Site} {w d : ℕ} {ss : Stmts} {bs : Branches} (f : Forest vars chans w d ss bs) (n : ℕ) (path : List ℕ)
+        {b : Part} {i : Info} → labelIn f n path ≡ some (alone b i) → bytesUnder f n path ≡ i .left
+    forest-bytes f-none n path e = never (cc)
+    forest-bytes (f-live t f) zero path e = leaf-bytes t path e
+    forest-bytes (f-live t f) (suc n) path e = forest-bytes f n path e
+    forest-bytes (f-over f) zero path e = never (cc)
+    forest-bytes (f-over f) (suc n) path e = forest-bytes f n path e
+
+  -- no process has more left than the code has bytes
+  mutual
+    unfolding bytesLeft bytesIn leaves leavesIn
+
+    pub bytes-few : {a : Part} {p : Process} (t : Tree a p) → bytesLeft t ≤ leaves p * whole S
+    bytes-few (t-leaf l-before i h) = omega (arith, h .few)
+    bytes-few (t-leaf l-input i h) = omega (arith, h .few)
+    bytes-few (t-leaf l-output i h) = omega (arith, h .few)
+    bytes-few (t-leaf l-stop i h) = omega (arith, h .few)
+    bytes-few (t-leaf l-alt i h) = omega (arith, h .few)
+    bytes-few (t-leaf l-finished i h) = omega (arith, h .few)
+    bytes-few (t-par c f) = forest-few f
+
+    forest-few : {vars chans : List Site} {w d : ℕ} {ss : Stmts} {bs : Branches} (f : Forest vars chans w d ss bs)
+        → bytesIn f ≤ leavesIn bs * whole S
+    forest-few f-none = omega arith
+    forest-few (f-live {p} {bs} t f) =
+        let e : (leaves p + leavesIn bs) * whole S ≡ leaves p * whole S + leavesIn bs * whole S = add-mul (leaves p) (leavesIn bs) (whole S) in
+        omega (arith, bytes-few t, forest-few f)
+    forest-few (f-over f) = forest-few f
+
   -- a tree of q that runs the same as t but for what is known of the leaf at a path
   pub record Kept {a : Part} {p : Process} (t : Tree a p) (path : List ℕ) (b : Part) (i : Info) (q : Process) : Type 0 where
     pub tree : Tree a q
     pub here : labelAt tree path ≡ some (alone b i)
     pub same : (other : List ℕ) → path ≢ other → labelAt tree other ≡ labelAt t other
+    pub bytes : bytesLeft tree + bytesAt t path ≡ bytesLeft t + i .left
 
   -- where a leaf becomes a leaf
   pub kept : {a : Part} {p : Process} (t : Tree a p) (path : List ℕ) {q r : Process} → look path p ≡ some q → Leaf q → Leaf r
       → (b : Part) (i : Info) → partAt t path ≡ some b → Sits b i → Kept t path b i (put path r p)
-  unfolding labelAt labelIn
+  unfolding labelAt labelIn bytesLeft bytesIn
   kept {a} {p} t path {q} {r} e l m b i at-b sits = elim (owner-of t path e) [ owner c u n g h ↦ with-part c u h ]
     where
       z : Tree b r
@@ -619,6 +701,7 @@ module _ (S : Setting) where
             tree = v .tree;
             here = subst (λ y. labelAt (v .tree) y ≡ some (alone b i)) (append-nil path) (v .below []);
             same = λ other d. at other d (compare path other);
+            bytes = v .bytes;
           }
         where
           at : (other : List ℕ) → path ≢ other → Compared path other → labelAt (v .tree) other ≡ labelAt t other
