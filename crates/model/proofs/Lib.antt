@@ -38,6 +38,8 @@ pub mod Queues
 pub mod Kernel
 pub mod Writes
 pub mod Puts
+pub mod Grounds
+pub mod Traces
 pub mod Steps
 pub mod Turns
 pub mod Memory
