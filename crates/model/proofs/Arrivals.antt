@@ -33,7 +33,7 @@ use Rattle.model.proofs.Sizes.{initialise-length, code-length, expr-len
 use Rattle.model.proofs.Sizes.{ends-length, pairs-length, branches-length}
 use Rattle.model.proofs.Points.{Setting, whole, At}
 use Rattle.model.proofs.Arrive.{inside, up, rises-le, init-at, tested, loop-parts, pair-parts}
-use Rattle.model.proofs.Parts.{Part, the-end, joins, Words, Within, FineWhole, Fine, FineAll, FinePairs}
+use Rattle.model.proofs.Parts.{need-two, sum-first, Part, the-end, joins, Words, Within, FineWhole, Fine, FineAll, FinePairs}
 use Rattle.model.proofs.Conts.{Placed, placed-down, Cont, c-end, c-join, c-seq, c-var, c-chan, c-up, c-while, c-hop}
 use Rattle.model.proofs.Conts.{cont-inside, cont-low, cont-placed, cont-bound}
 use Rattle.model.proofs.Marks.{Skips, Settled, s-none, s-skip, s-if, s-par, AltCode, Opening, ParCode, Clear, Point, pt-stop, pt-assign}
@@ -80,13 +80,13 @@ sound-chans l v =
 module _ (S : Setting) (a : Part) where
   -- live variables are in scope
   pub cont-live : {hi i w : ℕ} {vars chans : List Site} {k : List Frame} → Cont S a hi vars chans k i w → Within (liveIn k) vars
-  cont-live (c-end e h) x m = absurd (List·Memᴰ·not-nil m)
-  cont-live (c-join e y z h) x m = absurd (List·Memᴰ·not-nil m)
+  cont-live (c-end e r h) x m = absurd (List·Memᴰ·not-nil m)
+  cont-live (c-join e y z r h) x m = absurd (List·Memᴰ·not-nil m)
   cont-live (c-seq g f c) x m = cont-live c x m
-  cont-live (c-var {p} {n} {vars} e h c) x m =
+  cont-live (c-var {p} {n} {vars} e r h c) x m =
       ⊎-elim (λ m. Memᴰ·append-left vars m) (λ m. Memᴰ·append-right (names p n) (cont-live c x m)) (List·Memᴰ·append-cases (names p n) m)
-  cont-live (c-chan e h c) x m = cont-live c x m
-  cont-live (c-up e c) x m = cont-live c x m
+  cont-live (c-chan e r h c) x m = cont-live c x m
+  cont-live (c-up e r c) x m = cont-live c x m
   cont-live (c-while g f n b c) x m = cont-live c x m
   cont-live (c-hop e h l c) x m = cont-live c x m
 
@@ -127,7 +127,7 @@ module _ (S : Setting) (a : Part) where
 
       clear : (r : Regs) → r .w ≡ w → a .bottom + 2 ≤ w → Clear S a vars chans (r .w)
       clear r e room =
-          subst (λ w. Clear S a vars chans w) (sym e) (record { room = room; placed = cont-placed S a cont })
+          subst (λ w. Clear S a vars chans w) (sym e) (cont-placed S a cont)
 
       through-expr : (q : Process) (e : Whole) {hi i i′ : ℕ} {μ : Mem} {r : Regs} → FineWhole a vars e
           → Seg (S .xs) i (wholeCode (S .word) w e) i′
@@ -336,6 +336,7 @@ module _ (S : Setting) (a : Part) where
         let e : i + 6 ≡ suc (suc (suc (suc (suc (suc i))))) = omega arith in
         let e₂ : i + 2 ≡ suc (suc i) = omega arith in
         let q : w ≡ w - 2 + 2 = omega (arith, f .0) in
+        let space : a .bottom + 2 ≤ w - 2 = omega (arith, f .0, need-two s, sum-first s ss) in
         par-opened (record {
           first = first;
           over = over;
@@ -344,7 +345,7 @@ module _ (S : Setting) (a : Part) where
           fine = f .1;
           room = omega (arith, f .0);
           placed = subst (λ n. Placed S a n vars chans) q (cont-placed S a c);
-          after = c-up y (subst (λ n. Cont S a hi vars chans k (suc over) n) q c);
+          after = c-up y space (subst (λ n. Cont S a hi vars chans k (suc over) n) q c);
           near = omega (arith, up S x₁, up S x₂, up S x₃, up S x₄, up S x₅, up S x₆);
         }) x₁ (subst (λ n. At S (suc i) (distance ldc over n)) e₂ x₂) x₃ x₄ x₅ x₆
 
@@ -554,44 +555,44 @@ module _ (S : Setting) (a : Part) where
     pub arrives : {hi i w : ℕ} {vars chans : List Site} {k : List Frame} (c : Cont S a hi vars chans k i w) → hi ≤ whole S + S .off i
         → Sound S a σ vars chans → Comes vars chans hi (resume k) i w
     unfolding resume functionIn operandIn
-    arrives (c-end e h) near v =
-        comes s-none tt (here (c-end e h)) (λ μ r q. let last : whole S ≤ whole S = omega arith in through refl last (refl, e))
-    arrives (c-join {i} {d} e x y h) near v =
+    arrives (c-end e r h) near v =
+        comes s-none tt (here (c-end e r h)) (λ μ r q. let last : whole S ≤ whole S = omega arith in through refl last (refl, e))
+    arrives (c-join {i} {d} e x y r h) near v =
         let same : S .off (suc (suc i)) ≤ S .off (suc (suc i)) = omega arith in
-        comes s-none tt (here (c-join e x y h)) (λ μ r q.
+        comes s-none tt (here (c-join e x y r h)) (λ μ r q.
         quiet (pointing d) x (quiet-ldlp d) (arrived (pt-end {r = pointing d r} e y (rw q (omega (arith, v .joined d e))) q) same))
     arrives (c-seq {i} {i′} {ss} g f c) near v =
         enters-all ss g f c near v (arrives c (omega (arith, rises-le S i i′ (omega (arith, seg-length g)) (cont-inside S a c))) v)
-    arrives (c-var {i} {w} {p} {n} e h c) near v =
+    arrives (c-var {i} {w} {p} {n} e room h c) near v =
         elim (arrives c (omega (arith, up S e)) (sound-vars (names p n) v)) [
           | comes sk settled sub way ↦
               comes sk settled (record {
                 vars-in = λ x m. Memᴰ·append-right (names p n) (sub .vars-in x m);
                 chans-in = sub .chans-in;
                 live = sub .live;
-                placed = placed-down S w n (sub .placed);
+                placed = placed-down S w n room (sub .placed);
               })
               (λ μ r q. quiet (moving n) e (quiet-ajw n) (way μ (moving n r) (rw q (omega (arith, cont-low S a c, v .high)))))
         ]
-    arrives (c-chan {i} {w} {p} {n} e h c) near v =
+    arrives (c-chan {i} {w} {p} {n} e room h c) near v =
         elim (arrives c (omega (arith, up S e)) (sound-chans (names p n) v)) [
           | comes sk settled sub way ↦
               comes sk settled (record {
                 vars-in = sub .vars-in;
                 chans-in = λ x m. Memᴰ·append-right (names p n) (sub .chans-in x m);
                 live = sub .live;
-                placed = placed-down S w n (sub .placed);
+                placed = placed-down S w n room (sub .placed);
               })
               (λ μ r q. quiet (moving n) e (quiet-ajw n) (way μ (moving n r) (rw q (omega (arith, cont-low S a c, v .high)))))
         ]
-    arrives (c-up {i} {w} {n} e c) near v =
+    arrives (c-up {i} {w} {n} e room c) near v =
         elim (arrives c (omega (arith, up S e)) v) [
           | comes sk settled sub way ↦
               comes sk settled (record {
                 vars-in = sub .vars-in;
                 chans-in = sub .chans-in;
                 live = sub .live;
-                placed = placed-down S w n (sub .placed);
+                placed = placed-down S w n room (sub .placed);
               })
               (λ μ r q. quiet (moving n) e (quiet-ajw n) (way μ (moving n r) (rw q (omega (arith, cont-low S a c, v .high)))))
         ]
@@ -609,7 +610,7 @@ module _ (S : Setting) (a : Part) where
           | comes {vars′} {chans′} sk settled sub way ↦
               comes sk settled sub (λ μ r q.
               let ready : Clear S a vars′ chans′ (r .w) =
-              subst (λ w. Clear S a vars′ chans′ w) (sym q) (record { room = two; placed = sub .placed }) in
+              subst (λ w. Clear S a vars′ chans′ w) (sym q) (sub .placed) in
               let reach : hi + S .off (suc i) ≤ hi + S .off t = omega (arith, rises-le S (suc i) t l (cont-inside S a c)) in
               jumps e (cont-inside S a c) ready reach (λ μ′ r′ q′. way μ′ r′ (q′ ∙ q)))
         ]

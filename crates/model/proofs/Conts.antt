@@ -102,6 +102,7 @@ module _ (S : Setting) where
   -- declared in it
   pub record Placed (a : Part) (w : ℕ) (vars chans : List Site) : Type 0 where
     pub scoped : Scoped w vars chans
+    pub room : a .bottom + 2 ≤ w
     pub low : w ≤ a .top
     pub vars-origin : (x : Site) → List·Memᴰ x vars → List·Memᴰ x (a .vars) ⊎ (S .word x < a .top)
     pub chans-origin : (c : Site) → List·Memᴰ c chans → List·Memᴰ c (a .chans) ⊎ (S .word c < a .top)
@@ -109,10 +110,11 @@ module _ (S : Setting) where
     pub chans-outer : Within (a .chans) chans
 
   -- where the part is over
-  placed-top : (a : Part) → Scoped (a .top) (a .vars) (a .chans) → Placed a (a .top) (a .vars) (a .chans)
-  placed-top a h =
+  placed-top : (a : Part) → a .bottom + 2 ≤ a .top → Scoped (a .top) (a .vars) (a .chans) → Placed a (a .top) (a .vars) (a .chans)
+  placed-top a r h =
       record {
         scoped = h;
+        room = r;
         low = omega arith;
         vars-origin = λ x m. inl m;
         chans-origin = λ x m. inl m;
@@ -121,10 +123,11 @@ module _ (S : Setting) where
       }
 
   -- below
-  pub placed-down : {a : Part} (w n : ℕ) {vars chans : List Site} → Placed a (w + n) vars chans → Placed a w vars chans
-  placed-down w n h =
+  pub placed-down : {a : Part} (w n : ℕ) {vars chans : List Site} → a .bottom + 2 ≤ w → Placed a (w + n) vars chans → Placed a w vars chans
+  placed-down w n r h =
       record {
         scoped = scoped-up w n (h .scoped);
+        room = r;
         low = omega (arith, h .low);
         vars-origin = h .vars-origin;
         chans-origin = h .chans-origin;
@@ -133,7 +136,8 @@ module _ (S : Setting) where
       }
 
   -- with declared variables, or channels
-  module _ {a : Part} (p n w : ℕ) (words : Words (S .word) p n w) {vars chans : List Site} (h : Placed a (w + n) vars chans) where
+  module _ {a : Part} (p n w : ℕ) (words : Words (S .word) p n w) {vars chans : List Site} (r : a .bottom + 2 ≤ w)
+      (h : Placed a (w + n) vars chans) where
     named-origin : (l m : List Site) → ((x : Site) → List·Memᴰ x l → List·Memᴰ x m ⊎ (S .word x < a .top))
         → (x : Site) → List·Memᴰ x (names p n ++ l) → List·Memᴰ x m ⊎ (S .word x < a .top)
     named-origin l m f x k =
@@ -143,6 +147,7 @@ module _ (S : Setting) where
     placed-vars =
         record {
           scoped = scoped-vars p n w words (h .scoped);
+          room = r;
           low = omega (arith, h .low);
           vars-origin = named-origin vars (a .vars) (h .vars-origin);
           chans-origin = h .chans-origin;
@@ -154,6 +159,7 @@ module _ (S : Setting) where
     placed-chans =
         record {
           scoped = scoped-chans p n w words (h .scoped);
+          room = r;
           low = omega (arith, h .low);
           vars-origin = h .vars-origin;
           chans-origin = named-origin chans (a .chans) (h .chans-origin);
@@ -165,17 +171,17 @@ module _ (S : Setting) where
     -- in the part a, the frames k are gone through by the code from index i on, at the workspace w, with these variables and channels in
     -- scope; paths from here end at the byte hi at the latest
     pub data Cont : (hi : ℕ) (vars chans : List Site) → List Frame → (i w : ℕ) → Type 0 where
-      c-end : a .ending ≡ the-end → Scoped (a .top) (a .vars) (a .chans)
+      c-end : a .ending ≡ the-end → a .bottom + 2 ≤ a .top → Scoped (a .top) (a .vars) (a .chans)
           → Cont (whole S) (a .vars) (a .chans) [] (length (S .xs)) (a .top)
       c-join : {i d : ℕ} → a .ending ≡ joins d → At S i (plain ldlp d) → At S (suc i) (operation endp)
-          → Scoped (a .top) (a .vars) (a .chans) → Cont (S .off (suc (suc i))) (a .vars) (a .chans) [] i (a .top)
+          → a .bottom + 2 ≤ a .top → Scoped (a .top) (a .vars) (a .chans) → Cont (S .off (suc (suc i))) (a .vars) (a .chans) [] i (a .top)
       c-seq : {hi i i′ w : ℕ} {vars chans : List Site} {ss : Stmts} {k : List Frame} → Seg (S .xs) i (codeAll (S .word) w i ss) i′
           → FineAll (S .word) a vars chans w ss → Cont hi vars chans k i′ w → Cont hi vars chans (inSeq ss ∷ k) i w
-      c-var : {hi i w p n : ℕ} {vars chans : List Site} {k : List Frame} → At S i (plain ajw n) → Words (S .word) p n w
+      c-var : {hi i w p n : ℕ} {vars chans : List Site} {k : List Frame} → At S i (plain ajw n) → a .bottom + 2 ≤ w → Words (S .word) p n w
           → Cont hi vars chans k (suc i) (w + n) → Cont hi (names p n ++ vars) chans (inVar (names p n) ∷ k) i w
-      c-chan : {hi i w p n : ℕ} {vars chans : List Site} {k : List Frame} → At S i (plain ajw n) → Words (S .word) p n w
+      c-chan : {hi i w p n : ℕ} {vars chans : List Site} {k : List Frame} → At S i (plain ajw n) → a .bottom + 2 ≤ w → Words (S .word) p n w
           → Cont hi vars chans k (suc i) (w + n) → Cont hi vars (names p n ++ chans) k i w
-      c-up : {hi i w n : ℕ} {vars chans : List Site} {k : List Frame} → At S i (plain ajw n)
+      c-up : {hi i w n : ℕ} {vars chans : List Site} {k : List Frame} → At S i (plain ajw n) → a .bottom + 2 ≤ w
           → Cont hi vars chans k (suc i) (w + n) → Cont hi vars chans k i w
       c-while : {hi hi′ i b w : ℕ} {vars chans : List Site} {e : Whole} {s : Stmt} {k : List Frame}
           → Seg (S .xs) b (code (S .word) w b (WHILE e s)) (suc i) → Fine (S .word) a vars chans w (WHILE e s)
@@ -185,23 +191,23 @@ module _ (S : Setting) where
           → Cont hi vars chans k t w → Cont hi vars chans k i w
 
     pub cont-inside : {hi i w : ℕ} {vars chans : List Site} {k : List Frame} → Cont hi vars chans k i w → i ≤ length (S .xs)
-    cont-inside (c-end e h) = omega arith
-    cont-inside (c-join e x y h) = omega (arith, inside S x)
+    cont-inside (c-end e r h) = omega arith
+    cont-inside (c-join e x y r h) = omega (arith, inside S x)
     cont-inside (c-seq g f c) = omega (arith, seg-length g, cont-inside c)
-    cont-inside (c-var e h c) = omega (arith, cont-inside c)
-    cont-inside (c-chan e h c) = omega (arith, cont-inside c)
-    cont-inside (c-up e c) = omega (arith, cont-inside c)
+    cont-inside (c-var e r h c) = omega (arith, cont-inside c)
+    cont-inside (c-chan e r h c) = omega (arith, cont-inside c)
+    cont-inside (c-up e r c) = omega (arith, cont-inside c)
     cont-inside (c-while g f n b c) = omega (arith, cont-inside c)
     cont-inside (c-hop e h l c) = omega (arith, cont-inside c)
 
     -- the names in scope have words of their own, at and above the workspace
     pub cont-placed : {hi i w : ℕ} {vars chans : List Site} {k : List Frame} → Cont hi vars chans k i w → Placed a w vars chans
-    cont-placed (c-end e h) = placed-top a h
-    cont-placed (c-join e x y h) = placed-top a h
+    cont-placed (c-end e r h) = placed-top a r h
+    cont-placed (c-join e x y r h) = placed-top a r h
     cont-placed (c-seq g f c) = cont-placed c
-    cont-placed (c-var {w} {p} {n} e h c) = placed-vars p n w h (cont-placed c)
-    cont-placed (c-chan {w} {p} {n} e h c) = placed-chans p n w h (cont-placed c)
-    cont-placed (c-up {w} {n} e c) = placed-down w n (cont-placed c)
+    cont-placed (c-var {w} {p} {n} e r h c) = placed-vars p n w h r (cont-placed c)
+    cont-placed (c-chan {w} {p} {n} e r h c) = placed-chans p n w h r (cont-placed c)
+    cont-placed (c-up {w} {n} e r c) = placed-down w n r (cont-placed c)
     cont-placed (c-while g f n b c) = cont-placed c
     cont-placed (c-hop e h l c) = cont-placed c
 
@@ -212,12 +218,12 @@ module _ (S : Setting) where
     cont-scoped c = cont-placed c .scoped
 
     pub cont-bound : {hi i w : ℕ} {vars chans : List Site} {k : List Frame} → Cont hi vars chans k i w → S .off i ≤ hi
-    cont-bound (c-end e h) = omega arith
-    cont-bound (c-join e x y h) = omega (arith, up S x, up S y)
+    cont-bound (c-end e r h) = omega arith
+    cont-bound (c-join e x y r h) = omega (arith, up S x, up S y)
     cont-bound (c-seq {i} {i′} g f c) = omega (arith, cont-bound c, rises-le S i i′ (omega (arith, seg-length g)) (cont-inside c))
-    cont-bound (c-var {i} e h c) = omega (arith, cont-bound c, up S e)
-    cont-bound (c-chan {i} e h c) = omega (arith, cont-bound c, up S e)
-    cont-bound (c-up {i} e c) = omega (arith, cont-bound c, up S e)
+    cont-bound (c-var {i} e r h c) = omega (arith, cont-bound c, up S e)
+    cont-bound (c-chan {i} e r h c) = omega (arith, cont-bound c, up S e)
+    cont-bound (c-up {i} e r c) = omega (arith, cont-bound c, up S e)
     cont-bound (c-while {i} {b} {e} {s} g f n l c) = elim (loop-parts S e s g) [
       | tested m g₁ x g₂ d g₃ ↦
           omega (

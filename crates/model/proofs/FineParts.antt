@@ -25,24 +25,9 @@ use Rattle.model.proofs.Accepts.{deep-stmt, deep-pair, deep-input-guard
 use Rattle.model.proofs.Lays.{program-laid}
 use Rattle.model.proofs.Values.{FineExpr}
 use Rattle.model.proofs.Parts.{Part, Ending, the-end, joins, declares, declaresAll, declaresPairs, declaresGuards, partOf, Disjoint}
-use Rattle.model.proofs.Parts.{Apart, Within, FineWhole, Fine, FineAll, FineBranches, Beside, FinePairs, FineGuards}
+use Rattle.model.proofs.Parts.{need-two, Apart, Within, FineWhole, Fine, FineAll, FineBranches, Beside, FinePairs, FineGuards}
 use Rattle.model.proofs.Uses.{Between, between-wider, between-apart, names-between, placed-le}
 use Rattle.model.proofs.Uses.{declares-from, uses-from, neither, clash-disjoint}
-
-need-two : (s : Stmt) → 2 ≤ need s
-unfolding need
-need-two SKIP = omega arith
-need-two STOP = omega arith
-need-two (assign x e) = omega arith
-need-two (input c x) = omega arith
-need-two (output c e) = omega arith
-need-two (VAR p n s) = omega (arith, need-two s)
-need-two (CHAN p n s) = omega (arith, need-two s)
-need-two (SEQ ss) = omega arith
-need-two (PAR p ss) = omega arith
-need-two (IF ps) = omega arith
-need-two (WHILE e s) = omega arith
-need-two (ALT gs) = omega arith
 
 -- a part may do what a usage says, and change the names that are declared
 pub record Covers (a : Part) (u : Usage) (ds : List Site) : Type 0 where

@@ -46,7 +46,6 @@ module _ (S : Setting) (b : Part) (i : Info) (st : State) (μ : Mem) where
   -- the process goes on at an instruction: its resume word says so, and its path ends in time
   pub record Resumes (at hi : ℕ) : Type 0 where
     pub place : μ (resumeWord (i .w)) ≡ S .off at
-    pub room : b .bottom + 2 ≤ i .w
     pub soon : hi ≤ i .left + S .off at
 
   -- a process that waits at a channel: at the channel's word, with its state word and room for it

@@ -40,6 +40,7 @@ pub mod Writes
 pub mod Puts
 pub mod Grounds
 pub mod Traces
+pub mod Running
 pub mod Steps
 pub mod Turns
 pub mod Memory

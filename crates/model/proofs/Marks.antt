@@ -143,9 +143,8 @@ module _ (S : Setting) (a : Part) where
     pub near : hi ≤ whole S + S .off i
 
   -- what J and waiting need of a workspace
-  pub record Clear (vars chans : List Site) (w : ℕ) : Type 0 where
-    pub room : a .bottom + 2 ≤ w
-    pub placed : Placed S a w vars chans
+  abbrev pub Clear : (vars chans : List Site) (w : ℕ) → Type 0
+  Clear vars chans w = Placed S a w vars chans
 
   module _ (σ : Store) (vars chans : List Site) where
     -- the significant instruction that a process stands before, with its registers; `up` is the bound of the path to it. Those inside an

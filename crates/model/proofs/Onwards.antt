@@ -23,7 +23,7 @@ use Rattle.model.proofs.Exprs.{evaluates}
 use Rattle.model.proofs.Sizes.{code-length, ends-length}
 use Rattle.model.proofs.Points.{Setting, whole, At}
 use Rattle.model.proofs.Arrive.{inside, up, rises-le}
-use Rattle.model.proofs.Parts.{Part, Ending, the-end, joins, partOf, FineWhole, Fine, FineGuards, FineBranches}
+use Rattle.model.proofs.Parts.{need-two, sum-first, need-next, Part, Ending, the-end, joins, partOf, FineWhole, Fine, FineGuards, FineBranches}
 use Rattle.model.proofs.Conts.{Scoped, scoped-below, placed-down, Cont, c-end, c-join, c-chan, c-up, c-hop, cont-inside, cont-low, cont-scoped, cont-bound}
 use Rattle.model.proofs.Marks.{Ready, r-input, r-skip, r-past-input, r-past-skip, Picks, p-input, p-skip, p-past-input, p-past-skip}
 use Rattle.model.proofs.Marks.{Rest, rest-all, rest-input, rest-skip, Noticed, n-none, n-input, n-skip, Skips, s-none, s-skip, s-if}
@@ -138,10 +138,6 @@ pub skips-on : {p q q′ : Process} → Skips p q → Skips p q′ → Settled q
 skips-on {q} h g n = ⊎-elim (λ m. m) (λ m. subst (λ z. Skips q z) (sym (settled-stays n m)) s-none) (skips-meet h g)
 
 -- the next branch of a PAR
-pub need-next : (s : Stmt) (ss : Stmts) (d : ℕ) {w : ℕ} → d + sumNeed (stmt s ss) ≤ w → d + need s + sumNeed ss ≤ w
-unfolding sumNeed
-need-next s ss d h = omega arith
-
 pub ends-next : (s : Stmt) (ss : Stmts) (b : ℕ) {n : ℕ} → b + sizeEnds (stmt s ss) ≤ n → b + size s + 2 + sizeEnds ss ≤ n
 unfolding sizeEnds
 ends-next s ss b h = omega arith
@@ -305,15 +301,15 @@ module _ (S : Setting) (a : Part) (st : State) where
         (subst (λ z. Seg (S .xs) (i + 2 + sizeEnable gs + 1) (codeDisable (S .word) z (c .choice) (c .choice + 1) gs) (c .choice)) e (c .disables)) q
 
   -- AJW leads on
-  raise : {vars chans : List Site} {hi i n w : ℕ} {p : Process} → At S i (plain ajw n) → w + n < 2 ^ 32
+  raise : {vars chans : List Site} {hi i n w : ℕ} {p : Process} → At S i (plain ajw n) → w + n < 2 ^ 32 → a .bottom + 2 ≤ w
       → Comes S a (st .store) vars chans hi p (suc i) (w + n) → Comes S a (st .store) vars chans hi p i w
   unfolding functionIn operandIn
-  raise {n} {w} e small (comes sk settled sub way) =
+  raise {n} {w} e small room (comes sk settled sub way) =
       comes sk settled (record {
         vars-in = sub .vars-in;
         chans-in = sub .chans-in;
         live = sub .live;
-        placed = placed-down S w n (sub .placed);
+        placed = placed-down S w n room (sub .placed);
       })
       (λ μ r q. quiet (moving n) e (quiet-ajw n) (way μ (moving n r) (rw q (omega arith))))
 
@@ -348,7 +344,7 @@ module _ (S : Setting) (a : Part) (st : State) where
         subst (λ n. Seg (S .xs) (t + 1 + 4) (code (S .word) (w + 1) n s) leave) e g₂ in
         let all : Seg (S .xs) (suc t) (codeAll (S .word) (w + 1) (suc t) (stmt (input d x) (stmt s noStmt))) leave =
         seg-join g₁ (seg-join body nil) in
-        raise y alt-small
+        raise y alt-small (omega (arith, c .fine .0))
         (enters-all S a (st .store) (stmt (input d x) (stmt s noStmt)) all (f, (h, tt)) hop (alt-near (suc t) (omega arith) (omega arith)) v
         (arrives S a (st .store) hop (alt-near leave (omega arith) (omega arith)) v))
 
@@ -364,7 +360,7 @@ module _ (S : Setting) (a : Part) (st : State) where
         let hop : Cont S a hi vars chans k leave (w + 1) = c-hop j room past (c .after) in
         let body : Seg (S .xs) (suc t) (code (S .word) (w + 1) (suc t) s) leave =
         subst (λ n. Seg (S .xs) n (code (S .word) (w + 1) n s) leave) e g₂ in
-        raise y alt-small
+        raise y alt-small (omega (arith, c .fine .0))
         (enters S a (st .store) s body h hop (alt-near (suc t) (omega arith) (omega arith)) v
         (arrives S a (st .store) hop (alt-near leave (omega arith) (omega arith)) v))
 
@@ -433,10 +429,10 @@ module _ (S : Setting) (a : Part) (st : State) where
 module _ (S : Setting) (a : Part) (σ : Store) where
   -- without frames the part's end is the bound
   cont-nil : {hi i w : ℕ} {vars chans : List Site} → Cont S a hi vars chans [] i w → hi ≤ whole S
-  cont-nil (c-end e h) = omega arith
-  cont-nil (c-join {i} e x y h) = rises-le S (suc (suc i)) (length (S .xs)) (inside S y) (omega arith)
-  cont-nil (c-chan e h c) = cont-nil c
-  cont-nil (c-up e c) = cont-nil c
+  cont-nil (c-end e r h) = omega arith
+  cont-nil (c-join {i} e x y r h) = rises-le S (suc (suc i)) (length (S .xs)) (inside S y) (omega arith)
+  cont-nil (c-chan e r h c) = cont-nil c
+  cont-nil (c-up e r c) = cont-nil c
   cont-nil (c-hop e h l c) = cont-nil c
 
   -- a branch of a PAR, the first: its body from `first` up to m
@@ -468,18 +464,13 @@ module _ (S : Setting) (a : Part) (σ : Store) where
           values = v .values;
         }
 
-    -- a branch's end
-    pub branch-cont : (s : Stmt) (d : ℕ) {m n : ℕ} {zs : List Instruction} → Seg (S .xs) m (plain ldlp d ∷ operation I.endp ∷ zs) n
-        → Cont S (partOf vars chans (w - d) (joins d) s) (S .off (suc (suc m))) vars chans [] m (w - d)
-    branch-cont s d (at x (at y g)) = c-join refl x y (scoped-below S (omega arith) scoped)
-
     -- what a started branch will do
     pub branch-start : (s : Stmt) (d b : ℕ) {m n : ℕ} {zs : List Instruction} → Seg (S .xs) b (code (S .word) (w - d) b s) m
         → Seg (S .xs) m (plain ldlp d ∷ operation I.endp ∷ zs) n
-        → Fine (S .word) (partOf vars chans (w - d) (joins d) s) vars chans (w - d) s → d ≤ w
+        → Fine (S .word) (partOf vars chans (w - d) (joins d) s) vars chans (w - d) s → d + need s ≤ w
         → Comes S (partOf vars chans (w - d) (joins d) s) σ vars chans (S .off (suc (suc m))) (begin s []) b (w - d)
     branch-start s d b g (at x (at y h)) f l =
-        own-code S (partOf vars chans (w - d) (joins d) s) σ s g f (c-join refl x y (scoped-below S (omega arith) scoped)) (branch-sound s d l)
+        own-code S (partOf vars chans (w - d) (joins d) s) σ s g f (c-join refl x y (omega (arith, need-two s)) (scoped-below S (omega arith) scoped)) (branch-sound s d (omega arith))
 
     -- the same for each from the one at distance d on, whose code is at b
     pub branch-starts : (ss : Stmts) (d b : ℕ) {n : ℕ} → Seg (S .xs) b (codeEnds (S .word) w d b ss) n
@@ -491,7 +482,7 @@ module _ (S : Setting) (a : Part) (σ : Store) where
         let zs = codeEnds (S .word) w (d + need s) (b + size s + 2) ss in
         let (g₁, g₂) = cut (code (S .word) (w - d) b s) m (omega (arith, code-length (S .word) (w - d) b s)) g in
         let e : suc (suc m) ≡ m + 2 = omega arith in
-        let first = branch-start s d b g₁ g₂ (f .1) (omega arith) in
+        let first = branch-start s d b g₁ g₂ (f .1) (omega (arith, sum-first s ss)) in
         let rest : Seg (S .xs) (m + 2) zs n = subst (λ z. Seg (S .xs) z zs n) e (seg-tail (seg-tail g₂)) in (
           subst (λ z. Comes S (partOf vars chans (w - d) (joins d) s) σ vars chans (S .off z) (begin s []) b (w - d)) e first,
           branch-starts ss (d + need s) (b + size s + 2) rest (f .3) (need-next s ss d l),

@@ -1,7 +1,8 @@
 -- Parts of a program that one process runs: the whole program, or a branch of a PAR. What a part may touch, and which statements are
 -- well-formed in it for a scope and laid out at a workspace.
 use Prim.Native.Nat.{ℕ, _+_, _-_, _≤_, _<_}
-use mathlib.Core.Path.{_≡_}
+use native.Mathlib.Omega.{arith}
+use mathlib.Core.Path.{_≡_, refl}
 use mathlib.Core.Logic.{_⊎_}
 use mathlib.Core.List.{List, [], _++_, List·Memᴰ}
 use Rattle.model.specs.Syntax.{Site, declared, Expr, constant, variable, NOT, binary, Whole, Stmt, SKIP, STOP, assign, input, output}
@@ -11,6 +12,30 @@ use Rattle.model.specs.Reader.{names}
 use Rattle.model.specs.Counts.{registers, need, sumNeed}
 use Rattle.model.specs.Usage.{Usage, usage}
 use Rattle.model.proofs.Values.{FineExpr}
+
+-- every statement needs two words at least
+pub need-two : (s : Stmt) → 2 ≤ need s
+unfolding need
+need-two SKIP = omega arith
+need-two STOP = omega arith
+need-two (assign x e) = omega arith
+need-two (input c x) = omega arith
+need-two (output c e) = omega arith
+need-two (VAR p n s) = omega (arith, need-two s)
+need-two (CHAN p n s) = omega (arith, need-two s)
+need-two (SEQ ss) = omega arith
+need-two (PAR p ss) = omega arith
+need-two (IF ps) = omega arith
+need-two (WHILE e s) = omega arith
+need-two (ALT gs) = omega arith
+
+-- the words of the first branch and of the others
+pub sum-first : (s : Stmt) (ss : Stmts) → sumNeed (stmt s ss) ≡ need s + sumNeed ss
+unfolding sumNeed
+sum-first s ss = refl
+
+pub need-next : (s : Stmt) (ss : Stmts) (d : ℕ) {w : ℕ} → d + sumNeed (stmt s ss) ≤ w → d + need s + sumNeed ss ≤ w
+need-next s ss d h = omega (arith, sum-first s ss)
 
 -- how a part's code ends: at the code's end, or as a branch, whose PAR has its workspace at a distance above
 pub data Ending : Type 0 where

@@ -131,8 +131,9 @@ calm-trans {S} {b} {i} {st₁} {st₂} {st₃} {μ₁} {μ₂} {μ₃} f g =
 module _ (S : Setting) (b : Part) (i : Info) (high : b .top < 2 ^ 32) (sits : Sits S b i) {skip : ℕ} {st st′ : State} {μ ν : Mem}
     (calm : Calm S b i skip st st′ μ ν) where
   -- its own words, at and below its workspace
-  pub resume-same : b .bottom + 2 ≤ i .w → resumeWord (i .w) ≢ skip → ν (resumeWord (i .w)) ≡ μ (resumeWord (i .w))
-  resume-same h d = calm .own (resumeWord (i .w)) (omega (arith, sits .placed .low)) (omega (arith, sits .placed .low)) d
+  pub resume-same : resumeWord (i .w) ≢ skip → ν (resumeWord (i .w)) ≡ μ (resumeWord (i .w))
+  resume-same d =
+      calm .own (resumeWord (i .w)) (omega (arith, sits .placed .room, sits .placed .low)) (omega (arith, sits .placed .room, sits .placed .low)) d
 
   pub state-same : b .bottom + 3 ≤ i .w → stateWord (i .w) ≢ skip → ν (stateWord (i .w)) ≡ μ (stateWord (i .w))
   state-same h d = calm .own (stateWord (i .w)) (omega (arith, sits .placed .low)) (omega (arith, sits .placed .low)) d
@@ -154,11 +155,11 @@ module _ (S : Setting) (b : Part) (i : Info) (high : b .top < 2 ^ 32) (sits : Si
   only-stays h c m o = h c m (subst (Own b) (own-back c m o) o)
 
   pub resumes-stays : {at hi : ℕ} → resumeWord (i .w) ≢ skip → Resumes S b i st μ at hi → Resumes S b i st′ ν at hi
-  resumes-stays d r = record { place = resume-same (r .room) d ∙ r .place; room = r .room; soon = r .soon }
+  resumes-stays d r = record { place = resume-same d ∙ r .place; soon = r .soon }
 
   -- a workspace with room is one of the part's
-  pub own-w : b .bottom + 2 ≤ i .w → Own b (i .w)
-  own-w h = (omega arith, sits .placed .low)
+  pub own-w : Own b (i .w)
+  own-w = (omega (arith, sits .placed .room), sits .placed .low)
 
   waits-stays : {c : Site} {k : List Frame} {at hi message : ℕ} → resumeWord (i .w) ≢ skip → stateWord (i .w) ≢ skip
       → Waits S b i st μ c k at hi message → Waits S b i st′ ν c k at hi message
@@ -169,7 +170,7 @@ module _ (S : Setting) (b : Part) (i : Info) (high : b .top < 2 ^ 32) (sits : Si
         near = w .near;
         resumes = resumes-stays d (w .resumes);
         space = w .space;
-        here = own-on c (w .scope) (subst (Own b) (sym (w .here)) (own-w (w .resumes .room))) ∙ w .here;
+        here = own-on c (w .scope) (subst (Own b) (sym (w .here)) own-w) ∙ w .here;
         only = only-stays (w .only);
         message-at = state-same (w .space) e ∙ w .message-at;
       }
@@ -231,19 +232,19 @@ pub held-stays : (S : Setting) (b : Part) (i : Info) → b .top < 2 ^ 32 → Sit
     → Calm S b i (linkWord (i .w)) st st′ μ ν → {f : Bool} {q : Process} → Held S b i st μ f q → Held S b i st′ ν f q
 held-stays S b i high sits calm (h-queued c r h u) =
     h-queued (comes-stays S b (i .vars) (i .chans) (calm .reads) c)
-    (resumes-stays S b i high sits calm (λ e. absurd (omega (arith, r .room, sits .placed .low))) r) h (unmarked-stays S b i high sits calm u)
+    (resumes-stays S b i high sits calm (λ e. absurd (omega (arith, sits .placed .room, sits .placed .low))) r) h (unmarked-stays S b i high sits calm u)
 held-stays S b i high sits calm (h-woken c r s d) =
     let low = sits .placed .low in
-    h-woken c (resumes-stays S b i high sits calm (λ e. absurd (omega (arith, r .room, low))) r)
-    (state-same S b i high sits calm (omega (arith, c .fine .0)) (λ e. absurd (omega (arith, r .room, c .fine .0, low))) ∙ s)
+    h-woken c (resumes-stays S b i high sits calm (λ e. absurd (omega (arith, sits .placed .room, low))) r)
+    (state-same S b i high sits calm (omega (arith, c .fine .0)) (λ e. absurd (omega (arith, sits .placed .room, c .fine .0, low))) ∙ s)
     (disabling-stays S b i high sits calm (i .w + 1) (c .fine .1) (c .fine .1)
-    (base-same S b i high sits calm (omega (arith, r .room)) (omega (arith, cont-low S b (c .after)))
-    (λ e. absurd (omega (arith, r .room, low)))) d)
+    (base-same S b i high sits calm (omega (arith, sits .placed .room)) (omega (arith, cont-low S b (c .after)))
+    (λ e. absurd (omega (arith, sits .placed .room, low)))) d)
 held-stays S b i high sits calm (h-input {c} w t m n) =
     let low = sits .placed .low in
     h-input
     (waits-stays S b i high sits calm (λ e. absurd (omega (arith, w .space, low))) (λ e. absurd (omega (arith, w .space, low))) w) t m
-    (λ s. n (calm .none-sends c (w .scope) m (subst (Own b) (sym (w .here)) (own-w S b i high sits calm (w .resumes .room))) s))
+    (λ s. n (calm .none-sends c (w .scope) m (subst (Own b) (sym (w .here)) (own-w S b i high sits calm)) s))
 held-stays S b i high sits calm (h-output w m l v z) =
     let low = sits .placed .low in
     h-output
@@ -252,14 +253,14 @@ held-stays S b i high sits calm (h-output w m l v z) =
 held-stays S b i high sits calm (h-stop u) = h-stop (unmarked-stays S b i high sits calm u)
 held-stays S b i high sits {st} {st′} {μ} {ν} calm (h-wait {gs} c r s v m n k) =
     let low = sits .placed .low in
-    let mine : Own b (i .w) = own-w S b i high sits calm (r .room) in
+    let mine : Own b (i .w) = own-w S b i high sits calm in
     let back : (d : Site) → Guarded (st′ .store) d gs → Guarded (st .store) d gs =
     λ d g. guarded-same b (i .vars) (λ x h l. sym (calm .reads x h l)) (S .word) (i .chans) (i .w + 1) (c .fine .1) g in
     let here : (d : Site) → Guarded (st .store) d gs → Own b (μ (S .word d)) = λ d g. subst (Own b) (sym (m d g)) mine in
-    h-wait c (resumes-stays S b i high sits calm (λ e. absurd (omega (arith, r .room, low))) r)
-    (state-same S b i high sits calm (omega (arith, c .fine .0)) (λ e. absurd (omega (arith, r .room, c .fine .0, low))) ∙ s)
-    (base-same S b i high sits calm (omega (arith, r .room)) (omega (arith, cont-low S b (c .after)))
-    (λ e. absurd (omega (arith, r .room, low))) ∙ v)
+    h-wait c (resumes-stays S b i high sits calm (λ e. absurd (omega (arith, sits .placed .room, low))) r)
+    (state-same S b i high sits calm (omega (arith, c .fine .0)) (λ e. absurd (omega (arith, sits .placed .room, c .fine .0, low))) ∙ s)
+    (base-same S b i high sits calm (omega (arith, sits .placed .room)) (omega (arith, cont-low S b (c .after)))
+    (λ e. absurd (omega (arith, sits .placed .room, low))) ∙ v)
     (λ d g. own-on S b i high sits calm d (guarded-fine (S .word) b (i .vars) (i .chans) (i .w + 1) (back d g) (c .fine .1) .0)
     (here d (back d g)) ∙ m d (back d g))
     (unready-stays S b i high sits calm (i .w + 1) (c .fine .1) here n)

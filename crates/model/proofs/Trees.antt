@@ -7,7 +7,7 @@ use mathlib.Core.Logic.{_≢_, inl, inr, ⊎-elim}
 use mathlib.Core.List.{List, [], _∷_, _++_, append-nil}
 use mathlib.Core.Option.{Option, none, some}
 use Rattle.model.specs.Syntax.{Site, Stmt, Stmts, noStmt, stmt}
-use Rattle.model.specs.Counts.{need}
+use Rattle.model.specs.Counts.{need, sumNeed}
 use Rattle.model.specs.Occam.{Frame, Process, inPar, Branches, noBranch, branch, over, branches}
 use Rattle.model.specs.Occam.{branchAt, setBranch, endBranch, look, put}
 use Rattle.model.proofs.Cases.{never}
@@ -15,7 +15,7 @@ use Rattle.model.proofs.Paths.{Apart as Diverge, here, later, Leaf, l-b
 use Rattle.model.proofs.Paths.{under, look-under, stmtAt, Compared, equal, below, above, apart, compare}
 use Rattle.model.proofs.Most.{leaves, leavesIn}
 use Rattle.model.proofs.Points.{Setting, whole}
-use Rattle.model.proofs.Parts.{Part, joins, partOf, Apart, Inside, FineBranches, Beside}
+use Rattle.model.proofs.Parts.{need-two, sum-first, need-next, Part, joins, partOf, Apart, Inside, FineBranches, Beside}
 use Rattle.model.proofs.Conts.{Scoped, scoped-up, scoped-below, Placed}
 use Rattle.model.proofs.Marks.{ParCode}
 
@@ -168,7 +168,6 @@ module _ (S : Setting) where
   -- what is known fits the part
   pub record Sits (a : Part) (i : Info) : Type 0 where
     pub placed : Placed S a (i .w) (i .vars) (i .chans)
-    pub room : a .bottom ≤ i .w
     pub few : i .left ≤ whole S
 
   mutual
@@ -490,44 +489,51 @@ module _ (S : Setting) where
   abbrev pub newInfo : (vars chans : List Site) (w : ℕ) → Info
   newInfo vars chans w = record { vars = vars; chans = chans; w = w; left = whole S }
 
-  pub new-sits : {vars chans : List Site} (w d : ℕ) (s : Stmt) → Scoped S w vars chans
+  pub new-sits : {vars chans : List Site} (w d : ℕ) (s : Stmt) → Scoped S w vars chans → d + need s ≤ w
       → Sits (partOf vars chans (w - d) (joins d) s) (newInfo vars chans (w - d))
-  new-sits w d s h =
+  new-sits w d s h l =
       record {
         placed = record {
           scoped = scoped-below S (omega arith) h;
+          room = omega (arith, need-two s);
           low = omega arith;
           vars-origin = λ x m. inl m;
           chans-origin = λ x m. inl m;
           vars-outer = λ x m. m;
           chans-outer = λ x m. m;
         };
-        room = omega arith;
         few = omega arith;
       }
 
   -- the branches of a PAR that was just started
-  unfoldable pub begun : {vars chans : List Site} (w d : ℕ) (ss : Stmts) → Scoped S w vars chans → Forest vars chans w d ss (branches ss)
+  unfoldable pub begun : {vars chans : List Site} (w d : ℕ) (ss : Stmts) → Scoped S w vars chans → d + sumNeed ss ≤ w
+      → Forest vars chans w d ss (branches ss)
   unfolding branches
-  begun w d noStmt h = f-none
-  begun {vars} {chans} w d (stmt s ss) h =
-      f-live (t-leaf (leaf-begin s []) (newInfo vars chans (w - d)) (new-sits w d s h)) (begun w (d + need s) ss h)
+  begun w d noStmt h l = f-none
+  begun {vars} {chans} w d (stmt s ss) h l =
+      f-live (t-leaf (leaf-begin s []) (newInfo vars chans (w - d)) (new-sits w d s h (omega (arith, sum-first s ss))))
+      (begun w (d + need s) ss h (need-next s ss d l))
 
   -- each runs its statement, as far below as the branches before it need
-  begun-label : {vars chans : List Site} (w d : ℕ) (ss : Stmts) (h : Scoped S w vars chans) (i : ℕ) {s : Stmt} → stmtAt i ss ≡ some s
-      → labelIn (begun w d ss h) i []
+  begun-label : {vars chans : List Site} (w d : ℕ) (ss : Stmts) (h : Scoped S w vars chans) (l : d + sumNeed ss ≤ w) (i : ℕ) {s : Stmt}
+      → stmtAt i ss ≡ some s → labelIn (begun w d ss h l) i []
       ≡ some (alone (partOf vars chans (w - (d + distanceOf i ss)) (joins (d + distanceOf i ss)) s)
       (newInfo vars chans (w - (d + distanceOf i ss))))
   unfolding labelAt labelIn begun branches stmtAt distanceOf
-  begun-label w d noStmt h i e = never (cc)
-  begun-label w d (stmt s ss) h zero e = let z : d + 0 ≡ d = omega arith in rw (z, some-same e) refl
-  begun-label w d (stmt s ss) h (suc i) e =
-      let z : d + (need s + distanceOf i ss) ≡ d + need s + distanceOf i ss = omega arith in rw z (begun-label w (d + need s) ss h i e)
+  begun-label w d noStmt h l i e = never (cc)
+  begun-label w d (stmt s ss) h l zero e = let z : d + 0 ≡ d = omega arith in rw (z, some-same e) refl
+  begun-label w d (stmt s ss) h l (suc i) e =
+      let z : d + (need s + distanceOf i ss) ≡ d + need s + distanceOf i ss = omega arith in rw z (begun-label w (d + need s) ss h (need-next s ss d l) i e)
+
+  -- the branches fit below the PAR's workspace
+  pub par-fits : {a : Part} {s : Stmt} {ss : Stmts} {vars chans : List Site} {k : List Frame} {hi i w : ℕ} → ParCode S a s ss vars chans k hi i w
+      → 0 + sumNeed (stmt s ss) ≤ w
+  par-fits c = omega (arith, c .room)
 
   -- the tree of a PAR that was just started
   abbrev pub started : {a : Part} {s : Stmt} {ss : Stmts} {vars chans : List Site} {k : List Frame} {hi i w : ℕ}
       → ParCode S a s ss vars chans k hi i w → Tree a (inPar (branches (stmt s ss)) k)
-  started {s} {ss} {w} c = t-par c (begun w 0 (stmt s ss) (scoped-up S w 2 (c .placed .scoped)))
+  started {s} {ss} {w} c = t-par c (begun w 0 (stmt s ss) (scoped-up S w 2 (c .placed .scoped)) (par-fits c))
 
   -- what its branches run
   pub started-label : {a : Part} {s : Stmt} {ss : Stmts} {vars chans : List Site} {k : List Frame} {hi n w : ℕ}
@@ -538,8 +544,9 @@ module _ (S : Setting) where
   unfolding labelAt labelIn
   started-label {s} {ss} {vars} {chans} {w} c i {r} e =
       let h : Scoped S w vars chans = scoped-up S w 2 (c .placed .scoped) in
-      subst (λ z. labelIn (begun w 0 (stmt s ss) h) i [] ≡ some (alone (partOf vars chans (w - z) (joins z) r) (newInfo vars chans (w - z))))
-      (omega arith) (begun-label w 0 (stmt s ss) h i e)
+      let l : 0 + sumNeed (stmt s ss) ≤ w = par-fits c in
+      subst (λ z. labelIn (begun w 0 (stmt s ss) h l) i [] ≡ some (alone (partOf vars chans (w - z) (joins z) r) (newInfo vars chans (w - z))))
+      (omega arith) (begun-label w 0 (stmt s ss) h l i e)
 
   -- whatever a PAR's branches have come to, each runs that part
   forest-part : {vars chans : List Site} {w d : ℕ} {ss : Stmts} {bs : Branches} (f : Forest vars chans w d ss bs) (i : ℕ) {b : Part} → partIn f i [] ≡ some b

@@ -176,7 +176,7 @@ module _ (S : Setting) where
 
     pub zone-under : {a : Part} {p : Process} (t : Tree S a p) (path : List ℕ) {l : Label} → labelAt S t path ≡ some l → Under a (zoneOf l)
     zone-under {a} (t-leaf q i h) [] e =
-        subst (λ l. Under a (zoneOf l)) (some-same e) (placed-under (a .bottom) (a .top) (h .placed) (h .room) (omega arith) (omega arith))
+        subst (λ l. Under a (zoneOf l)) (some-same e) (placed-under (a .bottom) (a .top) (h .placed) (omega (arith, h .placed .room)) (omega arith) (omega arith))
     zone-under (t-leaf q i h) (j ∷ path) e = never (cc)
     zone-under (t-par {a} {w} c f) [] e =
         subst (λ l. Under a (zoneOf l)) (some-same e)
