@@ -41,6 +41,7 @@ pub mod Puts
 pub mod Grounds
 pub mod Traces
 pub mod Running
+pub mod Moving
 pub mod Steps
 pub mod Turns
 pub mod Memory
