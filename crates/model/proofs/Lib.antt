@@ -42,6 +42,7 @@ pub mod Grounds
 pub mod Traces
 pub mod Running
 pub mod Moving
+pub mod Reals
 pub mod Steps
 pub mod Turns
 pub mod Memory
