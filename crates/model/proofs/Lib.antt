@@ -43,6 +43,7 @@ pub mod Traces
 pub mod Running
 pub mod Moving
 pub mod Reals
+pub mod Sched
 pub mod Steps
 pub mod Turns
 pub mod Memory

@@ -148,7 +148,7 @@ module _ (L : Loaded) where
         record {
           each = λ w m. elim (h .each w m) [
             | whose {path = other} {i = j} k g n ↦ whose k g (λ o.
-            ⊎-elim (λ p. never (cc (e, in-member (i .w) ws (subst (λ v. List·Memᴰ v ws) (sym (same-leaf (λ q b (z : Info). z .w ≡ w) (sym p) k at g)) m)))) n (f other o))
+                ⊎-elim (λ p. never (cc (e, in-member (i .w) ws (subst (λ v. List·Memᴰ v ws) (sym (same-leaf (λ q b (z : Info). z .w ≡ w) (sym p) k at g)) m)))) n (f other o))
           ];
           once = h .once;
         }

@@ -40,7 +40,7 @@ module _ (L : Loaded) where
   offer-same σ p (no-offer h e) f = no-offer h (sym f ∙ e)
   offer-same σ p (held-offer v m h g e) f = held-offer v m h g (sym f ∙ e)
 
-  offer-world : {s u : World} {st : State} {k : ℕ} → u .machine .held ≡ s .machine .held → u .machine .offers ≡ s .machine .offers
+  pub offer-world : {s u : World} {st : State} {k : ℕ} → u .machine .held ≡ s .machine .held → u .machine .offers ≡ s .machine .offers
       → Offer L s st k → Offer L u st k
   offer-world {k = k} e f (no-offer h g) = no-offer (ap (λ l. getD l k false) e ∙ h) g
   offer-world {k = k} e f (held-offer v m h g z) = held-offer v m (ap (λ l. getD l k false) e ∙ h) (ap (λ l. getD l k 0) f ∙ g) z
@@ -129,3 +129,34 @@ module _ (L : Loaded) where
             let p = link-word k e in
             apart-zones L (λ z. n (subst Out z out)) (node L at) (node L k) .chans-out c l (omega (arith, f, p .0), omega (arith, f, p .1))
       ]
+
+  -- the same machine with another queue
+  pub real-queue : {s : World} {st : State} {μ : Mem} {ws us : List ℕ} (c : Cpu) → Queue (withCpu c s) us → Real L s st μ ws
+      → Real L (withCpu c s) st μ us
+  real-queue c q r =
+      record {
+        setup-kept = r .setup-kept;
+        no-fault = r .no-fault;
+        room = r .room;
+        mirror = r .mirror;
+        queue = q;
+        eight = r .eight;
+        offers = λ n h. offer-world refl refl (r .offers n h);
+        beyond = r .beyond;
+      }
+
+  -- another memory that is as long, and another queue
+  pub real-memory : {s : World} {st : State} {μ ν : Mem} {ws us : List ℕ} → Real L s st μ ws → (l : List ℕ) (c : Cpu)
+      → length l ≡ length (s .memory) → ((a : ℕ) → a < size L → getD l a 0 ≡ ν a) → Queue (withCpu c (withMemory l s)) us
+      → Real L (withCpu c (withMemory l s)) st ν us
+  real-memory r l c e m q =
+      record {
+        setup-kept = r .setup-kept;
+        no-fault = r .no-fault;
+        room = rw e (r .room);
+        mirror = m;
+        queue = q;
+        eight = r .eight;
+        offers = λ n h. offer-world refl refl (r .offers n h);
+        beyond = r .beyond;
+      }
