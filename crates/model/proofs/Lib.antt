@@ -44,6 +44,8 @@ pub mod Running
 pub mod Moving
 pub mod Reals
 pub mod Sched
+pub mod Reach
+pub mod Finish
 pub mod Steps
 pub mod Turns
 pub mod Memory

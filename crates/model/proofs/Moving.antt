@@ -23,6 +23,7 @@ use Rattle.model.proofs.Paths.{Leaf, l-before, l-finished, leaf-par, pu
 use Rattle.model.specs.Occam.{framesOf}
 use Rattle.model.specs.Demand.{liveIn}
 use Rattle.model.proofs.Parts.{Part, Within}
+use Rattle.model.proofs.Conts.{Placed}
 use Rattle.model.proofs.Marks.{Own, Skips, s-none, s-skip, s-if, s-par, Settled}
 use Rattle.model.proofs.Arrivals.{Comes, comes}
 use Rattle.model.proofs.Trees.{some-same, Label, alone, alone-part, alone-info, Info, Sits, Tree, labelAt, bytesLeft, bytesAt, leaf-bytes}
@@ -69,9 +70,9 @@ unfolding member
 member-last w [] = rw (eq-eqb w w refl)
 member-last w (u ∷ us) = by-bool (eqb w u) (λ h. rw h) (λ h. rw (h, member-last w us))
 
--- a process with another bound on its bytes
-abbrev pub withLeft : ℕ → Info → Info
-withLeft n i = record { vars = i .vars; chans = i .chans; w = i .w; left = n }
+-- a process at another workspace, and with another bound on its bytes
+abbrev pub relaid : (w left : ℕ) → Info → Info
+relaid w n i = record { vars = i .vars; chans = i .chans; w = w; left = n }
 
 -- processes that skip steps without code, or are led on, are no outputs
 pub settled-silent : {q : Process} {c : Site} {v : ℕ} {k : List Frame} → Settled q → q ≡ atOutput c v k → ⊥
@@ -153,20 +154,20 @@ module _ (L : Loaded) where
           once = h .once;
         }
 
-  -- what is known of a process's bytes
-  pub data Relabelled (st : State) (μ : Mem) (t : Tree (S L) (root L) (st .process)) (path : List ℕ) (q : Process) (b : Part) (i : Info) (n : ℕ)
+  -- what is known of a process's workspace and bytes
+  pub data Relabelled (st : State) (μ : Mem) (t : Tree (S L) (root L) (st .process)) (path : List ℕ) (q : Process) (b : Part) (i : Info) (w n : ℕ)
       (Out : List ℕ → Type 0) (ws : List ℕ) : Type 0 where
-    relabelled : (u : Tree (S L) (root L) (st .process)) → LeafAt L st u path q b (withLeft n i) → Rest L st μ u Out ws → Lined L st u Out ws
+    relabelled : (u : Tree (S L) (root L) (st .process)) → LeafAt L st u path q b (relaid w n i) → Rest L st μ u Out ws → Lined L st u Out ws
         → bytesLeft (S L) u + i .left ≡ bytesLeft (S L) t + n
         → ((other : List ℕ) (r : Process) (c : Part) (j : Info) → path ≢ other → LeafAt L st t other r c j → LeafAt L st u other r c j)
-        → Relabelled st μ t path q b i n Out ws
+        → Relabelled st μ t path q b i w n Out ws
 
-  module _ {st : State} {t : Tree (S L) (root L) (st .process)} {path : List ℕ} {q : Process} {b : Part} {i : Info} (n : ℕ)
-      (at : LeafAt L st t path q b i) (k : Kept (S L) t path b (withLeft n i) (st .process)) where
-    here-new : LeafAt L st (k .tree) path q b (withLeft n i)
+  module _ {st : State} {t : Tree (S L) (root L) (st .process)} {path : List ℕ} {q : Process} {b : Part} {i : Info} (w n : ℕ)
+      (at : LeafAt L st t path q b i) (k : Kept (S L) t path b (relaid w n i) (st .process)) where
+    here-new : LeafAt L st (k .tree) path q b (relaid w n i)
     here-new = record { found = at .found; leaf = at .leaf; label = k .here }
 
-    here-label : {other : List ℕ} {l : Label} → NodeAt L st (k .tree) other l → path ≡ other → l ≡ alone b (withLeft n i)
+    here-label : {other : List ℕ} {l : Label} → NodeAt L st (k .tree) other l → path ≡ other → l ≡ alone b (relaid w n i)
     here-label m e = some-same (sym (m .label) ∙ ap (labelAt (S L) (k .tree)) (sym e) ∙ k .here)
 
     node-back : {other : List ℕ} {l : Label} → path ≢ other → NodeAt L st (k .tree) other l → NodeAt L st t other l
@@ -205,29 +206,25 @@ module _ (L : Loaded) where
               h .par e (node-back (λ p. leaf-par (at .leaf) (some-same (sym (at .found) ∙ ap (λ z. look z (st .process)) p ∙ e))) m);
         }
 
-    lined-new : {Out : List ℕ → Type 0} {ws : List ℕ} → Lined L st t Out ws → Lined L st (k .tree) Out ws
-    lined-new {Out} lines =
+    lined-new : {Out : List ℕ → Type 0} {ws : List ℕ} → Out path → Lined L st t Out ws → Lined L st (k .tree) Out ws
+    lined-new {Out} out lines =
         record {
-          each = λ w m. elim (lines .each w m) [
-            | whose {path = other} l e o ↦
-                ⊎-elim (λ p. whose here-new (same-leaf (λ q b (j : Info). j .w ≡ w) (sym p) l at e) (λ z. o (subst Out p z)))
-                (λ d. whose (leaf-on d l) e o) (same-path path other)
-          ];
+          each = λ v m. elim (lines .each v m) [ whose l e o ↦ whose (leaf-on (λ p. o (subst Out p out)) l) e o ];
           once = lines .once;
         }
 
     relabelling : {μ : Mem} {Out : List ℕ → Type 0} {ws : List ℕ} → Out path → Rest L st μ t Out ws → Lined L st t Out ws
-        → Relabelled st μ t path q b i n Out ws
+        → Relabelled st μ t path q b i w n Out ws
     relabelling out h lines =
-        relabelled (k .tree) here-new (rest-new out h) (lined-new lines) (omega (arith, k .bytes, leaf-bytes (S L) t path (at .label)))
+        relabelled (k .tree) here-new (rest-new out h) (lined-new out lines) (omega (arith, k .bytes, leaf-bytes (S L) t path (at .label)))
         (λ other r c j d m. leaf-on d m)
 
-  -- the bound on a process's bytes is another
+  -- a process's workspace and the bound on its bytes are others
   pub relabel : {st : State} {μ : Mem} {t : Tree (S L) (root L) (st .process)} {path : List ℕ} {q : Process} {b : Part} {i : Info}
-      {Out : List ℕ → Type 0} {ws : List ℕ} → LeafAt L st t path q b i → Out path → (n : ℕ) → n ≤ whole (S L) → Rest L st μ t Out ws
-      → Lined L st t Out ws → Relabelled st μ t path q b i n Out ws
-  relabel {st} {t = t} {path} {q} {b} {i} at out n few h lines =
-      relabelling n at
-      (subst (λ z. Kept (S L) t path b (withLeft n i) z) (put-found path (st .process) (at .found))
-      (kept (S L) t path (at .found) (at .leaf) (at .leaf) b (withLeft n i) (rw (at .label))
-      (record { placed = sits-at L at .placed; few = few }))) out h lines
+      {Out : List ℕ → Type 0} {ws : List ℕ} → LeafAt L st t path q b i → Out path → (w n : ℕ) → Placed (S L) b w (i .vars) (i .chans)
+      → n ≤ whole (S L) → Rest L st μ t Out ws → Lined L st t Out ws → Relabelled st μ t path q b i w n Out ws
+  relabel {st} {t = t} {path} {q} {b} {i} at out w n placed few h lines =
+      relabelling w n at
+      (subst (λ z. Kept (S L) t path b (relaid w n i) z) (put-found path (st .process) (at .found))
+      (kept (S L) t path (at .found) (at .leaf) (at .leaf) b (relaid w n i) (rw (at .label))
+      (record { placed = placed; few = few }))) out h lines

@@ -162,11 +162,11 @@ module _ (word : Site → ℕ) (a : Part) (vars chans : List Site) (w : ℕ) whe
   guarded-fine (g-past-skip g) f = guarded-fine g (f .2)
 
 module _ (S : Setting) (a : Part) (st : State) where
-  -- the path to the next significant instruction inside an ALT
+  -- the path to the next significant instruction inside an ALT, without jumps
   abbrev pub AltGoes : (vars chans : List Site) (q : Process) (hi : ℕ) (μ : Mem) (i : ℕ) (r : Regs) → Type 0
   AltGoes vars chans q hi μ i r =
-      Way (S .xs) (S .off) (S .word) (AltPoint S a st vars chans q) ⊥ (st .store) (λ x. List·Memᴰ x vars × List·Memᴰ x (a .reads))
-      (Clear S a vars chans) hi μ i r
+      Way (S .xs) (S .off) (S .word) (AltPoint S a st vars chans q) ⊥ (st .store) (λ x. List·Memᴰ x vars × List·Memᴰ x (a .reads)) (λ w. ⊥)
+      hi μ i r
 
   -- at registers whose workspace is known
   at-w : (P : Regs → Type 0) {w : ℕ} (r : Regs) → r .w ≡ w → P (record { a = r .a; b = r .b; c = r .c; w = w }) → P r
@@ -178,7 +178,7 @@ module _ (S : Setting) (a : Part) (st : State) where
       → ((r′ : Regs) → r′ .a ≡ value (st .store) e → r′ .w ≡ w → AltGoes vars chans q hi μ i′ r′) → AltGoes vars chans q hi μ i r
   through-at {vars} {chans} {w} wide v q e f g p next =
       evaluates (S .xs) (S .off) (S .word) (AltPoint S a st vars chans q) ⊥ (st .store) vars (a .reads)
-      (Clear S a vars chans) w wide (v .vars-word) (v .values) (e .expr) g (f .0) (f .1) (f .2) p
+      (λ w. ⊥) w wide (v .vars-word) (v .values) (e .expr) g (f .0) (f .1) (f .2) p
       (λ r′ d. next r′ (d .value) (d .same-w ∙ p))
 
   module _ {gs : Guards} {vars chans : List Site} {k : List Frame} {hi i : ℕ} (w : ℕ) (c : AltCode S a gs vars chans k hi i (w + 1))

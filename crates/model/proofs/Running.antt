@@ -22,6 +22,7 @@ use Rattle.model.proofs.Ways.{Regs, regsOf, Mem}
 use Rattle.model.proofs.Points.{Setting, whole, At}
 use Rattle.model.proofs.Arrive.{inside, up, rises-le}
 use Rattle.model.proofs.Parts.{Part, joins, partOf}
+use Rattle.model.proofs.Marks.{Settled}
 use Rattle.model.proofs.Arrivals.{Goes, Comes}
 use Rattle.model.proofs.Onwards.{AltGoes, Starts}
 use Rattle.model.proofs.Trees.{Info, newInfo, Tree, bytesLeft}
@@ -108,7 +109,7 @@ module _ (L : Loaded) where
   -- the process at a path has the processor: it is on its way to its next significant instruction, or in an ALT
   pub data Now (s : World) (st : State) (μ : Mem) (b : Part) (i : Info) : Process → Type 0 where
     now-goes : {q : Process} {hi at : ℕ} → Here at (cpuOf s .place) (cpuOf s .operand)
-        → Goes (S L) b (st .store) (i .vars) (i .chans) q hi μ at (regsOf (cpuOf s)) → Unmarked (S L) b i st μ
+        → Goes (S L) b (st .store) (i .vars) (i .chans) q hi μ at (regsOf (cpuOf s)) → Settled q → Unmarked (S L) b i st μ
         → hi ≤ i .left + cpuOf s .place → Now s st μ b i q
     now-alt : {q : Process} {hi at : ℕ} → Here at (cpuOf s .place) (cpuOf s .operand)
         → AltGoes (S L) b st (i .vars) (i .chans) q hi μ at (regsOf (cpuOf s)) → hi ≤ i .left + cpuOf s .place → Now s st μ b i q

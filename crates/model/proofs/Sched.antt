@@ -77,7 +77,7 @@ module _ (L : Loaded) where
         (λ c l. rest .chans (node L leaf) c (sub .chans-in c l)) (sub .live) (λ c l o. absurd (clean c l o))
         (λ c v k e other r d z y u l. skips-silent sk settled e) (λ c v k e other r d z y u l h o. settled-silent settled e))
         (now-goes (fresh L at (cpuOf s .place) (cpuOf s .operand) (stands .inside) (stands .place) (stands .operand))
-        (way μ (regsOf (cpuOf s)) (stands .work)) (λ c l o. clean c (sub .chans-in c l) o) (omega (arith, stands .place)))
+        (way μ (regsOf (cpuOf s)) (stands .work)) settled (λ c l o. clean c (sub .chans-in c l) o) (omega (arith, stands .place)))
         (skip-moves path (leaf .found) sk) refl
       where
         m : Leaf q

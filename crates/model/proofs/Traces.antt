@@ -1,5 +1,5 @@
 -- Moves of an Occam run one after another, with their communications and events.
-use Prim.Native.Nat.{ℕ, _≤_}
+use Prim.Native.Nat.{ℕ, suc, _≤_}
 use native.Mathlib.Omega.{arith}
 use mathlib.Core.Path.{_≡_, refl, sym, ap, _∙_, subst}
 use mathlib.Core.List.{List, [], _∷_, _++_, append-assoc}
@@ -73,3 +73,15 @@ skip-moves {st} path e (s-skip {k} {q} s) = one-more q path SKIP k e refl (skip-
 skip-moves {st} path e (s-if {k} {q} s) = one-more q path (IF noPair) k e refl (skip-moves path (look-put-same path (st .process) (resume k) e) s)
 skip-moves {st} path e (s-par {p} {k} {q} s) =
     one-more q path (PAR p noStmt) k e refl (skip-moves path (look-put-same path (st .process) (resume k) e) s)
+
+-- moves without communications and events after others
+pub trace-then : {st st₁ st₂ : State} {g h : Segment} {cs : List Communication} {es : List Event} → Trace st g st₁ cs es → Trace st₁ h st₂ [] []
+    → Trace st (g ++ h) st₂ cs es
+trace-then t-none m = m
+trace-then (t-step s k) m = t-step s (trace-then k m)
+trace-then (t-event s k) m = t-event s (trace-then k m)
+
+pub steps-then : (g h : Segment) → steps g ≤ steps (g ++ h)
+steps-then [] h = omega arith
+steps-then (step cs st ∷ g) h = omega (arith, steps-then g h)
+steps-then (outside e cs st ∷ g) h = omega (arith, steps-then g h)
