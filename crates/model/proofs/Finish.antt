@@ -21,15 +21,21 @@ use Rattle.model.proofs.Onwards.{AltGoes}
 use Rattle.model.proofs.Trees.{Info, Tree, bytesLeft}
 use Rattle.model.proofs.Leaves.{Unmarked}
 use Rattle.model.proofs.Effects.{cpuOf}
-use Rattle.model.proofs.Kernel.{Loaded, S, root, LeafAt, Rest, Lined, Real}
+use Rattle.model.proofs.Kernel.{Loaded, S, root, setup, LeafAt, Rest, Lined, Real}
 use Rattle.model.proofs.Writes.{sits-at}
 use Rattle.model.proofs.Traces.{Trace, t-none, t-step, trace-then, steps-then}
-use Rattle.model.proofs.Running.{Only, fresh, Now, now-goes, now-alt, Inv, runs, Did, came, Acting}
+use Rattle.model.proofs.Running.{Only, fresh, Now, now-goes, now-alt, Inv, runs, starts, idle, Did, came, Acting}
 use Rattle.model.proofs.Moving.{relaid, relabelled, relabel}
 use Rattle.model.proofs.Sched.{Settles, settles, LetGo, let-go}
 use Rattle.model.proofs.Reach.{way-bound, point-in, alt-in}
 
 module _ (L : Loaded) where
+  -- what the start fixed stays
+  pub inv-setup : {s : World} {st : State} {n : ℕ} → Inv L s st n → s .machine .setup ≡ setup L
+  inv-setup (runs real run leaf rest lines now) = real .setup-kept
+  inv-setup (starts B real run leaf rest lines now) = real .setup-kept
+  inv-setup (idle real run rest) = real .setup-kept
+
   -- moves were made, with a step among them, and the process has settled
   pub then-settles : {did : World → Type 0} {s u : World} {st st₁ : State} {cs : List Communication} {g : Segment} {m k n n₀ : ℕ}
       → Trace st g st₁ cs [] → 0 < steps g → did u → u .talk ≡ s .talk ++ map (talkOf (L .prog)) cs → Settles L u st₁ m k n
@@ -46,13 +52,13 @@ module _ (L : Loaded) where
 
   -- moves were made, and the processor is let go; without a step fewer bytes are left
   pub then-lets-go : {did : World → Type 0} {s u : World} {st st₁ : State} {cs : List Communication} {g : Segment} {m n : ℕ}
-      → Trace st g st₁ cs [] → (m < n) ⊎ (0 < steps g) → ((v : World) → release u ≡ done tt v → did v)
+      → Trace st g st₁ cs [] → (m < n) ⊎ (0 < steps g) → ((v : World) → release u ≡ done tt v → v .machine .setup ≡ setup L → did v)
       → u .talk ≡ s .talk ++ map (talkOf (L .prog)) cs → LetGo L u st₁ m → Did L did s st n
   then-lets-go {g = g} ms fewer ran talk (let-go v h e f ns inv) =
-      came v (g ++ h) (ran v e) (trace-then ms ns) (f ∙ talk) inv (⊎-elim (λ l. inl l) (λ l. inr (omega (arith, steps-then g h))) fewer)
+      came v (g ++ h) (ran v e (inv-setup inv)) (trace-then ms ns) (f ∙ talk) inv (⊎-elim (λ l. inl l) (λ l. inr (omega (arith, steps-then g h))) fewer)
 
   pub step-lets-go : {did : World → Type 0} {s u : World} {st st₁ : State} {cs : List Communication} {m n : ℕ} → Step st cs st₁
-      → ((v : World) → release u ≡ done tt v → did v) → u .talk ≡ s .talk ++ map (talkOf (L .prog)) cs → LetGo L u st₁ m → Did L did s st n
+      → ((v : World) → release u ≡ done tt v → v .machine .setup ≡ setup L → did v) → u .talk ≡ s .talk ++ map (talkOf (L .prog)) cs → LetGo L u st₁ m → Did L did s st n
   step-lets-go {st = st} {st₁} {cs} one ran talk h =
       then-lets-go {g = step cs st₁ ∷ []} (subst (λ z. Trace st (step cs st₁ ∷ []) st₁ z []) (append-nil cs) (t-step one t-none))
       (inr (omega arith)) ran talk h

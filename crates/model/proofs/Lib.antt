@@ -46,6 +46,7 @@ pub mod Reals
 pub mod Sched
 pub mod Reach
 pub mod Finish
+pub mod Quiets
 pub mod Steps
 pub mod Turns
 pub mod Memory

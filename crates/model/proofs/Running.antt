@@ -147,8 +147,8 @@ module _ (L : Loaded) where
         → t .talk ≡ s .talk ++ map (talkOf (L .prog)) cs → Inv t st′ m → (m < n) ⊎ (0 < steps g) → Did did s st n
 
   -- an instruction
-  abbrev pub Executes : Instruction → World → World → Type 0
-  Executes x s t = execute (functionIn x) (operandIn (L .off) x) s ≡ done tt t
+  pub data Executes (x : Instruction) (s t : World) : Type 0 where
+    executes : execute (functionIn x) (operandIn (L .off) x) s ≡ done tt t → Executes x s t
 
   -- the process at a path is about to execute the instruction at an index
   pub record Acting (s : World) (st : State) (μ : Mem) (t : Tree (S L) (root L) (st .process)) (path : List ℕ) (q : Process) (b : Part)
