@@ -624,6 +624,16 @@ module _ (S : Setting) where
   leaf-alone (t-leaf l i h) m = is-alone i h refl
   leaf-alone (t-par c f) m = absurd (leaf-par m refl)
 
+  -- a leaf's label
+  pub data Labelled (l : Option Label) : Type 0 where
+    labelled : (b : Part) (i : Info) → l ≡ some (alone b i) → Labelled l
+
+  pub label-alone : {a : Part} {p : Process} (t : Tree a p) (path : List ℕ) {q : Process} → look path p ≡ some q → Leaf q
+      → Labelled (labelAt t path)
+  label-alone t path e l = elim (owner-of t path e) [
+    | owner b u n g h ↦ elim (leaf-alone u l) [ is-alone i k f ↦ labelled b i (ap (labelAt t) (sym (append-nil path)) ∙ h [] ∙ f) ]
+  ]
+
   -- what is known of a leaf fits its part
   mutual
     unfolding labelAt labelIn
