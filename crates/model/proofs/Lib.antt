@@ -47,6 +47,7 @@ pub mod Sched
 pub mod Reach
 pub mod Finish
 pub mod Quiets
+pub mod Advance
 pub mod Channels
 pub mod Steps
 pub mod Turns
