@@ -48,6 +48,7 @@ pub mod Reach
 pub mod Finish
 pub mod Quiets
 pub mod Advance
+pub mod Basics
 pub mod Channels
 pub mod Steps
 pub mod Turns
