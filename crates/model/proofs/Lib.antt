@@ -50,6 +50,8 @@ pub mod Quiets
 pub mod Advance
 pub mod Basics
 pub mod Channels
+pub mod Meets
+pub mod Ins
 pub mod Steps
 pub mod Turns
 pub mod Memory
