@@ -18,7 +18,7 @@ use Rattle.model.specs.Instruction as I
 use Rattle.model.specs.Code.{functionIn, operandIn}
 use Rattle.model.specs.Layout.{base}
 use Rattle.model.specs.Machine.{World, done, release, _>>_, withCpu, resumeWord, stateWord, linkWord}
-use Rattle.model.specs.Occam.{Store, value, store, Frame, Process, before, atInput, atOutput, atAlt, resume, go, look, put, State, Communication}
+use Rattle.model.specs.Occam.{Store, value, isTrue, store, Frame, Process, before, atInput, atOutput, atAlt, resume, go, look, put, State, Communication}
 use Rattle.model.specs.Occam.{over-channel, Sender, process, outside, Step, begins, communicates, receives}
 use Rattle.model.specs.Demand.{step, Segment, steps, talkOf}
 use Rattle.model.specs.declared.Setup.{Setup}
@@ -40,11 +40,11 @@ use Rattle.model.proofs.Acts.{parked, exec-out-wait, exec-out-alt, exec
 use Rattle.model.proofs.Kernel.{Loaded, S, root, size, setup, LeafAt, NodeAt, Owned, owned, Rest, Lined, Real, Offer, no-offer, held-offer}
 use Rattle.model.proofs.Writes.{upd-same, upd-other, changed, after-leaf, after-lined, node, apart-parts, apart-zones, own-one, part-small}
 use Rattle.model.proofs.Writes.{sits-at, write-own, write-var, write-chan, left-out, change-offers}
-use Rattle.model.proofs.Puts.{putting, treeThen, here-then, other-then, lined-then, rest-then, sender-before}
+use Rattle.model.proofs.Puts.{putting, treeThen, here-then, other-then, lined-then, rest-then, sender-then}
 use Rattle.model.proofs.Grounds.{var-in, chan-in, small-size, sound-at}
 use Rattle.model.proofs.Traces.{Trace, t-none, t-step}
 use Rattle.model.proofs.Running.{Only, Nobody, Did, Executes, executes, Acting}
-use Rattle.model.proofs.Reals.{size-is, mirrored, real-state, real-cpu, real-stored, real-talk, real-dropped, withoutOffer, link-own, link-var, link-chan}
+use Rattle.model.proofs.Reals.{size-is, mirrored, real-state, real-cpu, real-stored, real-talk, link-any, link-var, link-chan}
 use Rattle.model.proofs.Sched.{Stands, settle, lets-go, linkedTo, wakes, Woken}
 use Rattle.model.proofs.Queues.{joined}
 use Rattle.model.proofs.Finish.{then-settles, step-lets-go, silent}
@@ -59,6 +59,20 @@ use Rattle.model.specs.Execute.{execute, notify, isAltState, enabling, w
 use Rattle.model.proofs.Onwards.{guarded-ready}
 use Rattle.model.specs.Scheme.{sizeEnable}
 use Rattle.model.proofs.Zones.{zoneOf, Distant}
+
+-- what is ready or picked stays so where no sender goes
+ready-more : {st st′ : State} → ((c : Site) → Sender st c → Sender st′ c) → {gs : Guards} → st .store ≡ st′ .store → Ready st gs → Ready st′ gs
+ready-more h q (r-input {e} t g) = r-input {e = e} (subst (λ σ. isTrue σ e ≡ true) q t) (h _ g)
+ready-more h q (r-skip {e} t) = r-skip {e = e} (subst (λ σ. isTrue σ e ≡ true) q t)
+ready-more h q (r-past-input g) = r-past-input (ready-more h q g)
+ready-more h q (r-past-skip g) = r-past-skip (ready-more h q g)
+
+picks-more : {st st′ : State} {k : List Frame} → ((c : Site) → Sender st c → Sender st′ c) → {gs : Guards} {b t : ℕ} {p : Process}
+    → st .store ≡ st′ .store → Picks st k gs b t p → Picks st′ k gs b t p
+picks-more h q (p-input {e} t g) = p-input {e = e} (subst (λ σ. isTrue σ e ≡ true) q t) (h _ g)
+picks-more h q (p-skip {e} t) = p-skip {e = e} (subst (λ σ. isTrue σ e ≡ true) q t)
+picks-more h q (p-past-input g) = p-past-input (picks-more h q g)
+picks-more h q (p-past-skip g) = p-past-skip (picks-more h q g)
 
 -- a word of memory is no ALT state
 pub no-alt-state : (v : ℕ) → v ≤ 4096 → isAltState v ≡ false
@@ -527,3 +541,57 @@ module _ (L : Loaded) {s : World} {st : State} {μ : Mem} {t : Tree (S L) (root 
         step-lets-go L coming
         (λ y q g. executes (told state refl ∙ rw (notify-waiting (j .w) s₃ (rw (size-is L (A .real)) alt-in), woken .joins) q))
         (silent L s (joined (j .w) ws s₄) refl) (lets-go L (A .operand) (woken .real) (woken .rest) (woken .lines))
+
+    -- it was woken before: it stays Ready
+    pub did-tell : member (j .w) ws ≡ true → Resumes (S L) d j st μ (to + 2 + sizeEnable gs + 1) far → μ (stateWord (j .w)) ≡ ready
+        → Disabling (S L) d st (j .vars) (j .chans) l gs gs (a .choice) μ (j .w)
+        → Did L (Executes L (operation I.outword) s) s st (bytesLeft (S L) t)
+    unfolding functionIn operandIn
+    did-tell queued r state dis =
+        let p = sits-at L chooser .placed in
+        let tall : j .w + 1 ≤ d .top = cont-low (S L) d (a .after) in
+        let lines₅ = lined-then L (A .leaf) (atOutput c z k) l-output waiting-info sits-here refl (A .lined) in
+        let unheld = unqueued L {Out = Only path} leaf₅ refl lines₅ in
+        let resume-word : ν₄ (resumeWord (j .w)) ≡ μ (resumeWord (j .w)) =
+        alt-word (resumeWord (j .w)) (omega (arith, p .room, p .low, part-small L chooser, small-size L))
+        (omega (arith, p .room, p .low, part-small L chooser, small-size L))
+        (λ q. absurd (omega (arith, a .fine .0, p .low, part-small L chooser, small-size L))) in
+        let base-word : ν₄ (j .w) ≡ μ (j .w) =
+        alt-word (j .w) (omega (arith, p .room)) (omega arith) (λ q. absurd (omega (arith, t-low .1))) in
+        let more : (y : Site) → Sender st y → Sender st₁ y =
+        λ y q. sender-then L (A .leaf) (atOutput c z k) l-output waiting-info sits-here y (λ v g e. never (cc)) q in
+        let held : Held (S L) d j st₁ ν₄ true (atAlt gs l) =
+        h-woken a (record { place = resume-word ∙ r .place; soon = r .soon }) (upd-same ν₃ (stateWord (j .w)) ready)
+        (record {
+          marks = alt-marked (dis .marks);
+          chosen = ⊎-elim (λ y. let (v, q, g, x) = y in inl (v, q, picks-more more refl g, base-word ∙ x))
+              (λ y. inr (base-word ∙ y .0, ready-more more refl (y .1))) (dis .chosen);
+        }) in
+        let rest₆ = rest-in L {Out′ = Only other} leaf₅
+        (subst (λ y. Held (S L) b waiting-info st₁ ν₄ y (atOutput c z k)) (sym unheld) (waits-here own₄ chans₄))
+        (λ y n q. ⊎-elim (λ e. absurd (n e)) (λ e. e) q) rest₅ in
+        let rest₇ = rest-in L {Out′ = Nobody} chooser₅ (subst (λ y. Held (S L) d j st₁ ν₄ y (atAlt gs l)) (sym queued) held)
+        (λ y n q. absurd (n q)) rest₆ in
+        step-lets-go L coming
+        (λ y q g. executes (told state refl ∙ rw (notify-other (j .w) ready s₃ (rw (size-is L (A .real)) alt-in) (λ q. absurd (omega arith))) q))
+        (silent L s s₄ refl)
+        (lets-go L (A .operand) (real-here) rest₇ (lined-in L (λ y q. absurd q) lines₅))
+      where
+        real-here : Real L s₄ st₁ ν₄ ws
+        real-here =
+            real-state L (put path (atOutput c z k) (st .process)) (st .store)
+            (real-stored L (stateWord (j .w)) ready alt-in
+            (link-any L (A .lined) chooser (stateWord (j .w)) (t-low .0) t-high
+            (λ q. absurd (omega (arith, a .fine .0, sits-at L chooser .placed .low, part-small L chooser, small-size L)))) parked-real)
+
+  by-holder : Holder L st μ t (Only path) ws c → Did L (Executes L (operation I.outword) s) s st (bytesLeft (S L) t)
+  by-holder (holds-input y n q x tg inp free) = did-send y n q x tg
+  by-holder (holds-output y n q x out low v tiny) = absurd (apart-parts L (A .leaf) y n .outputs c (f .3) out)
+  by-holder (holds-wait y n q a r g v all un mk here guarded inp) = did-wake y n a here guarded q r g v mk
+  by-holder (holds-woken y n q a r g d here guarded inp) = did-tell y n a here guarded q r g d
+  by-holder (holds-out y q m o) =
+      absurd (clean c (f .2) (same-leaf L (λ q d (j : Info). Own d (μ (S L .word c))) (sym q) y (A .leaf) o))
+
+  pub did-out : Did L (Executes L (operation I.outword) s) s st (bytesLeft (S L) t)
+  did-out =
+      ⊎-elim did-wait (λ o. by-holder (holder L (A .rest) (same-path path) o refl)) (A .rest .chans (node L (A .leaf)) c (f .2))
