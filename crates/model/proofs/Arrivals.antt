@@ -214,7 +214,7 @@ module _ (S : Setting) (a : Part) where
       opened : At S i (plain ajw (minus n)) → Opening S a f p n s vars chans k hi (suc i) (w - n) → Opened f p n s vars chans k hi i w
 
     open-pick : {hi i d m i′ w p n : ℕ} {f : Instruction} {s : Stmt} {vars chans : List Site} {k : List Frame} → n ≤ w
-        → a .bottom + n ≤ w → Words (S .word) p n (w - n) → hi ≤ whole S + S .off i → Seg (S .xs) i (plain ajw (minus n) ∷ initialise f n) d
+        → a .bottom + n + 2 ≤ w → Words (S .word) p n (w - n) → hi ≤ whole S + S .off i → Seg (S .xs) i (plain ajw (minus n) ∷ initialise f n) d
         → Seg (S .xs) (suc i + (n + n)) (code (S .word) (w - n) (suc i + (n + n)) s) m → Seg (S .xs) m (plain ajw n ∷ []) i′
         → Cont S a hi vars chans k i′ w → Opened f p n s vars chans k hi i w
     open-pick {i} {m} {w} {p} {n} {f} {k} fits room sites near (at x g₁) g₂ (at b nil) c =
@@ -232,7 +232,7 @@ module _ (S : Setting) (a : Part) where
 
     open-parts : {hi i i′ w p n : ℕ} {f : Instruction} {s : Stmt} {vars chans : List Site} {k : List Frame}
         → Seg (S .xs) i (plain ajw (minus n) ∷ initialise f n ++ code (S .word) (w - n) (i + 1 + (n + n)) s ++ plain ajw n ∷ []) i′
-        → n ≤ w → a .bottom + n ≤ w → Words (S .word) p n (w - n) → Cont S a hi vars chans k i′ w → hi ≤ whole S + S .off i → Opened f p n s vars chans k hi i w
+        → n ≤ w → a .bottom + n + 2 ≤ w → Words (S .word) p n (w - n) → Cont S a hi vars chans k i′ w → hi ≤ whole S + S .off i → Opened f p n s vars chans k hi i w
     open-parts {hi} {i} {w} {p} {n} {f} {s} {k} g fits room sites c near =
         let inits = plain ajw (minus n) ∷ initialise f n in
         let m = i + 1 + (n + n) in
@@ -456,7 +456,7 @@ module _ (S : Setting) (a : Part) where
           let e : suc (suc i) ≡ suc (suc i + 0) = omega arith in
           let same : hi ≤ hi = omega arith in
           comes s-none tt (here c)
-          (open-way (before (VAR p n s) k) 0 (λ p. quiet-ldc 0) (open-parts g fits (omega (arith, f .1)) (f .2) c near) (f .0) fits (wide c v)
+          (open-way (before (VAR p n s) k) 0 (λ p. quiet-ldc 0) (open-parts g fits (f .1) (f .2) c near) (f .0) fits (wide c v)
           (λ op μ r z. pt-var op (f .4) same (f .0) e z (λ l h. absurd (omega arith))))
 
       chan-comes : (p n : ℕ) (s : Stmt) → Seg (S .xs) i (code (S .word) w i (CHAN p n s)) i′ → Fine (S .word) a vars chans w (CHAN p n s)
@@ -467,7 +467,7 @@ module _ (S : Setting) (a : Part) where
           let e : suc (suc i) ≡ suc (suc i + 0) = omega arith in
           let same : hi ≤ hi = omega arith in
           comes s-none tt (here c)
-          (open-way (before (CHAN p n s) k) notProcess (λ p. quiet-mint) (open-parts g fits (omega (arith, f .1)) (f .2) c near) (f .0) fits (wide c v)
+          (open-way (before (CHAN p n s) k) notProcess (λ p. quiet-mint) (open-parts g fits (f .1) (f .2) c near) (f .0) fits (wide c v)
           (λ op μ r z. pt-chan op (f .3) same (f .0) e z (λ l h. absurd (omega arith))))
 
       par-comes : (p : ℕ) (s : Stmt) (ss : Stmts) → Seg (S .xs) i (code (S .word) w i (PAR p (stmt s ss))) i′

@@ -53,6 +53,7 @@ pub mod Channels
 pub mod Meets
 pub mod Ins
 pub mod Outs
+pub mod Inits
 pub mod Steps
 pub mod Turns
 pub mod Memory

@@ -120,7 +120,7 @@ module _ (S : Setting) (a : Part) where
 
   -- a VAR's or CHAN's code from its initialisation on, by which instruction; `fine` is what the body needs, `on` what follows it
   pub record Opening (f : Instruction) (p n : ℕ) (s : Stmt) (vars chans : List Site) (k : List Frame) (hi c w : ℕ) : Type 0 where
-    pub room : a .bottom ≤ w
+    pub room : a .bottom + 2 ≤ w
     pub inits : (j : ℕ) → j < n → At S (c + (j + j)) f × At S (suc (c + (j + j))) (plain stl j)
     pub close : ℕ
     pub body : Seg (S .xs) (c + (n + n)) (code (S .word) w (c + (n + n)) s) close
