@@ -48,6 +48,7 @@ pub mod Reach
 pub mod Finish
 pub mod Quiets
 pub mod Channels
+pub mod Alts
 pub mod Steps
 pub mod Turns
 pub mod Memory
