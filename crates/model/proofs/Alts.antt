@@ -34,17 +34,17 @@ use Rattle.model.proofs.Onwards.{rest-past-input, rest-past-skip, rest-
 use Rattle.model.proofs.Onwards.{AltGoes, noticed-unready, noticed-marked, enable-way, enable-first, disable-first}
 use Rattle.model.proofs.Trees.{Info, Sits, Tree, bytesLeft}
 use Rattle.model.proofs.Leaves.{upd, member, Unmarked, Held, h-wait}
-use Rattle.model.proofs.Stays.{Calm, noticed-stays, marked-stays}
+use Rattle.model.proofs.Stays.{Calm, noticed-stays, marked-stays, ready-stays}
 use Rattle.model.proofs.Effects.{cpuOf, sizeOf, stored}
 use Rattle.model.proofs.Acts.{exec-alt, enabled, exec-enbc-off, exec-enbc-held, exec-enbc-empty, exec-enbc-marked, exec-enbc-sender}
 use Rattle.model.proofs.Acts.{exec-enbs-off, exec-enbs, exec-altwt-ready, exec-altwt-wait}
 use Rattle.model.proofs.Kernel.{Loaded, S, root, size, LeafAt, Owned, owned, Rest, Lined, whose, Real}
 use Rattle.model.proofs.Writes.{upd-same, upd-other, node, apart-parts, own-one, part-small, sits-at, write-own, write-chan, left-out}
-use Rattle.model.proofs.Puts.{putting, treeThen, here-then, lined-then, rest-then}
+use Rattle.model.proofs.Puts.{putting, treeThen, here-then, lined-then, rest-then, sender-then, sender-before}
 use Rattle.model.proofs.Grounds.{small-size, chan-in, sound-at}
 use Rattle.model.proofs.Traces.{t-none, t-step}
 use Rattle.model.proofs.Running.{Only, Nobody, fresh, Now, now-alt, Inv, runs, Did, came, Executes, executes, Acting}
-use Rattle.model.proofs.Moving.{member-in, same-leaf, rest-in, lined-in}
+use Rattle.model.proofs.Moving.{relaid, member-in, same-leaf, rest-in, lined-in}
 use Rattle.model.proofs.Reals.{size-is, mirrored, real-cpu, real-state, real-stored, link-own, link-chan}
 use Rattle.model.proofs.Sched.{lets-go}
 use Rattle.model.proofs.Finish.{alt-goes-on, step-lets-go, silent}
@@ -65,6 +65,9 @@ false-when σ e v q d = rw (eq-eqb (value σ e) 0 (sym q ∙ d))
 -- a process that begins a statement sends nothing
 before-silent : {s : Stmt} {k : List Frame} (y : Site) (v : ℕ) (l : List Frame) → before s k ≡ atOutput y v l → ⊥
 before-silent y v l e = never (cc)
+
+pub alt-silent : {gs : Guards} {k : List Frame} (y : Site) (v : ℕ) (l : List Frame) → atAlt gs k ≡ atOutput y v l → ⊥
+alt-silent y v l e = never (cc)
 
 -- an offer is a sender
 pub offer-sends : {st : State} {y : Site} {n v : ℕ} → y ≡ inputOf n → st .offers n ≡ some v → Sender st y
@@ -90,7 +93,7 @@ module _ (L : Loaded) {s : World} {st : State} {μ : Mem} {t : Tree (S L) (root 
   pub w-under : w < b .top
   w-under = omega (arith, cont-low (S L) b (c .after))
 
-  top-small : b .top ≤ 4096
+  pub top-small : b .top ≤ 4096
   top-small = omega (arith, part-small L (A .leaf), S L .top-small)
 
   pub w-own : Own b w
@@ -219,6 +222,12 @@ module _ (L : Loaded) {s : World} {st : State} {μ : Mem} {t : Tree (S L) (root 
         at-word (sends k n e out m) =
             let theirs = named-own k e in
             ⊎-elim (λ f. strange-none k f theirs) (λ f. strange-w k n f theirs) here
+
+  -- it is not queued
+  not-queued : member w ws ≡ false
+  not-queued =
+      by-bool (member w ws)
+      (λ e. elim (A .lined .each w (member-in w ws e)) [ whose k f n ↦ absurd (strange-w k n refl (named-own k (sym f))) ]) (λ e. e)
 
   -- a channel's word is written: it gets the mark, or is empty
   module _ (ν : Mem) (y : Site) (mine : List·Memᴰ y (i .chans)) (z : ℕ) where
@@ -451,3 +460,162 @@ module _ (L : Loaded) {s : World} {st : State} {μ : Mem} {t : Tree (S L) (root 
         by : Dec (cpuOf s .a ≡ 0) → Goal (operation I.enbs)
         by (yes a) = enbs-off a
         by (no a) = enbs-on a
+
+  -- ALTWT: the process comes to the ALT
+  abbrev waits-as : Info
+  waits-as = relaid (space s) (whole (S L)) i
+
+  abbrev then-at : State
+  then-at = putting path (atAlt gs k) st
+
+  sits-there : Sits (S L) b waits-as
+  sits-there = record { placed = placed L A c; few = omega arith }
+
+  abbrev tree-there : Tree (S L) (root L) (then-at .process)
+  tree-there = treeThen L (A .leaf) (atAlt gs k) l-alt waits-as sits-there
+
+  comes-to : Step st [] then-at
+  unfolding go
+  comes-to = begins path (A .leaf .found)
+
+  rest-there : {ν : Mem} → Rest L st ν t (Only path) ws → Rest L then-at ν tree-there (Only path) ws
+  rest-there r =
+      rest-then L (A .leaf) (atAlt gs k) l-alt waits-as sits-there r refl (λ x m. r .vars (node L (A .leaf)) x m)
+      (λ d m. r .chans (node L (A .leaf)) d m) (A .rest .live (A .leaf)) (λ d m o. m)
+      (λ d v l e other p a j f g h. before-silent d v l e) (λ d v l e other p a j f g h m o. alt-silent d v l e)
+
+  -- that changes no word, and no sender
+  calm-there : (ν : Mem) → Calm (S L) b i 0 st then-at ν ν
+  calm-there ν =
+      record {
+        own = λ v a z y. refl;
+        reads = λ x m g. refl;
+        chans = λ d m. inl refl;
+        sends = λ d m f. sender-then L (A .leaf) (atAlt gs k) l-alt waits-as sits-there d (λ v l e. before-silent d v l e) f;
+        none-sends = λ d m g o f. sender-before L (A .leaf) (atAlt gs k) l-alt waits-as sits-there d (λ v l e. alt-silent d v l e) f;
+      }
+
+  module _ (here : at ≡ i₀ + 2 + sizeEnable gs) where
+    -- the bytes that are left reach as far as is needed
+    soon-there : hi₀ ≤ whole (S L) + L .off (suc at)
+    soon-there = omega (arith, c .near, rises-le (S L) i₀ (suc at) (omega arith) (A .inside))
+
+    -- it is Ready: the disabling begins
+    module _ (set : μ (stateWord (space s)) ≡ ready) (now : Ready st gs) (marks : Marked (S L) b st (i .vars) (i .chans) gs μ (space s)) where
+      abbrev none-yet : Mem
+      none-yet = upd μ (space s) noneSelected
+
+      disabling : Disabling (S L) b then-at (i .vars) (i .chans) k gs gs (c .choice) none-yet (space s)
+      disabling =
+          let high : b .top < 2 ^ 32 = omega (arith, top-small L A c) in
+          record {
+            marks = marked-stays (S L) b i high (sits-at L (A .leaf)) (calm-there none-yet) (space s + 1) (c .fine .1)
+                (own-marked L A c μ (space s) noneSelected (base-mine L A c) (c .fine .1) marks);
+            chosen = inr (
+              upd-same μ (space s) noneSelected,
+              ready-stays (S L) b i high (sits-at L (A .leaf)) (calm-there none-yet) (space s + 1) (c .fine .1) now,
+            );
+          }
+
+      did-altwt : Executes L (operation I.altwt) s (stored (space s) noneSelected s)
+      unfolding functionIn operandIn
+      did-altwt =
+          executes
+          (exec-altwt-ready (space s) s refl (mine-size L A c (A .real) (base-mine L A c)) (mine-size L A c (A .real) (state-mine L A c))
+          (mirrored L (A .real) (stateWord (space s)) (mine-in L A c (state-mine L A c)) set))
+
+      altwt-ready : Goal (operation I.altwt)
+      altwt-ready =
+          let u = stored (space s) noneSelected s in
+          let rest = rest-there (own-rest L A c μ (space s) noneSelected (base-mine L A c) (A .rest)) in
+          let leaf = here-then L (A .leaf) (atAlt gs k) l-alt waits-as sits-there in
+          let e : i₀ + 2 + sizeEnable gs + 1 ≡ suc at = omega arith in
+          let near : hi₀ ≤ hi₀ = omega arith in
+          let way = subst (λ z. AltGoes (S L) b then-at (i .vars) (i .chans) (atAlt gs k) hi₀ none-yet z (regsOf (cpuOf u))) e
+          (disable-first (S L) b then-at (space s) c (sound-at L rest leaf) near disabling refl) in
+          came u (step [] then-at ∷ []) did-altwt (t-step comes-to t-none) (silent L s u refl)
+          (runs (real-state L (then-at .process) (st .store) (own-real L A c μ (space s) noneSelected (base-mine L A c) (A .real))) (A .run) leaf rest
+          (lined-then L (A .leaf) (atAlt gs k) l-alt waits-as sits-there refl (A .lined))
+          (now-alt (fresh L (suc at) (cpuOf u .place) (cpuOf u .operand) (A .inside) (A .placed) (A .operand)) way (omega (arith, soon-there, A .placed))))
+          (inr (omega arith))
+
+    -- it waits
+    module _ (set : μ (stateWord (space s)) ≡ enabling) (seen : Noticed st (S L .word) μ (space s) gs noGuard)
+        (marks : Marked (S L) b st (i .vars) (i .chans) gs μ (space s)) where
+      abbrev μ₁ : Mem
+      μ₁ = upd μ (space s) noneSelected
+
+      abbrev μ₂ : Mem
+      μ₂ = upd μ₁ (stateWord (space s)) waiting
+
+      abbrev μ₃ : Mem
+      μ₃ = upd μ₂ (resumeWord (space s)) (L .off (suc at))
+
+      abbrev asleep : World
+      asleep = stored (resumeWord (space s)) (L .off (suc at)) (stored (stateWord (space s)) waiting (stored (space s) noneSelected s))
+
+      -- what an own word's writing keeps holds after all three
+      thrice : (P : Mem → Type 0) → ((ν : Mem) (v z : ℕ) → Mine L A c v → P ν → P (upd ν v z)) → P μ → P μ₃
+      thrice P f h =
+          f μ₂ (resumeWord (space s)) (L .off (suc at)) (resume-mine L A c)
+          (f μ₁ (stateWord (space s)) waiting (state-mine L A c) (f μ (space s) noneSelected (base-mine L A c) h))
+
+      asleep-real : Real L asleep st μ₃ ws
+      asleep-real =
+          own-real L A c μ₂ (resumeWord (space s)) (L .off (suc at)) (resume-mine L A c)
+          (own-real L A c μ₁ (stateWord (space s)) waiting (state-mine L A c)
+          (own-real L A c μ (space s) noneSelected (base-mine L A c) (A .real)))
+
+      asleep-rest : Rest L st μ₃ t (Only path) ws
+      asleep-rest = thrice (λ ν. Rest L st ν t (Only path) ws) (λ ν v z h r. own-rest L A c ν v z h r) (A .rest)
+
+      asleep-state : μ₃ (stateWord (space s)) ≡ waiting
+      asleep-state =
+          upd-other μ₂ (resumeWord (space s)) (L .off (suc at)) (stateWord (space s)) (state-resume L A c)
+          ∙ upd-same μ₁ (stateWord (space s)) waiting
+
+      asleep-none : μ₃ (space s) ≡ noneSelected
+      asleep-none =
+          upd-other μ₂ (resumeWord (space s)) (L .off (suc at)) (space s) (λ e. resume-base L A c (sym e))
+          ∙ upd-other μ₁ (stateWord (space s)) waiting (space s) (λ e. state-base L A c (sym e))
+          ∙ upd-same μ (space s) noneSelected
+
+      asleep-seen : Noticed then-at (S L .word) μ₃ (space s) gs noGuard
+      asleep-seen =
+          noticed-stays (S L) b i (omega (arith, top-small L A c)) (sits-at L (A .leaf)) (calm-there μ₃) (space s + 1) (w-own L A c) (c .fine .1)
+          (thrice (λ ν. Noticed st (S L .word) ν (space s) gs noGuard) (λ ν v z h r. own-noticed L A c ν v z h r) seen)
+
+      asleep-marks : Marked (S L) b then-at (i .vars) (i .chans) gs μ₃ (space s)
+      asleep-marks =
+          marked-stays (S L) b i (omega (arith, top-small L A c)) (sits-at L (A .leaf)) (calm-there μ₃) (space s + 1) (c .fine .1)
+          (thrice (λ ν. Marked (S L) b st (i .vars) (i .chans) gs ν (space s)) (λ ν v z h r. own-marked L A c ν v z h (c .fine .1) r) marks)
+
+      asleep-held : Held (S L) b waits-as then-at μ₃ false (atAlt gs k)
+      asleep-held =
+          let e : suc at ≡ i₀ + 2 + sizeEnable gs + 1 = omega arith in
+          h-wait c
+          (record {
+            place = upd-same μ₂ (resumeWord (space s)) (L .off (suc at)) ∙ ap (L .off) e;
+            soon = omega (arith, soon-there, ap (L .off) e);
+          })
+          asleep-state asleep-none (λ d g. noticed-marked asleep-seen g) (noticed-unready asleep-seen) asleep-marks
+
+      altwt-waits : Goal (operation I.altwt)
+      unfolding functionIn operandIn
+      altwt-waits =
+          let leaf = here-then L (A .leaf) (atAlt gs k) l-alt waits-as sits-there in
+          let held = subst (λ f. Held (S L) b waits-as then-at μ₃ f (atAlt gs k)) (sym (not-queued L A c)) asleep-held in
+          let no-ready : enabling ≢ ready = λ e. omega arith in
+          step-lets-go L comes-to
+          (λ v e f. executes
+          (exec-altwt-wait (space s) (L .off (suc at)) enabling s refl (A .placed) (mine-size L A c (A .real) (base-mine L A c))
+          (mine-size L A c (A .real) (state-mine L A c)) (mirrored L (A .real) (stateWord (space s)) (mine-in L A c (state-mine L A c)) set) no-ready
+          (mine-size L A c (A .real) (resume-mine L A c)) ∙ e))
+          (silent L s asleep refl)
+          (lets-go L (A .operand) (real-state L (then-at .process) (st .store) asleep-real)
+          (rest-in L {Out′ = Nobody} leaf held (λ other d p. absurd (d p)) (rest-there asleep-rest))
+          (lined-in L {Out′ = Nobody} (λ other p. absurd p) (lined-then L (A .leaf) (atAlt gs k) l-alt waits-as sits-there refl (A .lined))))
+
+    pub does-altwt : Enabled noGuard μ → Goal (operation I.altwt)
+    does-altwt n =
+        ⊎-elim (λ m. altwt-waits (m .0) (m .1) (n .marks)) (λ m. altwt-ready (m .0) (m .1) (n .marks)) (n .state)

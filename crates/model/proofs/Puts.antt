@@ -80,14 +80,14 @@ module _ (L : Loaded) {st : State} {t : Tree (S L) (root L) (st .process)} {path
       }
 
   -- who sends
-  sender-then : (c : Site) → ((v : ℕ) (k : List Frame) → q ≡ atOutput c v k → ⊥) → Sender st c → Sender (putting path r st) c
+  pub sender-then : (c : Site) → ((v : ℕ) (k : List Frame) → q ≡ atOutput c v k → ⊥) → Sender st c → Sender (putting path r st) c
   sender-then c lost (process other {v} {k} e) =
       ⊎-elim (λ p. absurd (lost v k (some-process (sym (at .found) ∙ ap (λ z. look z (st .process)) p ∙ e))))
       (λ d. process other (look-put-other r (st .process) (leaves-apart path other (st .process) (at .found) (at .leaf) e l-output d) ∙ e))
       (same-path path other)
   sender-then c lost (outside e) = outside e
 
-  sender-before : (c : Site) → ((v : ℕ) (k : List Frame) → r ≡ atOutput c v k → ⊥) → Sender (putting path r st) c → Sender st c
+  pub sender-before : (c : Site) → ((v : ℕ) (k : List Frame) → r ≡ atOutput c v k → ⊥) → Sender (putting path r st) c → Sender st c
   sender-before c gained (process other {v} {k} e) = elim (look-after path other r (st .process) (at .found) e l-output) [
     | into rest x f ↦ absurd (gained v k (leaf-found rest r leaf f .1))
     | aside a f ↦ process other f
