@@ -32,7 +32,7 @@ use Rattle.model.proofs.Marks.{AltCode, Marked, Enabling, Enables, e-in
 use Rattle.model.proofs.Arrivals.{Sound}
 use Rattle.model.proofs.Onwards.{rest-past-input, rest-past-skip, rest-ready, rest-guarded, rest-fine, noticed-past-input, noticed-past-skip}
 use Rattle.model.proofs.Onwards.{AltGoes, noticed-unready, noticed-marked, enable-way, enable-first, disable-first}
-use Rattle.model.proofs.Trees.{Info, Sits, Tree, bytesLeft}
+use Rattle.model.proofs.Trees.{Info, Sits, Tree, bytesLeft, part-inside}
 use Rattle.model.proofs.Leaves.{upd, member, Unmarked, Held, h-wait}
 use Rattle.model.proofs.Stays.{Calm, noticed-stays, marked-stays, ready-stays}
 use Rattle.model.proofs.Effects.{cpuOf, sizeOf, stored}
@@ -176,7 +176,8 @@ module _ (L : Loaded) {s : World} {st : State} {μ : Mem} {t : Tree (S L) (root 
   pub data ChannelIs (y : Site) : Type 0 where
     is-empty : μ (S L .word y) ≡ notProcess → ChannelIs y
     is-ours : μ (S L .word y) ≡ w → ChannelIs y
-    is-sent : μ (S L .word y) ≢ notProcess → μ (S L .word y) ≢ w → (Own b (μ (S L .word y)) → ⊥) → Sender st y → ChannelIs y
+    is-sent : μ (S L .word y) ≢ notProcess → μ (S L .word y) ≢ w → (Own b (μ (S L .word y)) → ⊥) → Sender st y
+        → List·Memᴰ y (root L .outputs) → ChannelIs y
 
   -- a process's name
   named-own : {other : List ℕ} {r : Process} {d : Part} {j : Info} → LeafAt L st t other r d j → {v : ℕ} → v ≡ j .w → Own d v
@@ -193,10 +194,10 @@ module _ (L : Loaded) {s : World} {st : State} {μ : Mem} {t : Tree (S L) (root 
   module _ (y : Site) (mine : List·Memᴰ y (i .chans)) (inputs : List·Memᴰ y (b .inputs)) where
     by-holder : (Own b (μ (S L .word y)) → μ (S L .word y) ≡ w) → Holder L st μ t (Only path) ws y → ChannelIs y
     by-holder marks (holds-input k n e wt x inp free) = absurd (apart-parts L (A .leaf) k n .inputs y inputs inp)
-    by-holder marks (holds-output k n e wt out l v z) =
+    by-holder marks (holds-output {path = other} {b = d} k n e wt out l v z) =
         let theirs = named-own k (wt .here) in
         is-sent (λ f. strange-none k f theirs) (λ f. strange-w k n f theirs) (λ o. own-one L (apart-parts L (A .leaf) k n) o theirs)
-        (process _ (k .found))
+        (process _ (k .found)) (part-inside (S L) t other {b = d} (rw (k .label)) .outputs y out)
     by-holder marks (holds-wait k n e a r f v all free m g gd inp) = absurd (apart-parts L (A .leaf) k n .inputs y inputs inp)
     by-holder marks (holds-woken k n e a r f d g gd inp) = absurd (apart-parts L (A .leaf) k n .inputs y inputs inp)
     by-holder marks (holds-out k o m own) =
@@ -409,7 +410,7 @@ module _ (L : Loaded) {s : World} {st : State} {μ : Mem} {t : Tree (S L) (root 
             passes
             (executes (exec-enbc-marked (S L .word y) (space s) s a chan refl free (chan-size L A c y mine) (word-is f) (w-some L A c)))
             (λ h. (f, unsent L A c y mine inputs before-silent no-offer (inr f)))
-        enbc-free (is-sent f g o sd) =
+        enbc-free (is-sent f g o sd out) =
             enbc-ready a sd
             (executes (exec-enbc-sender (S L .word y) (space s) (μ (S L .word y)) s a chan refl free (chan-size L A c y mine) (word-is refl) f g
             (mine-size L A c (A .real) (state-mine L A c))))

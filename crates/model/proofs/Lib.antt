@@ -49,6 +49,7 @@ pub mod Finish
 pub mod Quiets
 pub mod Channels
 pub mod Alts
+pub mod Choices
 pub mod Steps
 pub mod Turns
 pub mod Memory
