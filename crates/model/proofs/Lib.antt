@@ -47,7 +47,11 @@ pub mod Sched
 pub mod Reach
 pub mod Finish
 pub mod Quiets
+pub mod Advance
+pub mod Basics
 pub mod Channels
+pub mod Meets
+pub mod Ins
 pub mod Alts
 pub mod Choices
 pub mod Steps

@@ -228,3 +228,13 @@ module _ (L : Loaded) where
       (subst (λ z. Kept (S L) t path b (relaid w n i) z) (put-found path (st .process) (at .found))
       (kept (S L) t path (at .found) (at .leaf) (at .leaf) b (relaid w n i) (rw (at .label))
       (record { placed = placed; few = few }))) out h lines
+
+  -- one that is left out is not queued
+  pub unqueued : {st : State} {t : Tree (S L) (root L) (st .process)} {Out : List ℕ → Type 0} {ws : List ℕ} {path : List ℕ} {q : Process} {b : Part}
+      {i : Info} → LeafAt L st t path q b i → Out path → Lined L st t Out ws → member (i .w) ws ≡ false
+  unqueued {Out = Out} {ws} {i = i} at out lines =
+      by-bool (member (i .w) ws)
+      (λ e. elim (lines .each (i .w) (member-in (i .w) ws e)) [
+        | whose k f n ↦ absurd (other-w at k (λ p. n (subst Out p out)) (sym f))
+      ])
+      (λ e. e)

@@ -5,7 +5,7 @@ use native.Mathlib.Decide.{ℕ-discrete}
 use mathlib.Core.Path.{_≡_, refl, sym, ap, subst, _∙_}
 use mathlib.Core.Logic.{_≢_, _⊎_, inl, inr, ⊎-elim}
 use mathlib.Core.Bool.{true, false}
-use mathlib.Core.List.{List, [], _∷_, _++_, append-nil}
+use mathlib.Core.List.{List, [], _∷_, _++_, append-nil, List·Memᴰ, Memᴰ·append-right}
 use mathlib.Core.Option.{Option, none, some}
 use Rattle.model.specs.Syntax.{Site, Stmt, SKIP, STOP, assign, input, output, VAR, CHAN, SEQ, PAR, IF, WHILE, ALT, Stmts}
 use Rattle.model.specs.Syntax.{noStmt, stmt, Guards}
@@ -13,6 +13,7 @@ use Rattle.model.specs.Scheme.{howMany}
 use Rattle.model.specs.Occam.{Frame, inSeq, inVar, inWhile, enter, enterAll, resume, begin, branches, closed}
 use Rattle.model.specs.Occam.{Process, before, atInput, atOutput, atStop, atAlt, inPar, finished, Branches, noBranch, branch, over}
 use Rattle.model.specs.Occam.{branchAt, setBranch, endBranch, allOver, branchesOf, framesOf, look, put}
+use Rattle.model.specs.Demand.{liveIn}
 use Rattle.model.proofs.Cases.{never, by-option, is-none}
 
 -- a branch that is set is the one found there
@@ -667,3 +668,74 @@ par-after path other p {q} {r} {bs} {k} e l m f = by (compare path other)
             (sym (left-set i (put rest r b) (branchesOf z)) ∙ ap left (branches-same inner))
       ]
     ]
+
+-- the live variables of a process that begins a statement, or goes on, are among those of what is around it
+mutual
+  unfolding enter enterAll
+
+  live-enter : (s : Stmt) (k : List Frame) (p : Process) (l : List Site) → ((x : Site) → List·Memᴰ x (liveIn k) → List·Memᴰ x l)
+      → ((x : Site) → List·Memᴰ x (liveIn (framesOf p)) → List·Memᴰ x l) → (x : Site) → List·Memᴰ x (liveIn (framesOf (enter s k p)))
+      → List·Memᴰ x l
+  live-enter SKIP k p l h g = h
+  live-enter STOP k p l h g = h
+  live-enter (assign x e) k p l h g = h
+  live-enter (input c x) k p l h g = h
+  live-enter (output c e) k p l h g = h
+  live-enter (VAR q n s) k p l h g = h
+  live-enter (CHAN q n s) k p l h g = h
+  live-enter (SEQ ss) k p l h g = live-all ss k p l h g
+  live-enter (PAR q ss) k p l h g = h
+  live-enter (IF ps) k p l h g = h
+  live-enter (WHILE e s) k p l h g = h
+  live-enter (ALT gs) k p l h g = h
+
+  live-all : (ss : Stmts) (k : List Frame) (p : Process) (l : List Site) → ((x : Site) → List·Memᴰ x (liveIn k) → List·Memᴰ x l)
+      → ((x : Site) → List·Memᴰ x (liveIn (framesOf p)) → List·Memᴰ x l) → (x : Site) → List·Memᴰ x (liveIn (framesOf (enterAll ss k p)))
+      → List·Memᴰ x l
+  live-all noStmt k p l h g = g
+  live-all (stmt s ss) k p l h g = live-enter s (inSeq ss ∷ k) (enterAll ss k p) l h (live-all ss k p l h g)
+
+pub live-resume : (k : List Frame) (l : List Site) → ((x : Site) → List·Memᴰ x (liveIn k) → List·Memᴰ x l) → (x : Site)
+    → List·Memᴰ x (liveIn (framesOf (resume k))) → List·Memᴰ x l
+unfolding resume
+live-resume [] l h = h
+live-resume (inSeq ss ∷ k) l h = live-all ss k (resume k) l h (live-resume k l h)
+live-resume (inVar xs ∷ k) l h = live-resume k l (λ x m. h x (Memᴰ·append-right xs m))
+live-resume (inWhile e s ∷ k) l h = h
+
+pub live-begin : (s : Stmt) (k : List Frame) (l : List Site) → ((x : Site) → List·Memᴰ x (liveIn k) → List·Memᴰ x l) → (x : Site)
+    → List·Memᴰ x (liveIn (framesOf (begin s k))) → List·Memᴰ x l
+live-begin s k l h = live-enter s k (resume k) l h (live-resume k l h)
+
+-- they are no outputs
+mutual
+  unfolding enter enterAll
+
+  silent-enter : (s : Stmt) (k : List Frame) {p : Process} {c : Site} {v : ℕ} {f : List Frame} → p ≢ atOutput c v f → enter s k p ≢ atOutput c v f
+  silent-enter SKIP k n e = never (cc)
+  silent-enter STOP k n e = never (cc)
+  silent-enter (assign x y) k n e = never (cc)
+  silent-enter (input d x) k n e = never (cc)
+  silent-enter (output d y) k n e = never (cc)
+  silent-enter (VAR q m s) k n e = never (cc)
+  silent-enter (CHAN q m s) k n e = never (cc)
+  silent-enter (SEQ ss) k n e = silent-all ss k n e
+  silent-enter (PAR q ss) k n e = never (cc)
+  silent-enter (IF ps) k n e = never (cc)
+  silent-enter (WHILE y s) k n e = never (cc)
+  silent-enter (ALT gs) k n e = never (cc)
+
+  silent-all : (ss : Stmts) (k : List Frame) {p : Process} {c : Site} {v : ℕ} {f : List Frame} → p ≢ atOutput c v f
+      → enterAll ss k p ≢ atOutput c v f
+  silent-all noStmt k n e = n e
+  silent-all (stmt s ss) k n e = silent-enter s (inSeq ss ∷ k) (silent-all ss k n) e
+
+pub silent-resume : (k : List Frame) {c : Site} {v : ℕ} {f : List Frame} → resume k ≢ atOutput c v f
+unfolding resume
+silent-resume [] e = never (cc)
+silent-resume (inSeq ss ∷ k) e = silent-all ss k (silent-resume k) e
+silent-resume (inVar xs ∷ k) e = silent-resume k e
+silent-resume (inWhile x s ∷ k) e = never (cc)
+
+pub silent-begin : (s : Stmt) (k : List Frame) {c : Site} {v : ℕ} {f : List Frame} → begin s k ≢ atOutput c v f
+silent-begin s k e = silent-enter s k (silent-resume k) e

@@ -4,13 +4,15 @@ use native.Mathlib.Omega.{arith}
 use native.Mathlib.Decide.{ℕ-discrete}
 use mathlib.Core.Path.{_≡_, refl, sym, ap, _∙_, subst}
 use mathlib.Core.Logic.{_≢_, _⊎_, inl, inr, ⊎-elim}
-use mathlib.Core.Bool.{Bool, true, false}
+use mathlib.Core.Bool.{Bool, true, false, cond}
 use mathlib.Core.List.{List, [], _∷_, _++_, List·Memᴰ}
 use mathlib.Core.Option.{Option, none, some}
 use lib.ListN.{length, getD, set, length-set}
 use lib.Seq.{getD-set-same, getD-set-other}
+use lib.Dec.{eqb}
+use borrow.Author.Tests.{eq-eqb, ne-eqb}
 use Rattle.model.specs.Syntax.{Site}
-use Rattle.model.specs.Machine.{World, withCpu, withMemory, linkWord, memorySize}
+use Rattle.model.specs.Machine.{Talk, World, withCpu, withMemory, withOffers, linkWord, memorySize}
 use Rattle.model.specs.Occam.{Store, Process, State}
 use Rattle.model.specs.declared.Cpu.{Cpu}
 use Rattle.model.specs.declared.Setup.{Setup}
@@ -160,3 +162,45 @@ module _ (L : Loaded) where
         offers = λ n h. offer-world refl refl (r .offers n h);
         beyond = r .beyond;
       }
+
+  -- a communication is of no word
+  pub real-talk : {s : World} {st : State} {μ : Mem} {ws : List ℕ} (l : List Talk) → Real L s st μ ws
+      → Real L (record { machine = s .machine; memory = s .memory; talk = l }) st μ ws
+  real-talk {s} {ws = ws} l r =
+      record {
+        setup-kept = r .setup-kept;
+        no-fault = r .no-fault;
+        room = r .room;
+        mirror = r .mirror;
+        queue = queue-same (record { machine = s .machine; memory = s .memory; talk = l }) refl refl refl (λ v m. refl) (r .queue);
+        eight = r .eight;
+        offers = λ n h. offer-world refl refl (r .offers n h);
+        beyond = r .beyond;
+      }
+
+  -- an offer that is held no more
+  abbrev pub withoutOffer : ℕ → (ℕ → Option ℕ) → ℕ → Option ℕ
+  withoutOffer n o = λ j. cond (eqb j n) none (o j)
+
+  pub real-dropped : {s : World} {st : State} {μ : Mem} {ws : List ℕ} (n : ℕ) → n < L .prog .inputs → Real L s st μ ws
+      → Real L (withOffers (s .machine .offers) (set (s .machine .held) n false) s)
+      (record { process = st .process; store = st .store; offers = withoutOffer n (st .offers) }) μ ws
+  real-dropped {s} {st} n h r =
+      record {
+        setup-kept = r .setup-kept;
+        no-fault = r .no-fault;
+        room = r .room;
+        mirror = r .mirror;
+        queue = queue-same (withOffers (s .machine .offers) (set (s .machine .held) n false) s) refl refl refl (λ v m. refl) (r .queue);
+        eight = (r .eight .0, length-set (s .machine .held) n false ∙ r .eight .1);
+        offers = λ k l. by k (ℕ-discrete k n) (r .offers k l);
+        beyond = λ k l. rw (ne-eqb k n (λ e. absurd (omega arith))) (r .beyond k l);
+      }
+    where
+      by : (k : ℕ) → Dec (k ≡ n) → Offer L s st k → Offer L (withOffers (s .machine .offers) (set (s .machine .held) n false) s)
+          (record { process = st .process; store = st .store; offers = withoutOffer n (st .offers) }) k
+      by k (yes e) o =
+          no-offer (rw e (getD-set-same (s .machine .held) n false false (omega (arith, r .eight .1, L .few-inputs)))) (rw (eq-eqb k n e))
+      by k (no e) (no-offer f g) = no-offer (getD-set-other (s .machine .held) n k false false e ∙ f) (rw (ne-eqb k n e) g)
+      by k (no e) (held-offer v m f g z) =
+          held-offer v m (getD-set-other (s .machine .held) n k false false e ∙ f) g (rw (ne-eqb k n e) z)

@@ -26,7 +26,7 @@ use Rattle.model.proofs.Trees.{some-same, Label, alone, parted, alone-i
 use Rattle.model.proofs.Zones.{Zone, zoneOf, Within, Distant, zones-distant, zone-under, Differ, names-differ}
 use Rattle.model.proofs.Leaves.{upd, member, Held}
 use Rattle.model.proofs.Stays.{Calm, held-stays}
-use Rattle.model.proofs.Kernel.{Loaded, S, root, LeafAt, NodeAt, Owned, owned, Rest}
+use Rattle.model.proofs.Kernel.{Loaded, S, root, LeafAt, NodeAt, Owned, owned, Rest, Whose, whose, Lined}
 
 pub upd-same : (μ : Mem) (v z : ℕ) → upd μ v z v ≡ z
 upd-same μ v z = rw (eq-eqb v v refl)
@@ -77,6 +77,13 @@ module _ (L : Loaded) where
 
     before-leaf : {path : List ℕ} {q : Process} {b : Part} {i : Info} → LeafAt L (changed σ o st) t path q b i → LeafAt L st t path q b i
     before-leaf h = record { found = h .found; leaf = h .leaf; label = h .label }
+
+    pub after-leaf : {path : List ℕ} {q : Process} {b : Part} {i : Info} → LeafAt L st t path q b i → LeafAt L (changed σ o st) t path q b i
+    after-leaf h = record { found = h .found; leaf = h .leaf; label = h .label }
+
+    pub after-lined : {Out : List ℕ → Type 0} {ws : List ℕ} → Lined L st t Out ws → Lined L (changed σ o st) t Out ws
+    after-lined h =
+        record { each = λ w m. elim (h .each w m) [ whose k e n ↦ whose (after-leaf k) e n ]; once = h .once }
 
     before-node : {path : List ℕ} {l : Label} → NodeAt L (changed σ o st) t path l → NodeAt L st t path l
     before-node h = record { label = h .label }
