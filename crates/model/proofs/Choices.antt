@@ -14,32 +14,41 @@ use Rattle.model.specs.Instruction.{ldc, Instruction, plain, distance, o
 use Rattle.model.specs.Instruction as I
 use Rattle.model.specs.Code.{functionIn, operandIn}
 use Rattle.model.specs.Scheme.{size, sizeEnable, codeDisable}
-use Rattle.model.specs.Machine.{World, done, withCpu, isHeld}
+use Rattle.model.specs.Machine.{World, done, withCpu, goto, isHeld}
 use Rattle.model.specs.Execute.{noneSelected}
-use Rattle.model.specs.Occam.{Store, value, isTrue, Frame, Process, before, atAlt, State, Sender}
+use Rattle.model.specs.Occam.{Store, value, isTrue, Frame, Process, before, atAlt, framesOf, begin, State, Sender, chooses}
+use Rattle.model.specs.Demand.{liveIn}
 use Rattle.model.proofs.Cases.{never}
 use Rattle.model.proofs.Ways.{Regs, regsOf, Mem}
 use Rattle.model.proofs.Expr.{Seg}
 use Rattle.model.proofs.Points.{Setting, whole, At}
-use Rattle.model.proofs.Parts.{Part, FineGuards}
+use Rattle.model.proofs.Arrive.{rises-le}
+use Rattle.model.proofs.Paths.{Leaf, leaf-begin, live-begin, silent-begin}
+use Rattle.model.proofs.Parts.{Part, Within, FineGuards}
 use Rattle.model.proofs.Marks.{Own, Ready, r-input, r-skip, r-past-input, r-past-skip, Picks, p-input, p-skip, Rest as Guards-rest}
-use Rattle.model.proofs.Marks.{Guarded, g-here, g-past-input, g-past-skip, AltCode, Marked, Disabling}
-use Rattle.model.proofs.Onwards.{AltGoes, rest-picks, rest-past-input, rest-past-skip, disable-way}
-use Rattle.model.proofs.Trees.{Info, Tree, bytesLeft}
-use Rattle.model.proofs.Leaves.{upd}
+use Rattle.model.proofs.Marks.{p-past-input, p-past-skip, Guarded, g-here, g-past-input, g-past-skip, AltCode, Marked, Enabling, Enables}
+use Rattle.model.proofs.Marks.{e-input, e-skip, Disabling, Disables, d-input, d-skip, AltPoint, pt-enable, pt-wait, pt-disable, pt-choose}
+use Rattle.model.proofs.Arrivals.{Comes, comes}
+use Rattle.model.proofs.Onwards.{picks-choice, rest-picks, rest-past-input, rest-past-skip, disable-way, branch-comes}
+use Rattle.model.proofs.Trees.{some-same, Info, Tree, bytesLeft}
+use Rattle.model.proofs.Leaves.{upd, Unmarked}
 use Rattle.model.proofs.Effects.{cpuOf, sizeOf, stored}
 use Rattle.model.proofs.Acts.{disabled, exec-disc-off, exec-disc-held-first, exec-disc-held-later, exec-disc-empty, exec-disc-marked}
-use Rattle.model.proofs.Acts.{exec-disc-sender-first, exec-disc-sender-later, unskipped, exec-diss-off, exec-diss-first, exec-diss-later}
+use Rattle.model.proofs.Acts.{exec-altend, exec-disc-sender-first, exec-disc-sender-later, unskipped, exec-diss-off, exec-diss-first, exec-diss-later}
 use Rattle.model.proofs.Kernel.{Loaded, S, root, LeafAt, Rest, Real}
 use Rattle.model.proofs.Writes.{upd-same, upd-other, node}
 use Rattle.model.proofs.Grounds.{chan-in, sound-at}
 use Rattle.model.proofs.Running.{Only, Did, Executes, executes, Acting}
 use Rattle.model.proofs.Reals.{mirrored, real-cpu}
-use Rattle.model.proofs.Finish.{alt-goes-on}
+use Rattle.model.proofs.Moving.{relaid}
+use Rattle.model.proofs.Reach.{point-in, way-inside}
+use Rattle.model.proofs.Finish.{alt-goes-on, silent}
+use Rattle.model.proofs.Quiets.{target}
+use Rattle.model.proofs.Advance.{advances}
 use Rattle.model.proofs.Channels.{HeldAt, held-at, not-held, held-here}
-use Rattle.model.proofs.Alts.{true-when, false-when, alt-silent, offer-sends, space, w-some, base-mine, mine-in, mine-size, top-small, chan-off}
+use Rattle.model.proofs.Alts.{true-when, false-when, alt-silent, offer-sends, space, w-some, base-mine, mine-in, mine-size, placed, chan-off}
 use Rattle.model.proofs.Alts.{own-rest, own-real, own-chan, own-marked, fine-rest, ChannelIs, is-empty, is-ours, is-sent, strange-none}
-use Rattle.model.proofs.Alts.{strange-w, channel-is, unsent, chan-real, chan-rest, chan-size}
+use Rattle.model.proofs.Alts.{strange-w, channel-is, unsent, chan-real, chan-rest, chan-size, does-enbc, does-enbs, does-altwt}
 
 -- a guarded channel that is not the first guard's is one of the rest
 past-guard : {σ : Store} {e : Whole} {d y z : Site} {g : Stmt} {hs : Guards} → Guarded σ d (inputGuard e y z g hs)
@@ -60,6 +69,32 @@ past-skip-ready : {st : State} {e : Whole} {g : Stmt} {hs : Guards} → Ready st
     → Ready st hs
 past-skip-ready (r-skip h) f = absurd (f h)
 past-skip-ready (r-past-skip h) f = h
+
+-- no guard is left
+unguarded : {σ : Store} {d : Site} → Guarded σ d noGuard → ⊥
+unguarded h = elim h [ ]
+
+unready : {st : State} → Ready st noGuard → ⊥
+unready h = elim h [ ]
+
+-- a picked branch is behind the first, and begins a statement
+picks-behind : {st : State} {k : List Frame} {gs : Guards} {b m : ℕ} {p : Process} → Picks st k gs b m p → b ≤ m
+picks-behind (p-input h sd) = omega arith
+picks-behind (p-skip h) = omega arith
+picks-behind (p-past-input h) = omega (arith, picks-behind h)
+picks-behind (p-past-skip h) = omega (arith, picks-behind h)
+
+picks-begins : {st : State} {k : List Frame} {gs : Guards} {b m : ℕ} {p : Process} → Picks st k gs b m p → (g : Stmt) × (p ≡ begin g k)
+picks-begins (p-input h sd) = (_, refl)
+picks-begins (p-skip h) = (_, refl)
+picks-begins (p-past-input h) = picks-begins h
+picks-begins (p-past-skip h) = picks-begins h
+
+-- where a process is led from is in the code, or at its end
+comes-inside : (S : Setting) (a : Part) {σ : Store} {vars chans : List Site} {hi : ℕ} {p : Process} {m w : ℕ}
+    → Comes S a σ vars chans hi p m w → m ≤ length (S .xs)
+comes-inside S a {w = w} (comes sk settled sub way) =
+    way-inside S (point-in S a) (way (λ v. 0) (record { a = 0; b = 0; c = 0; w = w }) refl)
 
 module _ (L : Loaded) {s : World} {st : State} {μ : Mem} {t : Tree (S L) (root L) (st .process)} {path : List ℕ} {b : Part} {i : Info}
     {ws : List ℕ} {at hi : ℕ} {gs : Guards} {k : List Frame} (A : Acting L s st μ t path (atAlt gs k) b i (Only path) ws at hi)
@@ -336,3 +371,89 @@ module _ (L : Loaded) {s : World} {st : State} {μ : Mem} {t : Tree (S L) (root 
         by (yes f) d = diss-off f
         by (no f) (yes d) = diss-first f d
         by (no f) (no d) = diss-later f d
+
+  -- ALTEND: the process goes on in the chosen branch
+  module _ (here : at ≡ c .choice) (n : Disabled noGuard μ) where
+    clean : Unmarked (S L) b i st μ
+    clean d l o = unguarded (n .marks d l o .1)
+
+    module _ {m : ℕ} {p : Process} (pick : Picks st k gs (c .choice + 1) m p)
+        (word : μ (space s) ≡ operandIn (L .off) (distance ldc m (c .choice))) where
+      led : Comes (S L) b (st .store) (i .vars) (i .chans) hi₀ p m (space s)
+      led = branch-comes (S L) b st (space s) c (sound-at L (A .rest) (A .leaf)) pick
+
+      inner : m ≤ length (S L .xs)
+      inner = comes-inside (S L) b led
+
+      abbrev chosen-world : World
+      chosen-world = withCpu (goto (low (L .off (suc at) + operandIn (L .off) (distance ldc m (c .choice)))) (cpuOf s)) s
+
+      did-altend : Executes L (operation I.altend) s chosen-world
+      unfolding functionIn operandIn
+      did-altend =
+          executes
+          (exec-altend (space s) (L .off (suc at)) (operandIn (L .off) (distance ldc m (c .choice))) s refl (A .placed)
+          (mine-size L A c (A .real) (base-mine L A c)) (mirrored L (A .real) (space s) (mine-in L A c (base-mine L A c)) word))
+
+      reaches : cpuOf chosen-world .place ≡ L .off m
+      unfolding operandIn
+      reaches =
+          ap (λ z. low (L .off (suc at) + less (L .off m) (L .off (suc z)))) (sym here)
+          ∙ ap (λ z. low (z + less (L .off m) (L .off (suc at)))) (sym (A .placed))
+          ∙ target L A m inner
+
+      altend-goes : Goal (operation I.altend)
+      altend-goes =
+          let (g, f) = picks-begins pick in
+          let j = relaid (space s) (whole (S L)) i in
+          advances L (real-cpu L (cpuOf chosen-world) refl refl refl (A .real)) (A .leaf) (A .rest) (A .lined) clean alt-silent
+          p (subst Leaf (sym f) (leaf-begin g k)) j (placed L A c) (omega arith) (A .rest .vars (node L (A .leaf)))
+          (A .rest .chans (node L (A .leaf)))
+          (subst (λ z. Within (liveIn (framesOf z)) (i .vars)) (sym f) (live-begin g k (i .vars) (A .rest .live (A .leaf))))
+          (λ d v l e. silent-begin g k (sym f ∙ e))
+          (chooses path (A .leaf .found) (picks-choice pick)) did-altend (silent L s chosen-world refl)
+          (record { run = A .run; operand = A .operand; place = reaches; work = refl; inside = inner }) led clean
+          (omega (arith, c .near, c .choice-is, picks-behind pick, rises-le (S L) i₀ m (omega (arith, c .choice-is, picks-behind pick)) inner))
+
+    pub does-altend : Goal (operation I.altend)
+    does-altend = ⊎-elim (λ h. let (m, p, pick, word) = h in altend-goes pick word) (λ h. absurd (unready (h .1))) (n .chosen)
+
+-- the instruction at an index is the one that executes
+same-does : (L : Loaded) (at : ℕ) {s : World} {st : State} {n : ℕ} {x y : Instruction} → At (S L) at x → At (S L) at y
+    → Did L (Executes L y s) s st n → Did L (Executes L x s) s st n
+same-does L at {s} {st} {n} e f h = subst (λ z. Did L (Executes L z s) s st n) (some-same (sym f ∙ e)) h
+
+module _ (L : Loaded) {s : World} {st : State} {μ : Mem} {t : Tree (S L) (root L) (st .process)} {path : List ℕ} {b : Part} {i : Info}
+    {ws : List ℕ} {at hi : ℕ} {gs : Guards} {k : List Frame} where
+  -- ENBC or ENBS
+  enable-point : Acting L s st μ t path (before (ALT gs) k) b i (Only path) ws at hi → {x : Instruction} → At (S L) at x → {hi₀ i₀ : ℕ}
+      → AltCode (S L) b gs (i .vars) (i .chans) k hi₀ i₀ (space s + 1) → hi₀ ≤ hi → {hs : Guards}
+      → Enabling (S L) b st (i .vars) (i .chans) gs hs μ (space s)
+      → Enables (S L) b st (i .vars) (i .chans) hs at (regsOf (cpuOf s)) (i₀ + 2 + sizeEnable gs)
+      → Did L (Executes L x s) s st (bytesLeft (S L) t)
+  enable-point A here c near n (e-input {e} {c = y} {x = z} {s = g} {gs = hs} f val chan code) =
+      same-does L at here f (does-enbc L A c e y z g hs near n val chan code)
+  enable-point A here c near n (e-skip {e} {s = g} {gs = hs} f val code) = same-does L at here f (does-enbs L A c e g hs near n val code)
+
+  -- DISC or DISS
+  disable-point : ((l : ℕ) → List·Memᴰ (inputOf l) (root L .outputs) → ⊥) → Acting L s st μ t path (atAlt gs k) b i (Only path) ws at hi
+      → {x : Instruction} → At (S L) at x → {hi₀ i₀ : ℕ} (c : AltCode (S L) b gs (i .vars) (i .chans) k hi₀ i₀ (space s + 1)) → hi₀ ≤ hi
+      → {hs : Guards} {m : ℕ} → Guards-rest gs (c .choice + 1) hs m
+      → Disabling (S L) b st (i .vars) (i .chans) k gs hs (c .choice) μ (space s)
+      → Disables (S L) b st (i .vars) (i .chans) hs (c .choice) m at (regsOf (cpuOf s)) (c .choice)
+      → Did L (Executes L x s) s st (bytesLeft (S L) t)
+  disable-point one-way A here c near past n (d-input {e} {c = y} {x = z} {s = g} {gs = hs} f branch val chan code) =
+      same-does L at here f (does-disc L A c e y z g hs near past n branch val chan code one-way)
+  disable-point one-way A here c near past n (d-skip {e} {s = g} {gs = hs} f branch val code) =
+      same-does L at here f (does-diss L A c e g hs near past n branch val code)
+
+-- every significant instruction of an ALT behind its first
+pub alt-point : (L : Loaded) → ((l : ℕ) → List·Memᴰ (inputOf l) (root L .outputs) → ⊥) → {s : World} {st : State} {μ : Mem}
+    {t : Tree (S L) (root L) (st .process)} {path : List ℕ} {q : Process} {b : Part} {i : Info} {ws : List ℕ} {at hi : ℕ}
+    → Acting L s st μ t path q b i (Only path) ws at hi → {x : Instruction} → At (S L) at x
+    → AltPoint (S L) b st (i .vars) (i .chans) q hi μ at (regsOf (cpuOf s)) → Did L (Executes L x s) s st (bytesLeft (S L) t)
+alt-point L one-way A here (pt-enable c near n p) = enable-point L A here c near n p
+alt-point L one-way A here (pt-wait {gs} {i = i₀} c n) =
+    same-does L (i₀ + 2 + sizeEnable gs) here (c .waits) (does-altwt L A c refl n)
+alt-point L one-way A here (pt-disable c near past n p) = disable-point L one-way A here c near past n p
+alt-point L one-way A here (pt-choose c n) = same-does L (c .choice) here (c .ends) (does-altend L A c refl n)
