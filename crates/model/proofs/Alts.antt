@@ -17,7 +17,7 @@ use Rattle.model.specs.Code.{functionIn, operandIn}
 use Rattle.model.specs.Scheme.{sizeEnable, codeEnable}
 use Rattle.model.specs.Machine.{World, withCpu, withMemory, stack, resumeWord, stateWord, isHeld}
 use Rattle.model.specs.Execute.{enabling, waiting, ready, noneSelected}
-use Rattle.model.specs.Occam.{Store, value, isTrue, Frame, Process, before, atOutput, atAlt, look, State, Sender, process, outside}
+use Rattle.model.specs.Occam.{Store, value, isTrue, Frame, Process, before, atAlt, look, State, Sender, process, outside}
 use Rattle.model.specs.Occam.{Step, begins, go}
 use Rattle.model.specs.Demand.{step}
 use Rattle.model.proofs.Cases.{never}
@@ -233,8 +233,8 @@ module _ (L : Loaded) {s : World} {st : State} {μ : Mem} {t : Tree (S L) (root 
       → Did L (Executes L x s) s st (bytesLeft (S L) t)
   onward f g h {l} ran m way =
       let r = stack f g h (cpuOf s) in
-      alt-goes-on L A (withCpu r (withMemory l s)) ran refl (real-cpu L r refl refl refl (m .real)) (A .run) (A .operand) (m .rest) (A .lined)
-      (suc at) hi (A .placed) (A .inside) (omega arith) way
+      alt-goes-on L A (withCpu r (withMemory l s)) ran refl (real-cpu L r refl refl refl (m .real)) (A .run) (A .operand) (m .rest)
+      (A .lined) (suc at) hi (A .placed) (A .inside) (omega arith) way
 
   -- the guards are fine
   pub fine-rest : {hs : Guards} {m n : ℕ} → RestOf gs m hs n → FineGuards (S L .word) b (i .vars) (i .chans) (w + 1) hs

@@ -33,7 +33,7 @@ use Rattle.model.proofs.Arrivals.{Comes, comes}
 use Rattle.model.proofs.Onwards.{picks-choice, rest-picks, rest-past-input, rest-past-skip, disable-way, branch-comes}
 use Rattle.model.proofs.Trees.{some-same, Info, Tree, bytesLeft}
 use Rattle.model.proofs.Leaves.{upd, Unmarked}
-use Rattle.model.proofs.Effects.{cpuOf, stored}
+use Rattle.model.proofs.Effects.{cpuOf}
 use Rattle.model.proofs.Acts.{disabled, exec-disc-off, exec-disc-held-first, exec-disc-held-later, exec-disc-empty}
 use Rattle.model.proofs.Acts.{exec-disc-marked, exec-disc-sender-first, exec-disc-sender-later, unskipped, exec-diss-off}
 use Rattle.model.proofs.Acts.{exec-diss-first, exec-diss-later, exec-altend}
@@ -48,10 +48,10 @@ use Rattle.model.proofs.Finish.{silent}
 use Rattle.model.proofs.Quiets.{target}
 use Rattle.model.proofs.Advance.{advances}
 use Rattle.model.proofs.Channels.{HeldAt, held-at, not-held, held-here}
-use Rattle.model.proofs.Alts.{true-when, false-when, alt-silent, offer-sends, space, w-some, base-mine, mine-size, mine-holds, placed}
-use Rattle.model.proofs.Alts.{chan-off, chan-size, chan-holds, none-own, Free, free-none, free-w, Shows, shown, own-write, chan-write}
-use Rattle.model.proofs.Alts.{own-chan, onward, fine-rest, ChannelIs, is-empty, is-ours, is-sent, channel-is, unsent, does-enbc}
-use Rattle.model.proofs.Alts.{does-enbs, does-altwt}
+use Rattle.model.proofs.Alts.{true-when, false-when, alt-silent, offer-sends, space, w-some, base-mine, mine-size, mine-holds}
+use Rattle.model.proofs.Alts.{placed, chan-off, chan-size, chan-holds, none-own, Free, free-none, free-w, Shows, shown, own-write}
+use Rattle.model.proofs.Alts.{chan-write, own-chan, onward, fine-rest, ChannelIs, is-empty, is-ours, is-sent, channel-is, unsent}
+use Rattle.model.proofs.Alts.{does-enbc, does-enbs, does-altwt}
 
 -- a guarded channel, or a ready guard, that is not the first guard's is one of the rest
 past-guard : {σ : Store} {e : Whole} {d y z : Site} {g : Stmt} {hs : Guards} → Guarded σ d (inputGuard e y z g hs)
@@ -142,9 +142,9 @@ module _ (L : Loaded) {s : World} {st : State} {μ : Mem} {t : Tree (S L) (root 
   kept-choosing m = own-chan L A c μ (space s) (far m) (base-mine L A c)
 
   -- DISC of a guard
-  module _ (e : Whole) (y z : Site) (g : Stmt) (hs : Guards) {m : ℕ} (near : hi₀ ≤ hi) (past : RestOf gs (c .choice + 1) (inputGuard e y z g hs) m)
-      (n : Disabled (inputGuard e y z g hs) μ) (branch : cpuOf s .a ≡ far m) (val : cpuOf s .b ≡ value (st .store) e)
-      (chan : cpuOf s .c ≡ S L .word y)
+  module _ (e : Whole) (y z : Site) (g : Stmt) (hs : Guards) {m : ℕ} (near : hi₀ ≤ hi)
+      (past : RestOf gs (c .choice + 1) (inputGuard e y z g hs) m) (n : Disabled (inputGuard e y z g hs) μ)
+      (branch : cpuOf s .a ≡ far m) (val : cpuOf s .b ≡ value (st .store) e) (chan : cpuOf s .c ≡ S L .word y)
       (code : Seg (S L .xs) (suc at) (codeDisable (S L .word) (space s) (c .choice) (m + 1 + 4 + size g + 1) hs) (c .choice)) where
     mine : List·Memᴰ y (i .chans)
     mine = fine-rest L A c past .2
@@ -267,7 +267,8 @@ module _ (L : Loaded) {s : World} {st : State} {μ : Mem} {t : Tree (S L) (root 
         disc-free no-offer d (is-ours f) =
             disc-on 0 (emptied μ)
             (executes
-            (exec-disc-marked (S L .word y) (space s) s on chan refl held (chan-size L A c y mine) (chan-holds L A c y mine f) (w-some L A c)))
+            (exec-disc-marked (S L .word y) (space s) s on chan refl held (chan-size L A c y mine) (chan-holds L A c y mine f)
+            (w-some L A c)))
             (clears (λ d l. refl) (free-w L A c f) (shown L A c)) (marks-gone μ (λ d l. refl))
             (chosen-past (emptied μ) (base-off μ) (λ h. unsent L A c y mine inputs alt-silent no-offer (inr f)))
         disc-free no-offer d (is-sent f h o sd out) = disc-sent f h o sd d
