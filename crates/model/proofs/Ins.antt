@@ -54,7 +54,7 @@ use Rattle.model.proofs.Channels.{HeldAt, held-at, not-held, held-here}
 use Rattle.model.proofs.Meets.{Both, not-own, resumed, clear-chan, mark-chan, chan-above, rest-below, real-below, partner-goes}
 use Rattle.model.proofs.Moving.{same-leaf, rest-out, lined-out}
 
-output-channel : {c d : Site} {v w : ℕ} {k l : List Frame} → atOutput c v k ≡ atOutput d w l → c ≡ d
+pub output-channel : {c d : Site} {v w : ℕ} {k l : List Frame} → atOutput c v k ≡ atOutput d w l → c ≡ d
 output-channel e = cc
 
 module _ (L : Loaded) {s : World} {st : State} {μ : Mem} {t : Tree (S L) (root L) (st .process)} {path : List ℕ} {c x : Site} {k : List Frame}

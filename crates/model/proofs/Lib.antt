@@ -52,6 +52,7 @@ pub mod Basics
 pub mod Channels
 pub mod Meets
 pub mod Ins
+pub mod Outs
 pub mod Alts
 pub mod Choices
 pub mod Steps

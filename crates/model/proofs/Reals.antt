@@ -26,6 +26,8 @@ use Rattle.model.proofs.Queues.{Queue, LinksIn, queue-cpu, queue-stored
 use Rattle.model.proofs.Kernel.{Loaded, S, root, size, LeafAt, Rest, Whose, whose, Lined, Real, Offer, no-offer, held-offer}
 use Rattle.model.proofs.Writes.{upd-same, upd-other, node, apart-zones, part-small, sits-at}
 use Rattle.model.proofs.Grounds.{small-size}
+use Rattle.model.proofs.Paths.{same-path}
+use Rattle.model.proofs.Moving.{same-leaf}
 
 module _ (L : Loaded) where
   -- the machine's memory is as large as the program's
@@ -107,6 +109,16 @@ module _ (L : Loaded) where
     pub links-in : (w : ℕ) → List·Memᴰ w ws → linkWord w < size L
     links-in w m = elim (lines .each w m) [
       | whose k e n ↦ let p = link-word k e in omega (arith, p .1, part-small L k)
+    ]
+
+    -- a word of a process that is not its link word
+    pub link-any : {path : List ℕ} {q : Process} {b : Part} {i : Info} → LeafAt L st t path q b i → (v : ℕ) → b .bottom ≤ v → v < b .top
+        → v ≢ linkWord (i .w) → (w : ℕ) → List·Memᴰ w ws → linkWord w ≢ v
+    link-any {path} {i = i} at v lo hi n w m f = elim (lines .each w m) [
+      | whose {path = other} k e o ↦
+          let p = link-word k e in
+          ⊎-elim (λ z. n (sym f ∙ ap linkWord (sym (same-leaf L (λ q b (j : Info). j .w ≡ w) (sym z) k at e))))
+          (λ z. apart-zones L z (node L at) (node L k) .words (linkWord w) (omega (arith, f), omega (arith, f)) p) (same-path path other)
     ]
 
     -- so no word of a process that is left out is one, and no name
