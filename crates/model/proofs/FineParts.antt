@@ -5,18 +5,19 @@ use mathlib.Core.Path.{_≡_, refl, ap, _∙_}
 use mathlib.Core.Logic.{inr, ⊎-elim}
 use mathlib.Core.Bool.{false}
 use mathlib.Core.List.{List, [], _++_, List·Memᴰ, List·Memᴰ·append-cases, Memᴰ·append-left, Memᴰ·append-right, List·Memᴰ·not-nil}
-use mathlib.Core.List.{List·Memᴰ·head, List·Memᴰ·tail}
+use mathlib.Core.List.{List·Memᴰ·head, List·Memᴰ·tail, List·Memᴰ·eq-of-singleton}
 use mathlib.Core.Option.{none}
 use Rattle.model.specs.Syntax.{Site, inputOf, outputOf, declared, Expr, constant, variable, NOT, binary, Whole, Stmt, SKIP, STOP}
 use Rattle.model.specs.Syntax.{assign, input, output, VAR, CHAN, SEQ, PAR, IF, WHILE, ALT, Stmts, noStmt, stmt, Pairs, noPair, pair}
 use Rattle.model.specs.Syntax.{Guards, noGuard, inputGuard, skipGuard, Program}
-use Rattle.model.specs.Reader.{Scope, names, numbered, withVariables, withChannels, program}
+use Rattle.model.specs.Reader.{Scope, canOutput, names, numbered, withVariables, withChannels, program}
 use Rattle.model.specs.Usage.{Usage, _⊕_, reads, reading, changing, inputting, usage, usageAll, usagePairs, usageGuards, clash}
 use Rattle.model.specs.Usage.{clashesLater, anyClash, firstClash, firstClashAll, firstClashPairs, firstClashGuards}
 use Rattle.model.specs.Counts.{registers, need, mostNeed, sumNeed, pairNeed, guardNeed, firstDeep, firstDeepAll, firstDeepPairs}
 use Rattle.model.specs.Counts.{firstDeepGuards}
 use Rattle.model.specs.Layout.{base, wordOf, workspaceOf, layout}
 use Rattle.model.specs.Accept.{accept}
+use Rattle.model.proofs.Cases.{never}
 use Rattle.model.proofs.Well.{WellExpr, Well, WellAll, WellPairs, WellGuards, WellProgram, outermost, Placed, PlacedAll}
 use Rattle.model.proofs.Well.{PlacedPairs, PlacedGuards, Laid, LaidAll, LaidBranches, LaidPairs, LaidGuards}
 use Rattle.model.proofs.Readers.{read-well}
@@ -407,3 +408,43 @@ pub accepted-fine : (table : List ℕ) (p : Program) → accept table ≡ progra
 accepted-fine table p h =
     let (well, places) = read-well table p (accept-reads table p h) in
     program-fine p _ well places (accept-passed table p h)
+
+-- no statement outputs to an outside input
+mutual
+  unfolding usage usageAll usagePairs usageGuards
+
+  outputs-on : (s : Stmt) (sc : Scope) (l : ℕ) → Well sc s → List·Memᴰ (inputOf l) (usage s .outputs) → ⊥
+  outputs-on SKIP sc l h m = List·Memᴰ·not-nil m
+  outputs-on STOP sc l h m = List·Memᴰ·not-nil m
+  outputs-on (assign x e) sc l h m = List·Memᴰ·not-nil m
+  outputs-on (input c x) sc l h m = List·Memᴰ·not-nil m
+  outputs-on (output c e) sc l h m = never (cc (ap canOutput (List·Memᴰ·eq-of-singleton m), h .0 .1))
+  outputs-on (VAR p n s) sc l h m = outputs-on s (withVariables p n sc) l (h .2) m
+  outputs-on (CHAN p n s) sc l h m = outputs-on s (withChannels p n sc) l (h .2) m
+  outputs-on (SEQ ss) sc l h m = outputs-all ss sc l h m
+  outputs-on (PAR p ss) sc l h m = outputs-all ss sc l (h .1) m
+  outputs-on (IF ps) sc l h m = outputs-pairs ps sc l h m
+  outputs-on (WHILE e s) sc l h m = outputs-on s sc l (h .1) m
+  outputs-on (ALT gs) sc l h m = outputs-guards gs sc l h m
+
+  outputs-all : (ss : Stmts) (sc : Scope) (l : ℕ) → WellAll sc ss → List·Memᴰ (inputOf l) (usageAll ss .outputs) → ⊥
+  outputs-all noStmt sc l h m = List·Memᴰ·not-nil m
+  outputs-all (stmt s ss) sc l h m =
+      ⊎-elim (λ k. outputs-on s sc l (h .0) k) (λ k. outputs-all ss sc l (h .1) k) (List·Memᴰ·append-cases (usage s .outputs) m)
+
+  outputs-pairs : (ps : Pairs) (sc : Scope) (l : ℕ) → WellPairs sc ps → List·Memᴰ (inputOf l) (usagePairs ps .outputs) → ⊥
+  outputs-pairs noPair sc l h m = List·Memᴰ·not-nil m
+  outputs-pairs (pair e s ps) sc l h m =
+      ⊎-elim (λ k. outputs-on s sc l (h .1) k) (λ k. outputs-pairs ps sc l (h .2) k) (List·Memᴰ·append-cases (usage s .outputs) m)
+
+  outputs-guards : (gs : Guards) (sc : Scope) (l : ℕ) → WellGuards sc gs → List·Memᴰ (inputOf l) (usageGuards gs .outputs) → ⊥
+  outputs-guards noGuard sc l h m = List·Memᴰ·not-nil m
+  outputs-guards (inputGuard e c x s gs) sc l h m =
+      ⊎-elim (λ k. outputs-on s sc l (h .3) k) (λ k. outputs-guards gs sc l (h .4) k) (List·Memᴰ·append-cases (usage s .outputs) m)
+  outputs-guards (skipGuard e s gs) sc l h m =
+      ⊎-elim (λ k. outputs-on s sc l (h .1) k) (λ k. outputs-guards gs sc l (h .2) k) (List·Memᴰ·append-cases (usage s .outputs) m)
+
+-- so no accepted program does
+pub accepted-one-way : (table : List ℕ) (p : Program) → accept table ≡ program p → (l : ℕ)
+    → List·Memᴰ (inputOf l) (wholePart p .outputs) → ⊥
+accepted-one-way table p h l m = outputs-on (p .body) (outermost p) l (read-well table p (accept-reads table p h) .0 .2) m

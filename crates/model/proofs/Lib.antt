@@ -54,6 +54,8 @@ pub mod Meets
 pub mod Ins
 pub mod Outs
 pub mod Inits
+pub mod Alts
+pub mod Choices
 pub mod Steps
 pub mod Turns
 pub mod Memory

@@ -125,3 +125,14 @@ module _ (S : Setting) where
   pub start-in : {s : Stmt} {ss : Stmts} {d b first w : ℕ} (h : ℕ) (μ : Mem) (i : ℕ) (r : Regs) → StartPoint S s ss d b first w i r
       → i < length (S .xs)
   start-in h μ i r p = inside S (p .starts)
+
+  -- a path begins in the code, or at its end
+  pub way-inside : {P : ℕ → Mem → ℕ → Regs → Type 0} {E : Type 0} {σ : Store} {R : Site → Type 0} {C : ℕ → Type 0}
+      → ((h : ℕ) (μ : Mem) (i : ℕ) (r : Regs) → P h μ i r → i < length (S .xs)) → {hi : ℕ} {μ : Mem} {i : ℕ} {r : Regs}
+      → Way (S .xs) (S .off) (S .word) P E σ R C hi μ i r → i ≤ length (S .xs)
+  way-inside inP (arrived p b) = omega (arith, inP _ _ _ _ p)
+  way-inside inP (through e b f) = omega arith
+  way-inside inP (quiet g at q v) = omega (arith, inside S at)
+  way-inside inP (loads x at a m v) = omega (arith, inside S at)
+  way-inside inP (jumps at i c e v) = omega (arith, inside S at)
+  way-inside inP (falls at i a e v) = omega (arith, inside S at)
