@@ -56,6 +56,8 @@ pub mod Outs
 pub mod Inits
 pub mod Alts
 pub mod Choices
+pub mod Forks
+pub mod Pars
 pub mod Steps
 pub mod Turns
 pub mod Memory

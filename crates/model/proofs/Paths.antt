@@ -646,6 +646,22 @@ look-prefix (i ∷ path) rest p e = elim (look-under i (path ++ rest) p e) [
 pub data SamePar (path : List ℕ) (p : Process) (bs : Branches) (k : List Frame) : Type 0 where
   same-par : (cs : Branches) → look path p ≡ some (inPar cs k) → left cs ≡ left bs → SamePar path p bs k
 
+pub par-above : (path other : List ℕ) (i : ℕ) (rest : List ℕ) (r p : Process) {q : Process} {bs : Branches} {k : List Frame} → path ≡ other ++ i ∷ rest
+    → look path p ≡ some q → look other (put path r p) ≡ some (inPar bs k) → SamePar other p bs k
+par-above path other i rest r p {bs = bs} {k} g e f = elim (look-prefix other (i ∷ rest) p (ap (λ z. look z p) (sym g) ∙ e)) [
+  | prefixed z h n ↦ elim (look-under i rest z n) [
+    | under b u v ↦
+        let whole : z ≡ inPar (branchesOf z) (framesOf z) = sym (par-whole i z u) in
+        let now : some (put (i ∷ rest) r z) ≡ some (inPar bs k) =
+        sym (look-put-same other p (put (i ∷ rest) r z) h) ∙ ap (look other) (sym (put-append other (i ∷ rest) r p h))
+        ∙ ap (λ y. look other (put y r p)) (sym g) ∙ f in
+        let inner : inPar (setBranch i (put rest r b) (branchesOf z)) (framesOf z) ≡ inPar bs k =
+        sym (put-in i rest r z u) ∙ some-inner now in
+        same-par (branchesOf z) (h ∙ ap some (whole ∙ ap (inPar (branchesOf z)) (frames-same inner)))
+        (sym (left-set i (put rest r b) (branchesOf z)) ∙ ap left (branches-same inner))
+  ]
+]
+
 pub par-after : (path other : List ℕ) (p : Process) {q r : Process} {bs : Branches} {k : List Frame} → look path p ≡ some q → Leaf q → Leaf r
     → look other (put path r p) ≡ some (inPar bs k) → SamePar other p bs k
 par-after path other p {q} {r} {bs} {k} e l m f = by (compare path other)
@@ -655,19 +671,7 @@ par-after path other p {q} {r} {bs} {k} e l m f = by (compare path other)
     by (below i rest g) =
         never (cc (look-put-below path (i ∷ rest) r p e, leaf-ends i rest m, f, ap (λ z. look z (put path r p)) g))
     by (apart a) = same-par bs (sym (look-put-other r p a) ∙ f) refl
-    by (above i rest g) = elim (look-prefix other (i ∷ rest) p (ap (λ z. look z p) (sym g) ∙ e)) [
-      | prefixed z h n ↦ elim (look-under i rest z n) [
-        | under b u v ↦
-            let whole : z ≡ inPar (branchesOf z) (framesOf z) = sym (par-whole i z u) in
-            let now : some (put (i ∷ rest) r z) ≡ some (inPar bs k) =
-            sym (look-put-same other p (put (i ∷ rest) r z) h) ∙ ap (look other) (sym (put-append other (i ∷ rest) r p h))
-            ∙ ap (λ y. look other (put y r p)) (sym g) ∙ f in
-            let inner : inPar (setBranch i (put rest r b) (branchesOf z)) (framesOf z) ≡ inPar bs k =
-            sym (put-in i rest r z u) ∙ some-inner now in
-            same-par (branchesOf z) (h ∙ ap some (whole ∙ ap (inPar (branchesOf z)) (frames-same inner)))
-            (sym (left-set i (put rest r b) (branchesOf z)) ∙ ap left (branches-same inner))
-      ]
-    ]
+    by (above i rest g) = par-above path other i rest r p g e f
 
 -- the live variables of a process that begins a statement, or goes on, are among those of what is around it
 mutual

@@ -525,6 +525,24 @@ module _ (S : Setting) where
   begun-label w d (stmt s ss) h l (suc i) e =
       let z : d + (need s + distanceOf i ss) ≡ d + need s + distanceOf i ss = omega arith in rw z (begun-label w (d + need s) ss h (need-next s ss d l) i e)
 
+  -- the names in scope of a branch that was just started
+  begun-scope : {vars chans : List Site} (w d : ℕ) (ss : Stmts) (h : Scoped S w vars chans) (l : d + sumNeed ss ≤ w) (i : ℕ) (path : List ℕ)
+      {b : Part} {j : Info} → labelIn (begun w d ss h l) i path ≡ some (alone b j) → (j .vars ≡ vars) × (j .chans ≡ chans)
+  unfolding labelAt labelIn begun branches
+  begun-scope w d noStmt h l i path e = never (cc)
+  begun-scope w d (stmt s ss) h l zero [] e =
+      let z = alone-info (some-same e) in (ap (λ (k : Info). k .vars) (sym z), ap (λ (k : Info). k .chans) (sym z))
+  begun-scope w d (stmt s ss) h l zero (n ∷ path) e = never (cc)
+  begun-scope w d (stmt s ss) h l (suc i) path e = begun-scope w (d + need s) ss h (need-next s ss d l) i path e
+
+  begun-alone : {vars chans : List Site} (w d : ℕ) (ss : Stmts) (h : Scoped S w vars chans) (l : d + sumNeed ss ≤ w) (i : ℕ) (path : List ℕ)
+      {a : Part} {vs cs : List Site} {v n : ℕ} → labelIn (begun w d ss h l) i path ≡ some (parted a vs cs v n) → _≡_ {A = ℕ} 0 1
+  unfolding labelAt labelIn begun branches
+  begun-alone w d noStmt h l i path e = cc
+  begun-alone w d (stmt s ss) h l zero [] e = alone-parted (sym (some-same e))
+  begun-alone w d (stmt s ss) h l zero (n ∷ path) e = cc
+  begun-alone w d (stmt s ss) h l (suc i) path e = begun-alone w (d + need s) ss h (need-next s ss d l) i path e
+
   -- the branches fit below the PAR's workspace
   pub par-fits : {a : Part} {s : Stmt} {ss : Stmts} {vars chans : List Site} {k : List Frame} {hi i w : ℕ} → ParCode S a s ss vars chans k hi i w
       → 0 + sumNeed (stmt s ss) ≤ w
@@ -547,6 +565,19 @@ module _ (S : Setting) where
       let l : 0 + sumNeed (stmt s ss) ≤ w = par-fits c in
       subst (λ z. labelIn (begun w 0 (stmt s ss) h l) i [] ≡ some (alone (partOf vars chans (w - z) (joins z) r) (newInfo vars chans (w - z))))
       (omega arith) (begun-label w 0 (stmt s ss) h l i e)
+
+  -- what is in scope in them
+  pub started-scope : {a : Part} {s : Stmt} {ss : Stmts} {vars chans : List Site} {k : List Frame} {hi n w : ℕ}
+      (c : ParCode S a s ss vars chans k hi n w) (i : ℕ) (path : List ℕ) {b : Part} {j : Info}
+      → labelAt (started c) (i ∷ path) ≡ some (alone b j) → (j .vars ≡ vars) × (j .chans ≡ chans)
+  unfolding labelAt labelIn
+  started-scope {s} {ss} {w} c i path e = begun-scope w 0 (stmt s ss) (scoped-up S w 2 (c .placed .scoped)) (par-fits c) i path e
+
+  pub started-alone : {a : Part} {s : Stmt} {ss : Stmts} {vars chans : List Site} {k : List Frame} {hi n w : ℕ}
+      (c : ParCode S a s ss vars chans k hi n w) (i : ℕ) (path : List ℕ) {b : Part} {vs cs : List Site} {v m : ℕ}
+      → labelAt (started c) (i ∷ path) ≡ some (parted b vs cs v m) → _≡_ {A = ℕ} 0 1
+  unfolding labelAt labelIn
+  started-alone {s} {ss} {w} c i path e = begun-alone w 0 (stmt s ss) (scoped-up S w 2 (c .placed .scoped)) (par-fits c) i path e
 
   -- whatever a PAR's branches have come to, each runs that part
   forest-part : {vars chans : List Site} {w d : ℕ} {ss : Stmts} {bs : Branches} (f : Forest vars chans w d ss bs) (i : ℕ) {b : Part} → partIn f i [] ≡ some b
