@@ -117,6 +117,19 @@ module _ (L : Loaded) where
           par = h .par;
         }
 
+    -- other paths are left out, but no others at which a process is
+    pub rest-narrow : {Out Out′ : List ℕ → Type 0}
+        → ((other : List ℕ) (q : Process) (b : Part) (i : Info) → LeafAt L st t other q b i → Out other → Out′ other) → Rest L st μ t Out ws
+        → Rest L st μ t Out′ ws
+    rest-narrow f h =
+        record {
+          vars = h .vars;
+          chans = h .chans;
+          live = h .live;
+          leaf = λ {path = other} {q = q} {b = b} {i = i} k n. h .leaf k (λ o. n (f other q b i k o));
+          par = h .par;
+        }
+
     -- one is taken in again
     pub rest-in : {Out Out′ : List ℕ → Type 0} {path : List ℕ} {q : Process} {b : Part} {i : Info} → LeafAt L st t path q b i
         → Held (S L) b i st μ (member (i .w) ws) q → ((other : List ℕ) → path ≢ other → Out other → Out′ other) → Rest L st μ t Out ws

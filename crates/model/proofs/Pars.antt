@@ -6,17 +6,17 @@ use mathlib.Core.Logic.{_≢_, _⊎_, inl, inr, ⊎-elim}
 use mathlib.Core.Bool.{Bool, true, false}
 use mathlib.Core.List.{List, [], _∷_, _++_, List·Memᴰ}
 use mathlib.Core.Option.{Option, none, some}
-use lib.ListN.{length, getD}
+use lib.ListN.{length, getD, length-append}
 use Rattle.model.specs.Word.{low}
 use Rattle.model.specs.Syntax.{Site, Stmt, PAR, Stmts, noStmt, stmt}
 use Rattle.model.specs.Counts.{need, sumNeed}
-use Rattle.model.specs.Scheme.{howMany, size, sizeEnds, codeStarts, codeEnds}
+use Rattle.model.specs.Scheme.{howMany, size, sizeEnds, code, codeStarts, codeEnds}
 use Rattle.model.specs.Instruction.{Instruction, plain, operation}
 use Rattle.model.specs.Instruction as I
 use Rattle.model.specs.Code.{functionIn, operandIn}
 use Rattle.model.specs.Machine.{World, done, withCpu, resumeWord}
 use Rattle.model.specs.Execute.{execute, pop}
-use Rattle.model.specs.Occam.{Frame, Process, before, inPar, begin, branches, go, put, State, Step, begins}
+use Rattle.model.specs.Occam.{Store, Frame, Process, before, inPar, begin, branches, go, put, State, Step, begins}
 use Rattle.model.specs.Demand.{step}
 use Rattle.model.proofs.Cases.{never}
 use Rattle.model.proofs.Ways.{Regs, regsOf, pushing, Mem, arrived, quiet, quiet-ldc}
@@ -24,7 +24,7 @@ use Rattle.model.proofs.Expr.{Seg, nil, at, seg-length}
 use Rattle.model.proofs.Points.{Setting, whole, At}
 use Rattle.model.proofs.Arrive.{inside, up, rises-le}
 use Rattle.model.proofs.Sizes.{code-length, ends-length}
-use Rattle.model.proofs.Paths.{Leaf, stmtAt}
+use Rattle.model.proofs.Paths.{Leaf, stmtAt, stmt-inside, Apart, here, later}
 use Rattle.model.proofs.Parts.{need-next, sum-first, Part, joins, partOf, Inside, FineBranches}
 use Rattle.model.proofs.Conts.{Placed, cont-low, cont-inside, cont-bound}
 use Rattle.model.proofs.Marks.{Own, ParCode, pt-par-count, StartPoint}
@@ -41,12 +41,43 @@ use Rattle.model.proofs.Grounds.{small-size, code-end, sound-at}
 use Rattle.model.proofs.Traces.{Trace, t-none, t-step}
 use Rattle.model.proofs.Running.{Only, Births, Later, l-here, l-next, Unborn, unborn, Starting, fresh, Birth, NowStarts, Inv, runs, starts, Did}
 use Rattle.model.proofs.Running.{came, Executes, executes, Acting}
-use Rattle.model.proofs.Moving.{rest-out, lined-in}
+use Rattle.model.proofs.Moving.{rest-narrow, rest-out, lined-in}
 use Rattle.model.proofs.Reals.{size-is, real-state, real-cpu}
 use Rattle.model.proofs.Sched.{Stands, settle, wakes, Woken}
 use Rattle.model.proofs.Finish.{goes-on, step-settles, silent}
 use Rattle.model.proofs.Meets.{rest-below, real-below, clean-below}
-use Rattle.model.proofs.Forks.{Branch, branch-of, forked, forkTree, forkState, fork-here, fork-branch, fork-other, fork-rest, fork-lined}
+use Rattle.model.proofs.Forks.{Branch, branch-of, forked, forkTree, forkState, fork-here, fork-branch, fork-other, fork-rest, fork-lined, which, a-branch, aside-one}
+
+-- what is known of the k-th of some branches
+later-at : {ss : Stmts} {d b k : ℕ} {r : Stmt} {e f : ℕ} → Later ss d b k r e f → (stmtAt k ss ≡ some r) × (e ≡ d + distanceOf k ss)
+unfolding stmtAt distanceOf
+later-at l-here = (refl, omega arith)
+later-at (l-next h) = let z = later-at h in (z .0, omega (arith, z .1))
+
+later-room : {ss : Stmts} {d b k : ℕ} {r : Stmt} {e f w : ℕ} → d + sumNeed ss ≤ w → Later ss d b k r e f → e + need r ≤ w
+later-room l (l-here {s} {ss}) = omega (arith, sum-first s ss)
+later-room {d = d} l (l-next {s} {ss} h) = later-room (need-next s ss d l) h
+
+later-inner : {ss : Stmts} {d b k : ℕ} {r : Stmt} {e f n : ℕ} → b + sizeEnds ss ≤ n → Later ss d b k r e f → f + size r + 2 ≤ n
+unfolding sizeEnds
+later-inner l l-here = omega arith
+later-inner {b = b} l (l-next {s} {ss} h) = later-inner (ends-next s ss b l) h
+
+later-few : {ss : Stmts} {d b k : ℕ} {r : Stmt} {e f : ℕ} → Later ss d b k r e f → k < howMany ss
+unfolding howMany
+later-few l-here = omega arith
+later-few (l-next h) = omega (arith, later-few h)
+
+module _ (S : Setting) (a : Part) {vars chans : List Site} (w : ℕ) where
+  later-inside : {ss : Stmts} {d b k : ℕ} {r : Stmt} {e f : ℕ} → FineBranches (S .word) a vars chans w d ss → Later ss d b k r e f
+      → Inside (partOf vars chans (w - e) (joins e) r) a
+  later-inside g l-here = g .0
+  later-inside g (l-next h) = later-inside (g .3) h
+
+  later-comes : {σ : Store} {ss : Stmts} {d b k : ℕ} {r : Stmt} {e f : ℕ} → Started S a σ vars chans w d b ss → Later ss d b k r e f
+      → Comes S (partOf vars chans (w - e) (joins e) r) σ vars chans (S .off (f + size r + 2)) (begin r []) f (w - e)
+  later-comes g l-here = g .0
+  later-comes g (l-next h) = later-comes (g .1) h
 
 module _ (L : Loaded) {s : World} {st : State} {μ : Mem} {t : Tree (S L) (root L) (st .process)} {path : List ℕ} {p : ℕ} {d : Stmt} {ds : Stmts}
     {k : List Frame} {b : Part} {i : Info} {ws : List ℕ} {at hi : ℕ}
@@ -133,6 +164,86 @@ module _ (L : Loaded) {s : World} {st : State} {μ : Mem} {t : Tree (S L) (root 
     started-all = all-start (S L) b (st .store) c (sound-at L (A .rest) (A .leaf))
 
     -- a branch's names are the PAR's
-    branch-clean : (m : ℕ) (r : Stmt) (part : Part) → Inside part b → {v : ℕ}
+    branch-clean : (part : Part) (v : ℕ) → Inside part b
         → Unmarked (S L) part (newInfo (S L) (i .vars) (i .chans) v) (forkState L (A .leaf) c) ν
-    branch-clean m r part inner a q o = clean₀ a q (omega (arith, o .0, inner .above), omega (arith, o .1, inner .below))
+    branch-clean part v inner a q o = clean₀ a q (omega (arith, o .0, inner .above), omega (arith, o .1, inner .below))
+
+    -- the branches' code is in the code
+    ends-in : c .first + size d + 2 + sizeEnds ds ≤ length (S L .xs)
+    unfolding codeEnds
+    ends-in =
+        omega (
+          arith,
+          seg-length (c .branches),
+          length-append (code (S L .word) w (c .first) d)
+              (plain I.ldlp 0 ∷ operation I.endp ∷ codeEnds (S L .word) w (need d) (c .first + size d + 2) ds),
+          code-length (S L .word) w (c .first) d,
+          ends-length (S L .word) w (need d) (c .first + size d + 2) ds,
+          cont-inside (S L) b (c .after),
+        )
+
+    -- what is known of a branch
+    module _ {m e f : ℕ} {r : Stmt} (it : Later (stmt d ds) 0 (c .first) m r e f) where
+      branch-leaf : LeafAt L (forkState L (A .leaf) c) (forkTree L (A .leaf) c) (path ++ m ∷ []) (begin r [])
+          (partOf (i .vars) (i .chans) (w - e) (joins e) r) (newInfo (S L) (i .vars) (i .chans) (w - e))
+      branch-leaf =
+          let z = later-at it in
+          let g : distanceOf m (stmt d ds) ≡ e = omega (arith, z .1) in
+          subst (λ y. LeafAt L (forkState L (A .leaf) c) (forkTree L (A .leaf) c) (path ++ m ∷ []) (begin r [])
+          (partOf (i .vars) (i .chans) (w - y) (joins y) r) (newInfo (S L) (i .vars) (i .chans) (w - y))) g (fork-branch L (A .leaf) c m (z .0))
+
+      branch-comes : Comes (S L) (partOf (i .vars) (i .chans) (w - e) (joins e) r) (st .store) (i .vars) (i .chans) (L .off (f + size r + 2))
+          (begin r []) f (w - e)
+      branch-comes = later-comes (S L) b w started-all it
+
+      branch-inner : f + size r + 2 ≤ length (S L .xs)
+      unfolding sizeEnds
+      branch-inner = later-inner (omega (arith, ends-in)) it
+
+      branch-room : e + need r ≤ w
+      branch-room = later-room (omega (arith, c .room)) it
+
+      branch-unmarked : Unmarked (S L) (partOf (i .vars) (i .chans) (w - e) (joins e) r) (newInfo (S L) (i .vars) (i .chans) (w - e))
+          (forkState L (A .leaf) c) ν
+      branch-unmarked = branch-clean (partOf (i .vars) (i .chans) (w - e) (joins e) r) (w - e) (later-inside (S L) b w (c .fine) it)
+
+-- no branch's path is apart from the PAR's
+beside : {path other : List ℕ} (n : ℕ) → Apart path other → other ≡ path ++ n ∷ [] → ⊥
+beside n (here x) e = x (cc)
+beside n (later a) e = beside n a (cc)
+
+-- of one branch the number is 0
+only-zero : (path : List ℕ) {other : List ℕ} (d : Stmt) {r : Stmt} (l : ℕ) → stmtAt l (stmt d noStmt) ≡ some r → other ≡ path ++ l ∷ [] → path ++ 0 ∷ [] ≡ other
+unfolding howMany
+only-zero path d l g x =
+    let z : l ≡ 0 = omega (arith, stmt-inside l (stmt d noStmt) g) in
+    sym (x ∙ ap (λ m. path ++ m ∷ []) z)
+
+-- the only branch of a PAR goes on
+module _ (L : Loaded) {s : World} {st : State} {μ : Mem} {t : Tree (S L) (root L) (st .process)} {path : List ℕ} {p : ℕ} {d : Stmt}
+    {k : List Frame} {b : Part} {i : Info} {ws : List ℕ} {at hi h : ℕ} where
+  count-one : (A : Acting L s st μ t path (before (PAR p (stmt d noStmt)) k) b i (Only path) ws at hi) → Unmarked (S L) b i st μ
+      → (c : ParCode (S L) b d noStmt (i .vars) (i .chans) k h (suc at) (cpuOf s .workspace)) → cpuOf s .a ≡ suc (howMany noStmt)
+      → μ (cpuOf s .workspace) ≡ L .off (c .over) → Did L (Executes L (plain I.stl 1) s) s st (bytesLeft (S L) t)
+  unfolding codeStarts
+  count-one A clean c val place =
+      let first-is : c .first ≡ suc at = seg-length (c .starts) ∙ omega arith in
+      let leaf = branch-leaf L A clean c val place l-here in
+      let few : whole (S L) ≤ whole (S L) = omega arith in
+      let none : cpuOf s .workspace - 0 ≡ cpuOf s .workspace = omega arith in
+      step-settles L (forks L A clean c val place) (counted L A clean c val place) (silent L s (u L A clean c val place) refl)
+      (settle L (real₀ L A clean c val place) leaf
+      (rest-narrow L (λ other q e j m o. only-first A c m o) (rest₁ L A clean c val place))
+      (lined-in L (λ other o. branch-of 0 (sym o)) (lines₁ L A clean c val place)) (whole (S L))
+      (record { run = A .run; operand = A .operand; place = A .placed ∙ ap (L .off) (sym first-is); work = sym none; inside = rw first-is (A .inside) })
+      (branch-comes L A clean c val place l-here) (branch-unmarked L A clean c val place l-here)
+      (omega (arith, rises-le (S L) (c .first + size d + 2) (length (S L .xs)) (branch-inner L A clean c val place l-here) (omega arith)))
+      few)
+    where
+      only-first : (A : Acting L s st μ t path (before (PAR p (stmt d noStmt)) k) b i (Only path) ws at hi)
+          (c : ParCode (S L) b d noStmt (i .vars) (i .chans) k h (suc at) (cpuOf s .workspace)) → {other : List ℕ} {q : Process} {e : Part} {j : Info}
+          → LeafAt L (forkState L (A .leaf) c) (forkTree L (A .leaf) c) other q e j → Branch path other → path ++ 0 ∷ [] ≡ other
+      only-first A c m (branch-of n z) = elim (which L (A .leaf) c m) [
+        | a-branch l r g x y ↦ only-zero path d l g x
+        | aside-one a y ↦ absurd (beside n a z)
+      ]
