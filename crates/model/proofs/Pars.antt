@@ -222,7 +222,7 @@ only-zero path d l g x =
 -- the only branch of a PAR goes on
 module _ (L : Loaded) {s : World} {st : State} {μ : Mem} {t : Tree (S L) (root L) (st .process)} {path : List ℕ} {p : ℕ} {d : Stmt}
     {k : List Frame} {b : Part} {i : Info} {ws : List ℕ} {at hi h : ℕ} where
-  count-one : (A : Acting L s st μ t path (before (PAR p (stmt d noStmt)) k) b i (Only path) ws at hi) → Unmarked (S L) b i st μ
+  pub count-one : (A : Acting L s st μ t path (before (PAR p (stmt d noStmt)) k) b i (Only path) ws at hi) → Unmarked (S L) b i st μ
       → (c : ParCode (S L) b d noStmt (i .vars) (i .chans) k h (suc at) (cpuOf s .workspace)) → cpuOf s .a ≡ suc (howMany noStmt)
       → μ (cpuOf s .workspace) ≡ L .off (c .over) → Did L (Executes L (plain I.stl 1) s) s st (bytesLeft (S L) t)
   unfolding codeStarts
@@ -247,3 +247,96 @@ module _ (L : Loaded) {s : World} {st : State} {μ : Mem} {t : Tree (S L) (root 
         | a-branch l r g x y ↦ only-zero path d l g x
         | aside-one a y ↦ absurd (beside n a z)
       ]
+
+-- the first branch of a PAR goes on to start the others
+module _ (L : Loaded) {s : World} {st : State} {μ : Mem} {t : Tree (S L) (root L) (st .process)} {path : List ℕ} {p : ℕ} {d r : Stmt} {rs : Stmts}
+    {k : List Frame} {b : Part} {i : Info} {ws : List ℕ} {at hi h : ℕ}
+    (A : Acting L s st μ t path (before (PAR p (stmt d (stmt r rs))) k) b i (Only path) ws at hi) (clean : Unmarked (S L) b i st μ)
+    (c : ParCode (S L) b d (stmt r rs) (i .vars) (i .chans) k h (suc at) (cpuOf s .workspace))
+    (val : cpuOf s .a ≡ suc (howMany (stmt r rs))) (place : μ (cpuOf s .workspace) ≡ L .off (c .over)) where
+  abbrev v : ℕ
+  v = cpuOf s .workspace
+
+  abbrev births : Births
+  births =
+      record {
+        par = path;
+        next = 1;
+        s = r;
+        ss = rs;
+        d = 0 + need d;
+        b = c .first + size d + 2;
+        first = c .first;
+        w = v;
+        vars = i .vars;
+        chans = i .chans;
+      }
+
+  each-birth : (m : ℕ) (q : Stmt) (e f : ℕ) → Later (stmt r rs) (0 + need d) (c .first + size d + 2) m q e f
+      → Birth L (forkState L (A .leaf) c) (ν L A clean c val place) (forkTree L (A .leaf) c) births m q e f
+  each-birth m q e f behind =
+      let it : Later (stmt d (stmt r rs)) 0 (c .first) (suc m) q e f = l-next behind in
+      let number : suc m ≡ 1 + m = omega arith in
+      record {
+        leaf = subst (λ n. LeafAt L (forkState L (A .leaf) c) (forkTree L (A .leaf) c) (path ++ n ∷ []) (begin q [])
+            (partOf (i .vars) (i .chans) (v - e) (joins e) q) (newInfo (S L) (i .vars) (i .chans) (v - e))) number
+            (branch-leaf L A clean c val place it);
+        comes = branch-comes L A clean c val place it;
+        inner = branch-inner L A clean c val place it;
+        room = branch-room L A clean c val place it;
+        unmarked = branch-unmarked L A clean c val place it;
+      }
+
+  all-starting : {other : List ℕ} {q : Process} {e : Part} {j : Info} → LeafAt L (forkState L (A .leaf) c) (forkTree L (A .leaf) c) other q e j
+      → Branch path other → Starting (path ++ 0 ∷ []) births other
+  unfolding howMany
+  all-starting m (branch-of n z) = elim (which L (A .leaf) c m) [
+    | a-branch l g x y _ ↦ numbered l x y
+    | aside-one a y ↦ absurd (beside n a z)
+  ]
+    where
+      numbered : {other : List ℕ} {g : Stmt} (l : ℕ) → stmtAt l (stmt d (stmt r rs)) ≡ some g → other ≡ path ++ l ∷ []
+          → Starting (path ++ 0 ∷ []) births other
+      numbered zero x y = inl (sym y)
+      numbered (suc l) x y =
+          let few : l ≤ howMany rs = omega (arith, stmt-inside (suc l) (stmt d (stmt r rs)) x) in
+          let number : suc l ≡ 1 + l = omega arith in
+          inr (unborn l few (y ∙ ap (λ n. path ++ n ∷ []) number))
+
+  branch-starting : {other : List ℕ} → Starting (path ++ 0 ∷ []) births other → Branch path other
+  branch-starting (inl e) = branch-of 0 (sym e)
+  branch-starting (inr (unborn l few e)) = branch-of (1 + l) e
+
+  pub count-more : Did L (Executes L (plain I.stl 1) s) s st (bytesLeft (S L) t)
+  count-more =
+      let last : Later (stmt d (stmt r rs)) 0 (c .first) 0 d 0 (c .first) = l-here in
+      let none : v - 0 ≡ v = omega arith in
+      let X = u L A clean c val place in
+      let hi₁ = L .off (c .first + size d + 2) in
+      let inner : c .first + size d + 2 ≤ length (S L .xs) = branch-inner L A clean c val place last in
+      let small : whole (S L) < 2 ^ 32 = sound-at L (A .rest) (A .leaf) .bytes in
+      let wide : v < 2 ^ 32 = omega (arith, high L A clean c val place) in
+      let zero-plus : need d ≡ 0 + need d = omega arith in
+      let seg : Seg (S L .xs) (suc at) (codeStarts (S L .word) (0 + need d) (suc at) (c .first + size d + 2) (stmt r rs)) (c .first) =
+      rw (sym zero-plus) (c .starts) in
+      came X (step [] (forkState L (A .leaf) c) ∷ []) (counted L A clean c val place) (t-step (forks L A clean c val place) t-none) (silent L s X refl)
+      (starts births (real₀ L A clean c val place) (A .run) (branch-leaf L A clean c val place last)
+      (rest-narrow L (λ other q e j m o. all-starting m o) (rest₁ L A clean c val place))
+      (lined-in L (λ other o. branch-starting o) (lines₁ L A clean c val place))
+      (record {
+        hi = hi₁;
+        at = suc at;
+        first-branch = refl;
+        next-one = omega arith;
+        same-w = none;
+        here = fresh L (suc at) (cpuOf X .place) (cpuOf X .operand) (A .inside) (A .placed) (A .operand);
+        way = start-path (S L) (st .store) r rs (0 + need d) (c .first + size d + 2) small wide seg
+            (omega (arith, branch-room L A clean c val place last)) inner (omega (arith, inner))
+            (rises-le (S L) (c .first) (c .first + size d + 2) (omega arith) inner) refl;
+        births = each-birth;
+        own = subst (λ z. Comes (S L) (partOf (i .vars) (i .chans) (v - 0) (joins 0) d) (st .store) (i .vars) (i .chans) hi₁ (begin d []) (c .first) z)
+            none (branch-comes L A clean c val place last);
+        inner = omega (arith, inner);
+        unmarked = branch-unmarked L A clean c val place last;
+        soon = omega (arith, rises-le (S L) (c .first + size d + 2) (length (S L .xs)) inner (omega arith));
+      })) (inr (omega arith))
