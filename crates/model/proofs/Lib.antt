@@ -58,6 +58,7 @@ pub mod Alts
 pub mod Choices
 pub mod Forks
 pub mod Pars
+pub mod Births
 pub mod Steps
 pub mod Turns
 pub mod Memory

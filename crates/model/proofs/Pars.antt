@@ -63,11 +63,6 @@ unfolding sizeEnds
 later-inner l l-here = omega arith
 later-inner {b = b} l (l-next {s} {ss} h) = later-inner (ends-next s ss b l) h
 
-later-few : {ss : Stmts} {d b k : ℕ} {r : Stmt} {e f : ℕ} → Later ss d b k r e f → k < howMany ss
-unfolding howMany
-later-few l-here = omega arith
-later-few (l-next h) = omega (arith, later-few h)
-
 module _ (S : Setting) (a : Part) {vars chans : List Site} (w : ℕ) where
   later-inside : {ss : Stmts} {d b k : ℕ} {r : Stmt} {e f : ℕ} → FineBranches (S .word) a vars chans w d ss → Later ss d b k r e f
       → Inside (partOf vars chans (w - e) (joins e) r) a
@@ -337,6 +332,7 @@ module _ (L : Loaded) {s : World} {st : State} {μ : Mem} {t : Tree (S L) (root 
         own = subst (λ z. Comes (S L) (partOf (i .vars) (i .chans) (v - 0) (joins 0) d) (st .store) (i .vars) (i .chans) hi₁ (begin d []) (c .first) z)
             none (branch-comes L A clean c val place last);
         inner = omega (arith, inner);
+        near = rises-le (S L) (c .first) (c .first + size d + 2) (omega arith) inner;
         unmarked = branch-unmarked L A clean c val place last;
         soon = omega (arith, rises-le (S L) (c .first + size d + 2) (length (S L .xs)) inner (omega arith));
       })) (inr (omega arith))

@@ -127,6 +127,7 @@ module _ (L : Loaded) where
     pub births : (k : ℕ) (r : Stmt) (d b : ℕ) → Later (stmt (B .s) (B .ss)) (B .d) (B .b) k r d b → Birth st μ t B k r d b
     pub own : Comes (S L) b (st .store) (i .vars) (i .chans) hi q (B .first) (B .w)
     pub inner : B .first ≤ length (S L .xs)
+    pub near : L .off (B .first) ≤ hi
     pub unmarked : Unmarked (S L) b i st μ
     pub soon : hi ≤ i .left + cpuOf s .place
 
