@@ -41,15 +41,15 @@ parted-w e = cc
 parted-to : {a b : Part} {vs us cs ds : List Site} {v w on to : ℕ} → parted a vs cs v on ≡ parted b us ds w to → on ≡ to
 parted-to e = cc
 
-look-self : {x y : Process} → look [] x ≡ some y → x ≡ y
+pub look-self : {x y : Process} → look [] x ≡ some y → x ≡ y
 unfolding look
 look-self e = some-same e
 
-same-branches : {bs cs : Branches} {k l : List Frame} → _≡_ {A = Option Process} (some (inPar bs k)) (some (inPar cs l)) → bs ≡ cs
+pub same-branches : {bs cs : Branches} {k l : List Frame} → _≡_ {A = Option Process} (some (inPar bs k)) (some (inPar cs l)) → bs ≡ cs
 same-branches e = cc
 
 -- what holds of a PAR's words holds of the same PAR's
-parted-same : (S : Setting) (μ : Mem) {n : ℕ} {a b : Part} {vs us cs ds : List Site} {v w on to : ℕ} → parted a vs cs v on ≡ parted b us ds w to
+pub parted-same : (S : Setting) (μ : Mem) {n : ℕ} {a b : Part} {vs us cs ds : List Site} {v w on to : ℕ} → parted a vs cs v on ≡ parted b us ds w to
     → (μ v ≡ S .off on) × (μ (v + 1) ≡ n) → (μ w ≡ S .off to) × (μ (w + 1) ≡ n)
 parted-same S μ e (p, q) =
     let x = parted-w e in

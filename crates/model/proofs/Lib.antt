@@ -59,6 +59,8 @@ pub mod Choices
 pub mod Forks
 pub mod Pars
 pub mod Births
+pub mod Joins
+pub mod Ends
 pub mod Steps
 pub mod Turns
 pub mod Memory

@@ -203,7 +203,7 @@ module _ (L : Loaded) {s : World} {st : State} {μ : Mem} {t : Tree (S L) (root 
       branch-unmarked = branch-clean (partOf (i .vars) (i .chans) (w - e) (joins e) r) (w - e) (later-inside (S L) b w (c .fine) it)
 
 -- no branch's path is apart from the PAR's
-beside : {path other : List ℕ} (n : ℕ) → Apart path other → other ≡ path ++ n ∷ [] → ⊥
+pub beside : {path other : List ℕ} (n : ℕ) → Apart path other → other ≡ path ++ n ∷ [] → ⊥
 beside n (here x) e = x (cc)
 beside n (later a) e = beside n a (cc)
 

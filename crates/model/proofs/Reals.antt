@@ -100,7 +100,7 @@ module _ (L : Loaded) where
 
   -- a queued workspace's link word is in its process's zone
   module _ {st : State} {t : Tree (S L) (root L) (st .process)} {Out : List ℕ → Type 0} {ws : List ℕ} (lines : Lined L st t Out ws) where
-    link-word : {path : List ℕ} {q : Process} {b : Part} {i : Info} {w : ℕ} → LeafAt L st t path q b i → i .w ≡ w
+    pub link-word : {path : List ℕ} {q : Process} {b : Part} {i : Info} {w : ℕ} → LeafAt L st t path q b i → i .w ≡ w
         → (b .bottom ≤ linkWord w) × (linkWord w < b .top)
     link-word k e =
         let p = sits-at L k .placed in
