@@ -383,7 +383,7 @@ module _ (L : Loaded) {s : World} {st : State} {μ : Mem} {t : Tree (S L) (root 
     does-altend = ⊎-elim (λ h. let (m, p, pick, word) = h in altend-goes pick word) (λ h. absurd (unready (h .1))) (n .chosen)
 
 -- the instruction at an index is the one that executes
-same-does : (L : Loaded) (at : ℕ) {s : World} {st : State} {n : ℕ} {x y : Instruction} → At (S L) at x → At (S L) at y
+pub same-does : (L : Loaded) (at : ℕ) {s : World} {st : State} {n : ℕ} {x y : Instruction} → At (S L) at x → At (S L) at y
     → Did L (Executes L y s) s st n → Did L (Executes L x s) s st n
 same-does L at {s} {st} {n} e f h = subst (λ z. Did L (Executes L z s) s st n) (some-same (sym f ∙ e)) h
 

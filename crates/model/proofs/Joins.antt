@@ -329,7 +329,7 @@ module _ (L : Loaded) {st : State} {t : Tree (S L) (root L) (st .process)} {path
         in-par-back (x ∷ inner) e y = by (ℕ-discrete n x)
           where
             by : Dec (n ≡ x) → (path ≢ other) × LeafAt L st t other q d j
-            by (yes z) = never (cc (look-end-same ρ n inner (st .process) par, ap (λ y. look (ρ ++ y ∷ inner) (moreState .process)) z, ap (λ y. look y (moreState .process)) e, h .found))
+            by (yes z) = never (cc (look-end-same ρ n inner (st .process) par, z, ap (λ y. look y (moreState .process)) e, h .found))
             by (no z) = (
               (λ f. apart-differ (beside-branch x inner z e) (sym is ∙ f)),
               record {
@@ -459,7 +459,7 @@ module _ (L : Loaded) {st : State} {t : Tree (S L) (root L) (st .process)} {path
                 where
                   in-branch : Dec (n ≡ l) → (ν v ≡ S L .off on) × (ν (v + 1) ≡ left cs)
                   in-branch (yes u) =
-                      never (cc (look-end-same ρ n inner (st .process) par, ap (λ y. look (ρ ++ y ∷ inner) (moreState .process)) u, ap (λ y. look y (moreState .process)) y, x))
+                      never (cc (look-end-same ρ n inner (st .process) par, u, ap (λ y. look y (moreState .process)) y, x))
                   in-branch (no u) =
                       elsewhere z (ap (λ o. look o (st .process)) y ∙ sym (look-end-other ρ n l inner (st .process) u par)
                       ∙ ap (λ o. look o (moreState .process)) (sym y) ∙ x) refl

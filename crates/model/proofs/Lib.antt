@@ -61,6 +61,7 @@ pub mod Pars
 pub mod Births
 pub mod Joins
 pub mod Ends
+pub mod Instructions
 pub mod Steps
 pub mod Turns
 pub mod Memory

@@ -41,7 +41,7 @@ use Rattle.model.proofs.Finish.{goes-on, alt-goes-on, then-lets-go, sil
 use Rattle.model.proofs.Reach.{way-bound, point-in}
 
 -- a distance leads from the byte after its user to the instruction that it reaches
-reached : (a t : ℕ) → a ≤ 16384 → t ≤ 16384 → low (a + less t a) ≡ t
+pub reached : (a t : ℕ) → a ≤ 16384 → t ≤ 16384 → low (a + less t a) ≡ t
 reached a t h k = omega arith
 
 module _ (L : Loaded) {s : World} {st : State} {μ : Mem} {t : Tree (S L) (root L) (st .process)} {path : List ℕ} {q : Process} {b : Part}
@@ -104,6 +104,14 @@ module _ (L : Loaded) {s : World} {st : State} {μ : Mem} {t : Tree (S L) (root 
       let r = goto (low (cpuOf s .place + less (L .off k) (L .off (suc at)))) (cpuOf s) in
       goes-on L A (withCpu r s) (executes (exec-cj-jumps _ s z)) refl (real-cpu L r refl refl refl (A .real)) (A .run) (A .operand) (A .rest) (A .lined) k hi
       (target k h) h (omega arith) way settled clean
+
+  pub pass-alt-falls : {k : ℕ} → k ≤ length (S L .xs) → cpuOf s .a ≡ 0 → L .off (suc at) ≤ L .off k
+      → AltGoes (S L) b st (i .vars) (i .chans) q hi μ k (regsOf (cpuOf s)) → Did L (Executes L (distance I.cj k at) s) s st (bytesLeft (S L) t)
+  unfolding functionIn operandIn
+  pass-alt-falls {k} h z f way =
+      let r = goto (low (cpuOf s .place + less (L .off k) (L .off (suc at)))) (cpuOf s) in
+      alt-goes-on L A (withCpu r s) (executes (exec-cj-jumps _ s z)) refl (real-cpu L r refl refl refl (A .real)) (A .run) (A .operand) (A .rest)
+      (A .lined) k hi (target k h) h (omega arith) way
 
   -- J
   module _ {k hi′ : ℕ} (h : k ≤ length (S L .xs)) (placed : Placed (S L) b (cpuOf s .workspace) (i .vars) (i .chans))

@@ -1,0 +1,157 @@
+-- The last byte of an instruction: whichever instruction it is, what it does is a part of a run.
+use Prim.Native.Nat.{ℕ, zero, suc, _+_, _-_, _≤_, _<_}
+use native.Mathlib.Omega.{arith}
+use mathlib.Core.Path.{_≡_, refl, sym, ap, _∙_, subst}
+use mathlib.Core.Logic.{_≢_, _⊎_, inl, inr}
+use mathlib.Core.Bool.{true}
+use mathlib.Core.List.{List, [], _∷_, _++_}
+use mathlib.Core.Option.{some}
+use lib.ListN.{length}
+use Rattle.model.specs.Syntax.{Site, Stmt, Stmts, noStmt, stmt}
+use Rattle.model.specs.Scheme.{size}
+use Rattle.model.specs.Instruction.{Instruction, plain, distance}
+use Rattle.model.specs.Instruction as I
+use Rattle.model.specs.Code.{functionIn, operandIn}
+use Rattle.model.specs.Word.{low, less}
+use Rattle.model.specs.Machine.{World, withCpu, goto}
+use Rattle.model.specs.declared.Cpu.{Cpu}
+use Rattle.model.specs.Occam.{Process, begin, State}
+use Rattle.model.proofs.Ways.{Regs, regsOf, load, Mem, Quiet, Way, arrived, through, quiet, loads, jumps, falls}
+use Rattle.model.proofs.Points.{Setting, whole, At}
+use Rattle.model.proofs.Arrive.{inside, up}
+use Rattle.model.proofs.Parts.{Part, joins, partOf}
+use Rattle.model.proofs.Marks.{Point, pt-stop, pt-assign, pt-var, pt-chan, pt-taken, pt-none, pt-while, pt-in, pt-out, pt-par-place, pt-par-count}
+use Rattle.model.proofs.Marks.{pt-end, pt-alt, StartPoint, Settled}
+use Rattle.model.proofs.Arrivals.{Goes, Comes}
+use Rattle.model.proofs.Onwards.{AltGoes, Starts}
+use Rattle.model.proofs.Trees.{Info, newInfo, Tree, bytesLeft}
+use Rattle.model.proofs.Leaves.{Unmarked}
+use Rattle.model.proofs.Effects.{cpuOf, exec-cj-jumps}
+use Rattle.model.proofs.Kernel.{Loaded, S, root, LeafAt}
+use Rattle.model.proofs.Writes.{sits-at}
+use Rattle.model.proofs.Traces.{t-none}
+use Rattle.model.proofs.Running.{Only, Births, Later, Starting, fresh, off-small, Birth, NowStarts, starts, Did, came, Executes, executes, Acting}
+use Rattle.model.proofs.Moving.{relaid, relabelled, relabel}
+use Rattle.model.proofs.Reals.{real-cpu}
+use Rattle.model.proofs.Reach.{way-bound, start-in}
+use Rattle.model.proofs.Finish.{silent}
+use Rattle.model.proofs.Quiets.{reached, pass-quiet, pass-alt, pass-loads, pass-alt-loads, pass-falls, pass-alt-falls, pass-jumps}
+use Rattle.model.proofs.Basics.{did-assign, did-taken, did-none, did-while, did-stop}
+use Rattle.model.proofs.Ins.{did-in}
+use Rattle.model.proofs.Outs.{did-out}
+use Rattle.model.proofs.Inits.{did-var-store, did-chan-store}
+use Rattle.model.proofs.Alts.{alt-begins}
+use Rattle.model.proofs.Choices.{same-does, alt-point}
+use Rattle.model.proofs.Pars.{did-place, count-one, count-more}
+use Rattle.model.proofs.Births.{branch-differ, did-start}
+use Rattle.model.proofs.Ends.{did-end}
+
+module _ (L : Loaded) {s : World} {st : State} {μ : Mem} {t : Tree (S L) (root L) (st .process)} {path : List ℕ} {b : Part} {i : Info}
+    {ws : List ℕ} {x : Instruction} where
+  -- a significant instruction
+  point-acts : {at hi : ℕ} {q : Process} → At (S L) at x → Acting L s st μ t path q b i (Only path) ws at hi → Unmarked (S L) b i st μ
+      → Point (S L) b (st .store) (i .vars) (i .chans) q hi μ at (regsOf (cpuOf s)) → Did L (Executes L x s) s st (bytesLeft (S L) t)
+  point-acts here A clean (pt-stop a c) = same-does L _ here a (did-stop L A clean c)
+  point-acts here A clean (pt-assign {o} a w f v small c n) = same-does L _ here a (did-assign L A o w f v small c n clean)
+  point-acts here A clean (pt-var {j = m′} op f l j e z m) =
+      same-does L _ here (subst (λ n. At (S L) n (plain I.stl m′)) (sym e) (op .inits _ j .1)) (did-var-store L A clean op f l j e z m)
+  point-acts here A clean (pt-chan {j = m′} op f l j e z m) =
+      same-does L _ here (subst (λ n. At (S L) n (plain I.stl m′)) (sym e) (op .inits _ j .1)) (did-chan-store L A clean op f l j e z m)
+  point-acts here A clean (pt-taken d a v fa e g f c n) = same-does L _ here a (did-taken L d A clean v e g f c n)
+  point-acts here A clean (pt-none a l v fa e c n) = same-does L _ here a (did-none L A clean l v e c n)
+  point-acts here A clean (pt-while a l fe v g f c n d m) = same-does L _ here a (did-while L A clean l v g f c n d m)
+  point-acts here A clean (pt-in a v c y f k n) = same-does L _ here a (did-in L A v c y f k n clean)
+  point-acts here A clean (pt-out a v small c f y k n) = same-does L _ here a (did-out L A v small c f y k n clean)
+  point-acts here A clean (pt-par-place a y z c v l) = same-does L _ here a (did-place L A clean y z c v l)
+  point-acts here A clean (pt-par-count {ss = noStmt} a v c m) = same-does L _ here a (count-one L A clean c v m)
+  point-acts here A clean (pt-par-count {ss = stmt r rs} a v c m) = same-does L _ here a (count-more L A clean c v m)
+  point-acts here A clean (pt-end e a v w) = same-does L _ here a (did-end L A clean e v)
+  point-acts here A clean (pt-alt c l) = same-does L _ here (c .begins) (alt-begins L A c refl l clean)
+
+  -- on the way to one
+  pub way-acts : {at hi : ℕ} {q : Process} → At (S L) at x → Acting L s st μ t path q b i (Only path) ws at hi → Settled q → Unmarked (S L) b i st μ
+      → Goes (S L) b (st .store) (i .vars) (i .chans) q hi μ at (regsOf (cpuOf s)) → Did L (Executes L x s) s st (bytesLeft (S L) t)
+  way-acts here A settled clean (arrived p h) = point-acts here A clean p
+  way-acts here A settled clean (through e h f) = absurd (omega (arith, inside (S L) here))
+  way-acts here A settled clean (quiet g a q v) = same-does L _ here a (pass-quiet L A g q v settled clean)
+  way-acts here A settled clean (loads {o} y a w l v) = same-does L _ here a (pass-loads L A o y w (l .0) v settled clean)
+  way-acts here A settled clean (jumps a t c reach v) = same-does L _ here a (pass-jumps L A t c reach v settled clean)
+  way-acts here A settled clean (falls a t z f v) = same-does L _ here a (pass-falls L A t z f v settled clean)
+
+  -- in an ALT
+  pub alt-acts : {at hi : ℕ} {q : Process} → At (S L) at x → Acting L s st μ t path q b i (Only path) ws at hi
+      → AltGoes (S L) b st (i .vars) (i .chans) q hi μ at (regsOf (cpuOf s)) → Did L (Executes L x s) s st (bytesLeft (S L) t)
+  alt-acts here A (arrived p h) = alt-point L (L .one-way) A here p
+  alt-acts here A (through e h f) = absurd f
+  alt-acts here A (quiet g a q v) = same-does L _ here a (pass-alt L A g q v)
+  alt-acts here A (loads {o} y a w l v) = same-does L _ here a (pass-alt-loads L A o y w (l .0) v)
+  alt-acts here A (jumps a t c reach v) = absurd c
+  alt-acts here A (falls a t z f v) = same-does L _ here a (pass-alt-falls L A t z f v)
+
+-- the first branch of a PAR, on its way to start the next one
+module _ (L : Loaded) {s : World} {st : State} {μ : Mem} {t : Tree (S L) (root L) (st .process)} {path : List ℕ} {q : Process} {b : Part} {i : Info}
+    {ws : List ℕ} {at hi : ℕ} (B : Births) (A : Acting L s st μ t path q b i (Starting path B) ws at hi)
+    (first-branch : path ≡ B .par ++ 0 ∷ []) (next-one : 1 ≤ B .next) (same-w : i .w ≡ B .w)
+    (births : (k : ℕ) (r : Stmt) (d f : ℕ) → Later (stmt (B .s) (B .ss)) (B .d) (B .b) k r d f → Birth L st μ t B k r d f)
+    (own : Comes (S L) b (st .store) (i .vars) (i .chans) hi q (B .first) (B .w)) (inner : B .first ≤ length (S L .xs))
+    (near : L .off (B .first) ≤ hi) (clean : Unmarked (S L) b i st μ) where
+  -- with other registers, at an index
+  starts-on : {x : Instruction} (r : Cpu) (k : ℕ) → Executes L x s (withCpu r s) → r .front ≡ cpuOf s .front → r .back ≡ cpuOf s .back
+      → r .queued ≡ cpuOf s .queued → r .running ≡ true → r .operand ≡ 0 → r .place ≡ L .off k → k ≤ length (S L .xs)
+      → L .off (suc at) ≤ L .off k
+      → Starts (S L) (st .store) (B .s) (B .ss) (B .d) (B .b) (B .first) (B .w) hi μ k (regsOf r) → Did L (Executes L x s) s st (bytesLeft (S L) t)
+  starts-on r k ran e₁ e₂ e₃ run operand place inside-k ahead way =
+      let bound = way-bound (S L) (start-in (S L)) way in
+      let n = i .left - 1 in
+      elim (relabel L (A .leaf) (inl refl) (i .w) n (sits-at L (A .leaf) .placed) (omega (arith, sits-at L (A .leaf) .few)) (A .rest) (A .lined)) [
+        | relabelled u leaf rest lines e others ↦
+            came (withCpu r s) [] ran t-none (silent L s (withCpu r s) refl)
+            (starts B (real-cpu L r e₁ e₂ e₃ (A .real)) run leaf rest lines
+            (record {
+              hi = hi;
+              at = k;
+              first-branch = first-branch;
+              next-one = next-one;
+              same-w = same-w;
+              here = fresh L k (r .place) (r .operand) inside-k place operand;
+              way = way;
+              births = λ m x d f h. carried others (births m x d f h);
+              own = own;
+              inner = inner;
+              near = near;
+              unmarked = clean;
+              soon = omega (arith, A .left, place);
+            })) (inl (omega (arith, A .left)))
+      ]
+    where
+      carried : {u : Tree (S L) (root L) (st .process)} {m d f : ℕ} {r : Stmt}
+          → ((other : List ℕ) (r : Process) (c : Part) (j : Info) → path ≢ other → LeafAt L st t other r c j → LeafAt L st u other r c j)
+          → Birth L st μ t B m r d f → Birth L st μ u B m r d f
+      carried others y =
+          record {
+            leaf = others _ _ _ _ (λ z. branch-differ (B .par) (λ m. absurd (omega (arith, next-one, m))) (sym first-branch ∙ z)) (y .leaf);
+            comes = y .comes;
+            inner = y .inner;
+            room = y .room;
+            unmarked = y .unmarked;
+          }
+
+  pub starts-acts : {x : Instruction} → At (S L) at x
+      → Starts (S L) (st .store) (B .s) (B .ss) (B .d) (B .b) (B .first) (B .w) hi μ at (regsOf (cpuOf s))
+      → Did L (Executes L x s) s st (bytesLeft (S L) t)
+  unfolding functionIn operandIn
+  starts-acts here (arrived p h) = same-does L at here (p .starts) (did-start L B A p first-branch next-one same-w births own inner near clean)
+  starts-acts here (through e h f) = absurd f
+  starts-acts here (quiet g a q v) =
+      let r = load (g (regsOf (cpuOf s))) (cpuOf s) in
+      same-does L at here a
+      (starts-on r (suc at) (executes (q s (A .placed))) refl refl refl (A .run) (A .operand) (A .placed) (A .inside) (omega arith) v)
+  starts-acts here (loads y a w l v) = absurd l
+  starts-acts here (jumps a t c reach v) = absurd c
+  starts-acts here (falls {t = k} a h z f v) =
+      let r = goto (low (cpuOf s .place + less (L .off k) (L .off (suc at)))) (cpuOf s) in
+      same-does L at here a
+      (starts-on r k (executes (exec-cj-jumps _ s z)) refl refl refl (A .run) (A .operand)
+      (rw (A .placed)
+      (reached (L .off (suc at)) (L .off k) (omega (arith, off-small L (suc at) (A .inside), L .code-small))
+      (omega (arith, off-small L k h, L .code-small)))) h f v)
