@@ -27,10 +27,10 @@ use Rattle.model.proofs.Onwards.{AltGoes, Starts}
 use Rattle.model.proofs.Trees.{Info, newInfo, Tree, bytesLeft}
 use Rattle.model.proofs.Leaves.{Unmarked}
 use Rattle.model.proofs.Effects.{cpuOf, exec-cj-jumps}
-use Rattle.model.proofs.Kernel.{Loaded, S, root, LeafAt}
+use Rattle.model.proofs.Kernel.{Loaded, S, root, LeafAt, Rest, Lined, Real}
 use Rattle.model.proofs.Writes.{sits-at}
 use Rattle.model.proofs.Traces.{t-none}
-use Rattle.model.proofs.Running.{Only, Births, Later, Starting, fresh, off-small, Birth, NowStarts, starts, Did, came, Executes, executes, Acting}
+use Rattle.model.proofs.Running.{Only, Births, Later, Starting, Here, fresh, off-small, Birth, NowStarts, starts, Did, came, Executes, executes, Acting}
 use Rattle.model.proofs.Moving.{relaid, relabelled, relabel}
 use Rattle.model.proofs.Reals.{real-cpu}
 use Rattle.model.proofs.Reach.{way-bound, start-in}
@@ -90,38 +90,36 @@ module _ (L : Loaded) {s : World} {st : State} {μ : Mem} {t : Tree (S L) (root 
 
 -- the first branch of a PAR, on its way to start the next one
 module _ (L : Loaded) {s : World} {st : State} {μ : Mem} {t : Tree (S L) (root L) (st .process)} {path : List ℕ} {q : Process} {b : Part} {i : Info}
-    {ws : List ℕ} {at hi : ℕ} (B : Births) (A : Acting L s st μ t path q b i (Starting path B) ws at hi)
-    (first-branch : path ≡ B .par ++ 0 ∷ []) (next-one : 1 ≤ B .next) (same-w : i .w ≡ B .w)
+    {ws : List ℕ} {hi : ℕ} (B : Births) (first-branch : path ≡ B .par ++ 0 ∷ []) (next-one : 1 ≤ B .next) (same-w : i .w ≡ B .w)
     (births : (k : ℕ) (r : Stmt) (d f : ℕ) → Later (stmt (B .s) (B .ss)) (B .d) (B .b) k r d f → Birth L st μ t B k r d f)
     (own : Comes (S L) b (st .store) (i .vars) (i .chans) hi q (B .first) (B .w)) (inner : B .first ≤ length (S L .xs))
     (near : L .off (B .first) ≤ hi) (clean : Unmarked (S L) b i st μ) where
-  -- with other registers, at an index
-  starts-on : {x : Instruction} (r : Cpu) (k : ℕ) → Executes L x s (withCpu r s) → r .front ≡ cpuOf s .front → r .back ≡ cpuOf s .back
-      → r .queued ≡ cpuOf s .queued → r .running ≡ true → r .operand ≡ 0 → r .place ≡ L .off k → k ≤ length (S L .xs)
-      → L .off (suc at) ≤ L .off k
-      → Starts (S L) (st .store) (B .s) (B .ss) (B .d) (B .b) (B .first) (B .w) hi μ k (regsOf r) → Did L (Executes L x s) s st (bytesLeft (S L) t)
-  starts-on r k ran e₁ e₂ e₃ run operand place inside-k ahead way =
-      let bound = way-bound (S L) (start-in (S L)) way in
+  -- with other registers, and one byte less left
+  pub starts-on : {did : World → Type 0} (r : Cpu) (k : ℕ) → Real L s st μ ws → LeafAt L st t path q b i → Rest L st μ t (Starting path B) ws
+      → Lined L st t (Starting path B) ws → did (withCpu r s) → r .front ≡ cpuOf s .front → r .back ≡ cpuOf s .back
+      → r .queued ≡ cpuOf s .queued → r .running ≡ true → Here L k (r .place) (r .operand) → suc hi ≤ i .left + r .place → 1 ≤ i .left
+      → Starts (S L) (st .store) (B .s) (B .ss) (B .d) (B .b) (B .first) (B .w) hi μ k (regsOf r) → Did L did s st (bytesLeft (S L) t)
+  starts-on r k real leaf₀ rest₀ lines₀ ran e₁ e₂ e₃ run here soon some-left way =
       let n = i .left - 1 in
-      elim (relabel L (A .leaf) (inl refl) (i .w) n (sits-at L (A .leaf) .placed) (omega (arith, sits-at L (A .leaf) .few)) (A .rest) (A .lined)) [
+      elim (relabel L leaf₀ (inl refl) (i .w) n (sits-at L leaf₀ .placed) (omega (arith, sits-at L leaf₀ .few)) rest₀ lines₀) [
         | relabelled u leaf rest lines e others ↦
             came (withCpu r s) [] ran t-none (silent L s (withCpu r s) refl)
-            (starts B (real-cpu L r e₁ e₂ e₃ (A .real)) run leaf rest lines
+            (starts B (real-cpu L r e₁ e₂ e₃ real) run leaf rest lines
             (record {
               hi = hi;
               at = k;
               first-branch = first-branch;
               next-one = next-one;
               same-w = same-w;
-              here = fresh L k (r .place) (r .operand) inside-k place operand;
+              here = here;
               way = way;
               births = λ m x d f h. carried others (births m x d f h);
               own = own;
               inner = inner;
               near = near;
               unmarked = clean;
-              soon = omega (arith, A .left, place);
-            })) (inl (omega (arith, A .left)))
+              soon = omega (arith, soon, some-left);
+            })) (inl (omega (arith, e, some-left)))
       ]
     where
       carried : {u : Tree (S L) (root L) (st .process)} {m d f : ℕ} {r : Stmt}
@@ -136,22 +134,32 @@ module _ (L : Loaded) {s : World} {st : State} {μ : Mem} {t : Tree (S L) (root 
             unmarked = y .unmarked;
           }
 
-  pub starts-acts : {x : Instruction} → At (S L) at x
-      → Starts (S L) (st .store) (B .s) (B .ss) (B .d) (B .b) (B .first) (B .w) hi μ at (regsOf (cpuOf s))
-      → Did L (Executes L x s) s st (bytesLeft (S L) t)
-  unfolding functionIn operandIn
-  starts-acts here (arrived p h) = same-does L at here (p .starts) (did-start L B A p first-branch next-one same-w births own inner near clean)
-  starts-acts here (through e h f) = absurd f
-  starts-acts here (quiet g a q v) =
-      let r = load (g (regsOf (cpuOf s))) (cpuOf s) in
-      same-does L at here a
-      (starts-on r (suc at) (executes (q s (A .placed))) refl refl refl (A .run) (A .operand) (A .placed) (A .inside) (omega arith) v)
-  starts-acts here (loads y a w l v) = absurd l
-  starts-acts here (jumps a t c reach v) = absurd c
-  starts-acts here (falls {t = k} a h z f v) =
-      let r = goto (low (cpuOf s .place + less (L .off k) (L .off (suc at)))) (cpuOf s) in
-      same-does L at here a
-      (starts-on r k (executes (exec-cj-jumps _ s z)) refl refl refl (A .run) (A .operand)
-      (rw (A .placed)
-      (reached (L .off (suc at)) (L .off k) (omega (arith, off-small L (suc at) (A .inside), L .code-small))
-      (omega (arith, off-small L k h, L .code-small)))) h f v)
+  module _ {at : ℕ} (A : Acting L s st μ t path q b i (Starting path B) ws at hi) where
+    starts-at : {x : Instruction} (r : Cpu) (k : ℕ) → Executes L x s (withCpu r s) → r .front ≡ cpuOf s .front → r .back ≡ cpuOf s .back
+        → r .queued ≡ cpuOf s .queued → r .running ≡ true → r .operand ≡ 0 → r .place ≡ L .off k → k ≤ length (S L .xs)
+        → L .off (suc at) ≤ L .off k
+        → Starts (S L) (st .store) (B .s) (B .ss) (B .d) (B .b) (B .first) (B .w) hi μ k (regsOf r) → Did L (Executes L x s) s st (bytesLeft (S L) t)
+    starts-at r k ran e₁ e₂ e₃ run operand place inside-k ahead way =
+        let bound = way-bound (S L) (start-in (S L)) way in
+        starts-on r k (A .real) (A .leaf) (A .rest) (A .lined) ran e₁ e₂ e₃ run (fresh L k (r .place) (r .operand) inside-k place operand)
+        (omega (arith, A .left, place)) (omega (arith, A .left)) way
+
+    pub starts-acts : {x : Instruction} → At (S L) at x
+        → Starts (S L) (st .store) (B .s) (B .ss) (B .d) (B .b) (B .first) (B .w) hi μ at (regsOf (cpuOf s))
+        → Did L (Executes L x s) s st (bytesLeft (S L) t)
+    unfolding functionIn operandIn
+    starts-acts here (arrived p h) = same-does L at here (p .starts) (did-start L B A p first-branch next-one same-w births own inner near clean)
+    starts-acts here (through e h f) = absurd f
+    starts-acts here (quiet g a q v) =
+        let r = load (g (regsOf (cpuOf s))) (cpuOf s) in
+        same-does L at here a
+        (starts-at r (suc at) (executes (q s (A .placed))) refl refl refl (A .run) (A .operand) (A .placed) (A .inside) (omega arith) v)
+    starts-acts here (loads y a w l v) = absurd l
+    starts-acts here (jumps a t c reach v) = absurd c
+    starts-acts here (falls {t = k} a h z f v) =
+        let r = goto (low (cpuOf s .place + less (L .off k) (L .off (suc at)))) (cpuOf s) in
+        same-does L at here a
+        (starts-at r k (executes (exec-cj-jumps _ s z)) refl refl refl (A .run) (A .operand)
+        (rw (A .placed)
+        (reached (L .off (suc at)) (L .off k) (omega (arith, off-small L (suc at) (A .inside), L .code-small))
+        (omega (arith, off-small L k h, L .code-small)))) h f v)
