@@ -56,6 +56,7 @@ pub mod Outs
 pub mod Inits
 pub mod Alts
 pub mod Choices
+pub mod Bystanders
 pub mod Steps
 pub mod Turns
 pub mod Memory
