@@ -1,6 +1,7 @@
 -- A process that has the processor stays as it is while the outside acts on other processes.
 use Prim.Native.Nat.{ℕ, zero, suc, _+_, _-_, _^_, _≤_, _<_}
 use native.Mathlib.Omega.{arith}
+use native.Mathlib.Decide.{ℕ-discrete}
 use mathlib.Core.Path.{_≡_, refl, sym, ap, _∙_, subst}
 use mathlib.Core.Logic.{_≢_, _⊎_, inl, inr, ⊎-elim}
 use mathlib.Core.Bool.{Bool, true, false}
@@ -20,17 +21,20 @@ use Rattle.model.proofs.Parts.{Part, joins, partOf, FineGuards}
 use Rattle.model.proofs.Conts.{cont-low}
 use Rattle.model.proofs.Marks.{Own, AltCode, Enabling, Enables, e-input, e-skip, Disabling, Disables, d-input, d-skip, AltPoint, pt-enable}
 use Rattle.model.proofs.Marks.{pt-wait, pt-disable, pt-choose}
-use Rattle.model.proofs.Arrivals.{Comes, comes}
+use Rattle.model.proofs.Arrivals.{Goes, Comes, comes}
 use Rattle.model.proofs.Onwards.{AltGoes, Starts, rest-fine}
-use Rattle.model.proofs.Trees.{Info, newInfo, Sits, Tree, bytesLeft}
+use Rattle.model.proofs.Trees.{some-same, Info, newInfo, Sits, Tree, bytesLeft}
 use Rattle.model.proofs.Leaves.{Unmarked}
 use Rattle.model.proofs.Stays.{value-same, Calm, goes-stays, comes-stays, unmarked-stays, noticed-stays, marked-stays, ready-stays, disabling-stays}
 use Rattle.model.proofs.Effects.{cpuOf}
+use Rattle.model.proofs.Queues.{apart-none}
+use Rattle.model.proofs.Reach.{Moving, begins, alters, ends, way-kind, alt-in, alt-moving}
 use Rattle.model.proofs.Kernel.{Loaded, S, root, LeafAt, Rest, Lined, Real}
 use Rattle.model.proofs.Writes.{part-small, sits-at}
 use Rattle.model.proofs.Grounds.{small-size}
 use Rattle.model.proofs.Running.{Only, Nobody, Births, Later, l-here, l-next, Unborn, unborn, Starting, Here, Birth, Now, now-goes, now-alt, NowStarts}
 use Rattle.model.proofs.Running.{Inv, runs, starts, idle}
+use Rattle.model.proofs.Moving.{settled-silent, skips-silent}
 
 -- a path without jumps stays where its significant instruction does
 pub way-still : (S : Setting) {P Q : ℕ → Mem → ℕ → Regs → Type 0} {E : Type 0} {σ τ : Store} {R : Site → Type 0} {hi : ℕ} {μ ν : Mem} {i : ℕ}
@@ -99,3 +103,201 @@ module _ (S : Setting) (b : Part) (i : Info) (high : b .top < 2 ^ 32) (sits : Si
   pub alt-stays : {q : Process} {hi j : ℕ} {r : Regs} → AltGoes S b st (i .vars) (i .chans) q hi μ j r
       → AltGoes S b st′ (i .vars) (i .chans) q hi ν j r
   alt-stays way = way-still S (λ x m. calm .reads x (m .0) (m .1)) alt-point-stays way
+
+-- the k-th of some statements
+later-few : {ss : Stmts} {d b k d′ b′ : ℕ} {r : Stmt} → Later ss d b k r d′ b′ → k < howMany ss
+unfolding howMany
+later-few l-here = omega arith
+later-few (l-next h) = omega (arith, later-few h)
+
+data Nth (ss : Stmts) (d b k : ℕ) : Type 0 where
+  nth : {r : Stmt} {d′ b′ : ℕ} → Later ss d b k r d′ b′ → Nth ss d b k
+
+later-found : (ss : Stmts) (d b k : ℕ) → k < howMany ss → Nth ss d b k
+unfolding howMany
+later-found noStmt d b k h = absurd (omega arith)
+later-found (stmt s ss) d b zero h = nth l-here
+later-found (stmt s ss) d b (suc k) h = elim (later-found ss (d + need s) (b + size s + 2) k (omega arith)) [ nth l ↦ nth (l-next l) ]
+
+-- whether a branch is still to be started
+unborn-upto : (B : Births) (other : List ℕ) (n : ℕ) → n ≤ howMany (B .ss)
+    → Unborn B other ⊎ ((k : ℕ) → k ≤ n → other ≢ B .par ++ (B .next + k) ∷ [])
+unborn-upto B other zero h =
+    ⊎-elim (λ e. inl (unborn 0 h e)) (λ d. inr (λ k l e. d (e ∙ ap (λ z. B .par ++ (B .next + z) ∷ []) (omega arith))))
+    (same-path other (B .par ++ (B .next + 0) ∷ []))
+unborn-upto B other (suc n) h =
+    ⊎-elim (λ e. inl (unborn (suc n) h e))
+    (λ d. ⊎-elim (λ u. inl u) (λ g. inr (λ k l e. by d g k l e (ℕ-discrete k (suc n)))) (unborn-upto B other n (omega arith)))
+    (same-path other (B .par ++ (B .next + suc n) ∷ []))
+  where
+    by : other ≢ B .par ++ (B .next + suc n) ∷ [] → ((k : ℕ) → k ≤ n → other ≢ B .par ++ (B .next + k) ∷ []) → (k : ℕ) → k ≤ suc n
+        → other ≡ B .par ++ (B .next + k) ∷ [] → Dec (k ≡ suc n) → ⊥
+    by d g k l e (yes z) = d (e ∙ ap (λ z. B .par ++ (B .next + z) ∷ []) z)
+    by d g k l e (no z) = g k (omega arith) e
+
+unborn-known : (B : Births) (other : List ℕ) → Unborn B other ⊎ (Unborn B other → ⊥)
+unborn-known B other =
+    ⊎-elim (λ u. inl u) (λ n. inr (λ u. elim u [ unborn k l e ↦ n k l e ])) (unborn-upto B other (howMany (B .ss)) (omega arith))
+
+module _ (L : Loaded) where
+  -- two machines whose processes see the same registers
+  pub record SameRegs (u s : World) : Type 0 where
+    pub run : cpuOf u .running ≡ cpuOf s .running
+    pub place : cpuOf u .place ≡ cpuOf s .place
+    pub operand : cpuOf u .operand ≡ cpuOf s .operand
+    pub regs : regsOf (cpuOf u) ≡ regsOf (cpuOf s)
+
+  module _ {u s : World} (same : SameRegs u s) where
+    here-same : {at : ℕ} → Here L at (cpuOf s .place) (cpuOf s .operand) → Here L at (cpuOf u .place) (cpuOf u .operand)
+    here-same {at} h =
+        subst (λ z. Here L at (cpuOf u .place) z) (sym (same .operand)) (subst (λ z. Here L at z (cpuOf s .operand)) (sym (same .place)) h)
+
+    soon-same : {hi : ℕ} (n : ℕ) → hi ≤ n + cpuOf s .place → hi ≤ n + cpuOf u .place
+    soon-same n h = omega (arith, same .place)
+
+    pub now-stays : {st st′ : State} {μ ν : Mem} {b : Part} {i : Info} {q : Process} → b .top < 2 ^ 32 → Sits (S L) b i
+        → Calm (S L) b i (b .top) st st′ μ ν → Now L s st μ b i q → Now L u st′ ν b i q
+    now-stays {st′ = st′} {ν = ν} {b} {i} {q} high sits calm (now-goes {hi} {at} h way settled clean soon) =
+        now-goes (here-same h)
+        (subst (λ r. Goes (S L) b (st′ .store) (i .vars) (i .chans) q hi ν at r) (sym (same .regs))
+        (goes-stays (S L) b (i .vars) (i .chans) (calm .reads) (all-same (S L) b i high sits calm) way))
+        settled (unmarked-stays (S L) b i high sits calm clean) (soon-same (i .left) soon)
+    now-stays {st′ = st′} {ν = ν} {b} {i} {q} high sits calm (now-alt {hi} {at} h way soon) =
+        now-alt (here-same h)
+        (subst (λ r. AltGoes (S L) b st′ (i .vars) (i .chans) q hi ν at r) (sym (same .regs)) (alt-stays (S L) b i high sits calm way))
+        (soon-same (i .left) soon)
+
+  -- a part is below the end of words
+  pub part-high : {st : State} {t : Tree (S L) (root L) (st .process)} {path : List ℕ} {q : Process} {b : Part} {i : Info}
+      → LeafAt L st t path q b i → b .top < 2 ^ 32
+  part-high k = omega (arith, part-small L k, small-size L)
+
+  -- what the processes that are left out keep
+  abbrev pub Keeps : (st st′ : State) (μ ν : Mem) (t : Tree (S L) (root L) (st .process)) (t′ : Tree (S L) (root L) (st′ .process))
+      (Out : List ℕ → Type 0) → Type 0
+  Keeps st st′ μ ν t t′ Out =
+      (path : List ℕ) (q : Process) (b : Part) (i : Info) → LeafAt L st t path q b i → Out path
+      → LeafAt L st′ t′ path q b i × Calm (S L) b i (b .top) st st′ μ ν
+
+  -- the first branch of a PAR, and those that it has still to start
+  starts-stays : {u s : World} → SameRegs u s → {st st′ : State} {μ ν : Mem} {t : Tree (S L) (root L) (st .process)}
+      {t′ : Tree (S L) (root L) (st′ .process)} {path : List ℕ} {q : Process} {b : Part} {i : Info} {B : Births}
+      → LeafAt L st t path q b i → Keeps st st′ μ ν t t′ (Starting path B) → NowStarts L s st μ t path q b i B
+      → NowStarts L u st′ ν t′ path q b i B
+  unfolding howMany
+  starts-stays {u} {s} same {st} {st′} {μ} {ν} {t} {t′} {path} {q} {b} {i} {B} leaf keeps now =
+      let calm = keeps path q b i leaf (inl refl) .1 in
+      record {
+        hi = now .hi;
+        at = now .at;
+        first-branch = now .first-branch;
+        next-one = now .next-one;
+        same-w = now .same-w;
+        here = here-same same (now .here);
+        way = subst (λ r. Starts (S L) (st′ .store) (B .s) (B .ss) (B .d) (B .b) (B .first) (B .w) (now .hi) ν (now .at) r) (sym (same .regs))
+            (way-still (S L) (λ x m. absurd m) (λ h j r p. p) (now .way));
+        births = λ k r d c l. birth k r d c l (now .births k r d c l);
+        own = comes-stays (S L) b (i .vars) (i .chans) (calm .reads) (now .own);
+        inner = now .inner;
+        unmarked = unmarked-stays (S L) b i (part-high leaf) (sits-at L leaf) calm (now .unmarked);
+        soon = soon-same same (i .left) (now .soon);
+      }
+    where
+      birth : (k : ℕ) (r : Stmt) (d c : ℕ) → Later (stmt (B .s) (B .ss)) (B .d) (B .b) k r d c → Birth L st μ t B k r d c → Birth L st′ ν t′ B k r d c
+      birth k r d c l h =
+          let a = partOf (B .vars) (B .chans) (B .w - d) (joins d) r in
+          let j = newInfo (S L) (B .vars) (B .chans) (B .w - d) in
+          let (leaf′, calm) = keeps (B .par ++ (B .next + k) ∷ []) (begin r []) a j (h .leaf) (inr (unborn k (omega (arith, later-few l)) refl)) in
+          record {
+            leaf = leaf′;
+            comes = comes-stays (S L) a (B .vars) (B .chans) (calm .reads) (h .comes);
+            inner = h .inner;
+            room = h .room;
+            unmarked = unmarked-stays (S L) a j (part-high (h .leaf)) (sits-at L (h .leaf)) calm (h .unmarked);
+          }
+
+  -- the processor is free: no process is left out, and none is queued
+  pub record Free (s : World) (Out : List ℕ → Type 0) (ws : List ℕ) : Type 0 where
+    pub stopped : cpuOf s .running ≡ false
+    pub operand : cpuOf s .operand ≡ 0
+    pub nobody : (other : List ℕ) → Out other → ⊥
+    pub unqueued : ws ≡ []
+
+  -- all that the invariant says, with what it comes to where the processes that are left out keep what they have
+  pub record Ground (s : World) (st : State) (μ : Mem) (t : Tree (S L) (root L) (st .process)) (Out : List ℕ → Type 0) (ws : List ℕ) : Type 0 where
+    pub real : Real L s st μ ws
+    pub rest : Rest L st μ t Out ws
+    pub lined : Lined L st t Out ws
+    pub known : (other : List ℕ) → Out other ⊎ (Out other → ⊥)
+    pub silent : (path : List ℕ) (c : Site) (v : ℕ) (k : List Frame) → look path (st .process) ≡ some (atOutput c v k) → Out path → ⊥
+    pub free : (cpuOf s .running ≡ true) ⊎ Free s Out ws
+    pub stays : (u : World) (st′ : State) (ν : Mem) (t′ : Tree (S L) (root L) (st′ .process)) (us : List ℕ) → SameRegs u s
+        → Keeps st st′ μ ν t t′ Out → (cpuOf s .running ≡ false → us ≡ []) → Real L u st′ ν us → Rest L st′ ν t′ Out us
+        → Lined L st′ t′ Out us → Inv L u st′ (bytesLeft (S L) t′)
+
+  -- a process that goes on sends nothing
+  moving-silent : {q : Process} {c : Site} {v : ℕ} {k : List Frame} → Moving q → q ≡ atOutput c v k → ⊥
+  moving-silent begins e = never (cc)
+  moving-silent alters e = never (cc)
+  moving-silent ends e = never (cc)
+
+  now-silent : {s : World} {st : State} {μ : Mem} {b : Part} {i : Info} {q : Process} {c : Site} {v : ℕ} {k : List Frame} → Now L s st μ b i q
+      → q ≡ atOutput c v k → ⊥
+  now-silent (now-goes h way settled clean soon) e = settled-silent settled e
+  now-silent {b = b} {q = q} (now-alt h way soon) e =
+      moving-silent (way-kind (S L) (alt-in (S L) b) (Moving q) (alt-moving (S L) b) (λ z. absurd z) way) e
+
+  module _ {s : World} {st : State} {μ : Mem} {t : Tree (S L) (root L) (st .process)} {path : List ℕ} {q : Process} {b : Part} {i : Info}
+      {ws : List ℕ} (real : Real L s st μ ws) (run : cpuOf s .running ≡ true) (leaf : LeafAt L st t path q b i) where
+    pub runs-ground : Rest L st μ t (Only path) ws → Lined L st t (Only path) ws → Now L s st μ b i q → Ground s st μ t (Only path) ws
+    runs-ground rest lines now =
+        record {
+          real = real;
+          rest = rest;
+          lined = lines;
+          known = same-path path;
+          silent = λ other c v k e o. now-silent now (some-same (sym (leaf .found) ∙ ap (λ z. look z (st .process)) o ∙ e));
+          free = inl run;
+          stays = λ u st′ ν t′ us same keeps f real′ rest′ lines′.
+              let (leaf′, calm) = keeps path q b i leaf refl in
+              runs real′ (same .run ∙ run) leaf′ rest′ lines′ (now-stays same (part-high leaf) (sits-at L leaf) calm now);
+        }
+
+    pub starts-ground : (B : Births) → Rest L st μ t (Starting path B) ws → Lined L st t (Starting path B) ws → NowStarts L s st μ t path q b i B
+        → Ground s st μ t (Starting path B) ws
+    unfolding howMany
+    starts-ground B rest lines now =
+        record {
+          real = real;
+          rest = rest;
+          lined = lines;
+          known = λ other. ⊎-elim (λ e. inl (inl e))
+              (λ d. ⊎-elim (λ u. inl (inr u)) (λ n. inr (λ o. ⊎-elim d n o)) (unborn-known B other)) (same-path path other);
+          silent = λ other c v k e o. ⊎-elim
+              (λ p. elim (now .own) [
+                | comes sk settled sub way ↦ skips-silent sk settled (some-same (sym (leaf .found) ∙ ap (λ z. look z (st .process)) p ∙ e))
+              ]) (λ u. unborn-silent other c v k e u) o;
+          free = inl run;
+          stays = λ u st′ ν t′ us same keeps f real′ rest′ lines′.
+              starts B real′ (same .run ∙ run) (keeps path q b i leaf (inl refl) .0) rest′ lines′ (starts-stays same leaf keeps now);
+        }
+      where
+        unborn-silent : (other : List ℕ) (c : Site) (v : ℕ) (k : List Frame) → look other (st .process) ≡ some (atOutput c v k) → Unborn B other → ⊥
+        unborn-silent other c v k e (unborn n l p) = elim (later-found (stmt (B .s) (B .ss)) (B .d) (B .b) n (omega arith)) [
+          | nth {r} h ↦
+              silent-begin r [] (some-same (sym (now .births n r _ _ h .leaf .found) ∙ ap (λ z. look z (st .process)) (sym p) ∙ e))
+        ]
+
+  pub idle-ground : {s : World} {st : State} {μ : Mem} {t : Tree (S L) (root L) (st .process)} → Real L s st μ [] → cpuOf s .running ≡ false
+      → cpuOf s .operand ≡ 0 → Rest L st μ t Nobody [] → Ground s st μ t Nobody []
+  idle-ground real stop operand rest =
+      record {
+        real = real;
+        rest = rest;
+        lined = record { each = λ w m. absurd (List·Memᴰ·not-nil m); once = apart-none };
+        known = λ other. inr (λ o. o);
+        silent = λ other c v k e o. o;
+        free = inr (record { stopped = stop; operand = operand; nobody = λ other o. o; unqueued = refl });
+        stays = λ u st′ ν t′ us same keeps f real′ rest′ lines′.
+            idle (subst (λ l. Real L u st′ ν l) (f stop) real′) (same .run ∙ stop) (subst (λ l. Rest L st′ ν t′ Nobody l) (f stop) rest′);
+      }
