@@ -180,7 +180,7 @@ module _ (L : Loaded) where
       → LeafAt L st′ t′ path q b i × Calm (S L) b i (b .top) st st′ μ ν
 
   -- the first branch of a PAR, and those that it has still to start
-  starts-stays : {u s : World} → SameRegs u s → {st st′ : State} {μ ν : Mem} {t : Tree (S L) (root L) (st .process)}
+  pub starts-stays : {u s : World} → SameRegs u s → {st st′ : State} {μ ν : Mem} {t : Tree (S L) (root L) (st .process)}
       {t′ : Tree (S L) (root L) (st′ .process)} {path : List ℕ} {q : Process} {b : Part} {i : Info} {B : Births}
       → LeafAt L st t path q b i → Keeps st st′ μ ν t t′ (Starting path B) → NowStarts L s st μ t path q b i B
       → NowStarts L u st′ ν t′ path q b i B

@@ -57,6 +57,7 @@ pub mod Inits
 pub mod Alts
 pub mod Choices
 pub mod Bystanders
+pub mod Wakings
 pub mod Steps
 pub mod Turns
 pub mod Memory
