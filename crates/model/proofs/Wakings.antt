@@ -14,7 +14,7 @@ use Rattle.model.specs.Usage.{same}
 use Rattle.model.specs.Scheme.{sizeEnable}
 use Rattle.model.specs.Machine.{Talk, World, done, Act, return, testPlace, join, resumeWord}
 use Rattle.model.specs.Run.{land}
-use Rattle.model.specs.Occam.{Store, store, Frame, Process, atOutput, framesOf, put, resume, State, Sender, process, outside, Communication, Event}
+use Rattle.model.specs.Occam.{Store, store, Frame, Process, atOutput, framesOf, put, resume, State, Sender, process, outside, Communication, over-channel, Event}
 use Rattle.model.specs.Demand.{Segment, liveIn, talkOf}
 use Rattle.model.proofs.Cases.{never, by-bool}
 use Rattle.model.proofs.Sites.{same-eq}
@@ -37,7 +37,7 @@ use Rattle.model.proofs.Kernel.{Loaded, S, root, size, LeafAt, NodeAt, 
 use Rattle.model.proofs.Writes.{upd-same, upd-other, changed, node, apart-zones, apart-parts, own-one, part-small, sits-at, sender-stored, sender-kept}
 use Rattle.model.proofs.Puts.{putting, treeThen, here-then, other-then, lined-then, rest-then, moved, sender-then, sender-before}
 use Rattle.model.proofs.Grounds.{small-size, sound-at, code-end}
-use Rattle.model.proofs.Traces.{Trace, t-none}
+use Rattle.model.proofs.Traces.{Trace, t-none, trace-then}
 use Rattle.model.proofs.Running.{Only, Nobody, Here, within, at-end, off-small, fresh, Now, now-goes, now-alt, Inv, runs, starts, idle}
 use Rattle.model.proofs.Moving.{rest-out, lined-in}
 use Rattle.model.proofs.Reals.{size-is, mirrored, real-state, real-queue, real-talk}
@@ -254,3 +254,73 @@ module _ (L : Loaded) where
 
     pub goes-on : Held (S L) d j st μ true r → Joins (j .w) s st (bytesLeft (S L) t)
     goes-on held = ⊎-elim (λ run. joins-back run held) (λ F. joins-free F leaf held) (G .free)
+
+    -- it waited at a channel, whose word is another now: it goes on behind its input or output
+    module _ {st₁ : State} {μ₁ : Mem} {c : Site} {k : List Frame} {at hi m : ℕ} (waits : Waits (S L) d j st₁ μ₁ c k at hi m)
+        (kept : μ (resumeWord (j .w)) ≡ μ₁ (resumeWord (j .w))) (frames : framesOf r ≡ k) (clean : Unmarked (S L) d j st μ)
+        (lost : (a : Site) (v : ℕ) (l : List Frame) → r ≡ atOutput a v l → (here : List ℕ) (p : Process) (e : Part) (n : Info)
+        → LeafAt L st t here p e n → List·Memᴰ a (e .inputs) → ⊥) where
+      abbrev tree : Tree (S L) (root L) (put other (resume k) (st .process))
+      tree = treeThen L leaf (resume k) (leaf-resume k) j (sits-at L leaf)
+
+      waited-rest : Rest L (putting other (resume k) st) μ tree (With Out other) ws
+      waited-rest =
+          rest-then L leaf (resume k) (leaf-resume k) j (sits-at L leaf) rest (inr refl) (rest .vars (node L leaf)) (rest .chans (node L leaf))
+          (live-resume k (j .vars) (λ x m. rest .live leaf x (subst (λ z. List·Memᴰ x (liveIn z)) (sym frames) m))) (λ a m o. m)
+          (λ a v l e here p q n y z m. lost a v l e here p q n y m) (λ a v l e here p q n y z m g o. silent-resume k e)
+
+      waited-leaf : LeafAt L (putting other (resume k) st) tree other (resume k) d j
+      waited-leaf = here-then L leaf (resume k) (leaf-resume k) j (sits-at L leaf)
+
+      waited-keeps : Keeps L st₀ (putting other (resume k) st) μ₀ μ t₀ tree Out
+      waited-keeps path q b i l o =
+          let (l′, calm) = keeps path q b i l o in
+          let off : other ≢ path = λ e. strange (subst Out (sym e) o) in
+          let quiet : Silent (resume k) = λ a v f e. silent-resume k e in
+          (
+            other-then L leaf (resume k) (leaf-resume k) j (sits-at L leaf) off l′,
+            calm-trans calm (calm-put leaf l′ off μ (resume k) (leaf-resume k) j (sits-at L leaf) quiet (λ a v f e m. lost a v f e path q b i l′ m)),
+          )
+
+      waited-bytes : bytesLeft (S L) tree ≡ bytesLeft (S L) t
+      waited-bytes = omega (arith, moved L leaf (resume k) (leaf-resume k) j (sits-at L leaf) .bytes, leaf-bytes (S L) t other (leaf .label))
+
+  -- the process that waited, as it goes on
+  pub waited-goes : {s₀ : World} {st₀ : State} {μ₀ : Mem} {t₀ : Tree (S L) (root L) (st₀ .process)} {Out : List ℕ → Type 0} {ws : List ℕ}
+      (G : Ground L s₀ st₀ μ₀ t₀ Out ws) {s : World} {st : State} {μ : Mem} {t : Tree (S L) (root L) (st .process)} → SameRegs L s s₀
+      → {other : List ℕ} {r : Process} {d : Part} {j : Info} → Real L s st μ ws → Rest L st μ t (With Out other) ws
+      → Lined L st t (With Out other) ws → LeafAt L st t other r d j → (Out other → ⊥) → Keeps L st₀ st μ₀ μ t₀ t Out
+      → {st₁ : State} {μ₁ : Mem} {c : Site} {k : List Frame} {at hi m : ℕ} → Waits (S L) d j st₁ μ₁ c k at hi m
+      → μ (resumeWord (j .w)) ≡ μ₁ (resumeWord (j .w)) → framesOf r ≡ k → Unmarked (S L) d j st μ
+      → ((a : Site) (v : ℕ) (l : List Frame) → r ≡ atOutput a v l → (here : List ℕ) (p : Process) (e : Part) (n : Info)
+      → LeafAt L st t here p e n → List·Memᴰ a (e .inputs) → ⊥)
+      → Joins (j .w) s (putting other (resume k) st) (bytesLeft (S L) t)
+  waited-goes G {s} {st} {μ} same-regs {other} {j = j} real rest lines leaf strange keeps {k = k} waits kept frames clean lost =
+      let rest′ = waited-rest G same-regs real rest lines leaf strange keeps waits kept frames clean lost in
+      let leaf′ = waited-leaf G same-regs real rest lines leaf strange keeps waits kept frames clean lost in
+      subst (λ n. Joins (j .w) s (putting other (resume k) st) n)
+      (waited-bytes G same-regs real rest lines leaf strange keeps waits kept frames clean lost)
+      (goes-on G same-regs (real-state L (put other (resume k) (st .process)) (st .store) real) rest′
+      (lined-then L leaf (resume k) (leaf-resume k) j (sits-at L leaf) (inr refl) lines) leaf′ strange
+      (waited-keeps G same-regs real rest lines leaf strange keeps waits kept frames clean lost)
+      (resumed (S L) _ j waits kept clean (sound-at L rest′ leaf′)))
+
+  -- with its communication
+  abbrev pub talked : Site → ℕ → World → World
+  talked c v u = record { machine = u .machine; memory = u .memory; talk = u .talk ++ record { channel = S L .word c; value = v } ∷ [] }
+
+  -- a process was woken by a communication
+  pub answers-talk : {did : World → Type 0} {s₀ s : World} {st₀ st : State} {e : Event} {c : Site} {v w n : ℕ} {g : Segment}
+      → Trace st₀ g st (over-channel c v) (e ∷ []) → s .talk ≡ s₀ .talk
+      → ((u : World) → join w s ≡ done tt u → land (talked c v u) ≡ done tt (talked c v u) → did (talked c v u)) → Joins w s st n
+      → Answers did s₀ st₀ e n
+  answers-talk {c = c} {v} {g = g} ms talk ran (joins u h e f ns inv) =
+      let inv′ = inv-talk (u .talk ++ record { channel = S L .word c; value = v } ∷ []) inv in
+      answers (talked c v u) (g ++ h) (ran u e (inv-lands inv′)) (trace-then ms ns)
+      (ap (λ z. z ++ record { channel = S L .word c; value = v } ∷ []) (f ∙ talk)) inv′ (omega arith)
+
+  -- without one
+  pub answers-silent : {did : World → Type 0} {s₀ s : World} {st₀ st : State} {e : Event} {w n : ℕ} {g : Segment} → Trace st₀ g st [] (e ∷ [])
+      → s .talk ≡ s₀ .talk → ((u : World) → join w s ≡ done tt u → land u ≡ done tt u → did u) → Joins w s st n → Answers did s₀ st₀ e n
+  answers-silent {s₀ = s₀} {g = g} ms talk ran (joins u h e f ns inv) =
+      answers u (g ++ h) (ran u e (inv-lands inv)) (trace-then ms ns) (f ∙ talk ∙ sym (append-nil (s₀ .talk))) inv (omega arith)
