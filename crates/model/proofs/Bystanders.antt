@@ -22,7 +22,7 @@ use Rattle.model.proofs.Conts.{cont-low}
 use Rattle.model.proofs.Marks.{Own, AltCode, Enabling, Enables, e-input, e-skip, Disabling, Disables, d-input, d-skip, AltPoint, pt-enable}
 use Rattle.model.proofs.Marks.{pt-wait, pt-disable, pt-choose}
 use Rattle.model.proofs.Arrivals.{Goes, Comes, comes}
-use Rattle.model.proofs.Onwards.{AltGoes, Starts, rest-fine}
+use Rattle.model.proofs.Onwards.{AltGoes, Starts, rest-fine, guarded-fine}
 use Rattle.model.proofs.Trees.{some-same, Info, newInfo, Sits, Tree, bytesLeft}
 use Rattle.model.proofs.Leaves.{Unmarked}
 use Rattle.model.proofs.Stays.{value-same, Calm, goes-stays, comes-stays, unmarked-stays, noticed-stays, marked-stays, ready-stays, disabling-stays}
@@ -34,7 +34,7 @@ use Rattle.model.proofs.Writes.{part-small, sits-at}
 use Rattle.model.proofs.Grounds.{small-size}
 use Rattle.model.proofs.Running.{Only, Nobody, Births, Later, l-here, l-next, Unborn, unborn, Starting, Here, Birth, Now, now-goes, now-alt, NowStarts}
 use Rattle.model.proofs.Running.{Inv, runs, starts, idle}
-use Rattle.model.proofs.Moving.{settled-silent, skips-silent}
+use Rattle.model.proofs.Moving.{same-leaf, settled-silent, skips-silent}
 
 -- a path without jumps stays where its significant instruction does
 pub way-still : (S : Setting) {P Q : ℕ → Mem → ℕ → Regs → Type 0} {E : Type 0} {σ τ : Store} {R : Site → Type 0} {hi : ℕ} {μ ν : Mem} {i : ℕ}
@@ -46,6 +46,16 @@ way-still S h l (quiet g at q v) = quiet g at q (way-still S h l v)
 way-still S {Q = Q} {ν = ν} h l (loads x at a m v) = loads x at a m (rw (h x m) at (way-still S {Q = Q} {ν = ν} h l v))
 way-still S h l (jumps at i c e v) = absurd c
 way-still S h l (falls at i a e v) = falls at i a e (way-still S h l v)
+
+-- what holds at its significant instruction and at the end holds on it
+pub way-holds : (S : Setting) {P : ℕ → Mem → ℕ → Regs → Type 0} {E K : Type 0} {σ : Store} {R : Site → Type 0} {hi : ℕ} {μ : Mem} {i : ℕ} {r : Regs}
+    → ((h i : ℕ) (r : Regs) → P h μ i r → K) → (E → K) → Way (S .xs) (S .off) (S .word) P E σ R (λ w. ⊥) hi μ i r → K
+way-holds S l f (arrived p b) = l _ _ _ p
+way-holds S l f (through e b g) = f g
+way-holds S l f (quiet g at q v) = way-holds S l f v
+way-holds S l f (loads x at a m v) = way-holds S l f v
+way-holds S l f (jumps at i c e v) = absurd c
+way-holds S l f (falls at i a e v) = way-holds S l f v
 
 -- the guards that an ALT is at
 module _ (S : Setting) (b : Part) (vars chans : List Site) {st st′ : State}
@@ -230,6 +240,9 @@ module _ (L : Loaded) where
     pub lined : Lined L st t Out ws
     pub known : (other : List ℕ) → Out other ⊎ (Out other → ⊥)
     pub silent : (path : List ℕ) (c : Site) (v : ℕ) (k : List Frame) → look path (st .process) ≡ some (atOutput c v k) → Out path → ⊥
+    -- a channel that holds a name of theirs is one of their inputs
+    pub marks : (path : List ℕ) (q : Process) (b : Part) (i : Info) → LeafAt L st t path q b i → Out path → (c : Site) → List·Memᴰ c (i .chans)
+        → Own b (μ (S L .word c)) → List·Memᴰ c (b .inputs)
     pub free : (cpuOf s .running ≡ true) ⊎ Free s Out ws
     pub stays : (u : World) (st′ : State) (ν : Mem) (t′ : Tree (S L) (root L) (st′ .process)) (us : List ℕ) → SameRegs u s
         → Keeps st st′ μ ν t t′ Out → (cpuOf s .running ≡ false → us ≡ []) → Real L u st′ ν us → Rest L st′ ν t′ Out us
@@ -247,6 +260,24 @@ module _ (L : Loaded) where
   now-silent {b = b} {q = q} (now-alt h way soon) e =
       moving-silent (way-kind (S L) (alt-in (S L) b) (Moving q) (alt-moving (S L) b) (λ z. absurd z) way) e
 
+  -- an ALT's marks are at its guards
+  point-marks : {st : State} {μ : Mem} {b : Part} (i : Info) {q : Process} (c : Site) → List·Memᴰ c (i .chans) → Own b (μ (S L .word c)) → (up j : ℕ)
+      (r : Regs) → AltPoint (S L) b st (i .vars) (i .chans) q up μ j r → List·Memᴰ c (b .inputs)
+  point-marks {b = b} i c m o up j r (pt-enable a l n e) =
+      guarded-fine (S L .word) b (i .vars) (i .chans) (r .w + 1) (n .marks c m o .1) (a .fine .1) .1
+  point-marks {b = b} i c m o up j r (pt-wait a n) =
+      guarded-fine (S L .word) b (i .vars) (i .chans) (r .w + 1) (n .marks c m o .1) (a .fine .1) .1
+  point-marks {b = b} i c m o up j r (pt-disable a l t n d) =
+      guarded-fine (S L .word) b (i .vars) (i .chans) (r .w + 1) (n .marks c m o .1)
+      (rest-fine (S L .word) b (i .vars) (i .chans) (r .w + 1) t (a .fine .1)) .1
+  point-marks {b = b} i c m o up j r (pt-choose a n) =
+      guarded-fine (S L .word) b (i .vars) (i .chans) (r .w + 1) (n .marks c m o .1) tt .1
+
+  now-marks : {s : World} {st : State} {μ : Mem} {b : Part} {i : Info} {q : Process} → Now L s st μ b i q → (c : Site) → List·Memᴰ c (i .chans)
+      → Own b (μ (S L .word c)) → List·Memᴰ c (b .inputs)
+  now-marks (now-goes h way settled clean soon) c m o = absurd (clean c m o)
+  now-marks {i = i} (now-alt h way soon) c m o = way-holds (S L) (point-marks i c m o) (λ z. absurd z) way
+
   module _ {s : World} {st : State} {μ : Mem} {t : Tree (S L) (root L) (st .process)} {path : List ℕ} {q : Process} {b : Part} {i : Info}
       {ws : List ℕ} (real : Real L s st μ ws) (run : cpuOf s .running ≡ true) (leaf : LeafAt L st t path q b i) where
     pub runs-ground : Rest L st μ t (Only path) ws → Lined L st t (Only path) ws → Now L s st μ b i q → Ground s st μ t (Only path) ws
@@ -257,6 +288,10 @@ module _ (L : Loaded) where
           lined = lines;
           known = same-path path;
           silent = λ other c v k e o. now-silent now (some-same (sym (leaf .found) ∙ ap (λ z. look z (st .process)) o ∙ e));
+          marks = λ other p a j k o c m n.
+              same-leaf L (λ z a (j : Info). List·Memᴰ c (a .inputs)) o leaf k
+              (now-marks now c (same-leaf L (λ z a (j : Info). List·Memᴰ c (j .chans)) (sym o) k leaf m)
+              (same-leaf L (λ z a (j : Info). Own a (μ (S L .word c))) (sym o) k leaf n));
           free = inl run;
           stays = λ u st′ ν t′ us same keeps f real′ rest′ lines′.
               let (leaf′, calm) = keeps path q b i leaf refl in
@@ -277,6 +312,10 @@ module _ (L : Loaded) where
               (λ p. elim (now .own) [
                 | comes sk settled sub way ↦ skips-silent sk settled (some-same (sym (leaf .found) ∙ ap (λ z. look z (st .process)) p ∙ e))
               ]) (λ u. unborn-silent other c v k e u) o;
+          marks = λ other p a j k o c m n. absurd (⊎-elim
+              (λ e. now .unmarked c (same-leaf L (λ z a (j : Info). List·Memᴰ c (j .chans)) (sym e) k leaf m)
+              (same-leaf L (λ z a (j : Info). Own a (μ (S L .word c))) (sym e) k leaf n))
+              (λ u. unborn-unmarked other p a j k u c m n) o);
           free = inl run;
           stays = λ u st′ ν t′ us same keeps f real′ rest′ lines′.
               starts B real′ (same .run ∙ run) (keeps path q b i leaf (inl refl) .0) rest′ lines′ (starts-stays same leaf keeps now);
@@ -288,6 +327,15 @@ module _ (L : Loaded) where
               silent-begin r [] (some-same (sym (now .births n r _ _ h .leaf .found) ∙ ap (λ z. look z (st .process)) (sym p) ∙ e))
         ]
 
+        unborn-unmarked : (other : List ℕ) (p : Process) (a : Part) (j : Info) → LeafAt L st t other p a j → Unborn B other → (c : Site)
+            → List·Memᴰ c (j .chans) → Own a (μ (S L .word c)) → ⊥
+        unborn-unmarked other p a j k (unborn n l e) c m o = elim (later-found (stmt (B .s) (B .ss)) (B .d) (B .b) n (omega arith)) [
+          | nth {r} h ↦
+              let birth = now .births n r _ _ h in
+              birth .unmarked c (same-leaf L (λ z a (j : Info). List·Memᴰ c (j .chans)) e k (birth .leaf) m)
+              (same-leaf L (λ z a (j : Info). Own a (μ (S L .word c))) e k (birth .leaf) o)
+        ]
+
   pub idle-ground : {s : World} {st : State} {μ : Mem} {t : Tree (S L) (root L) (st .process)} → Real L s st μ [] → cpuOf s .running ≡ false
       → cpuOf s .operand ≡ 0 → Rest L st μ t Nobody [] → Ground s st μ t Nobody []
   idle-ground real stop operand rest =
@@ -297,6 +345,7 @@ module _ (L : Loaded) where
         lined = record { each = λ w m. absurd (List·Memᴰ·not-nil m); once = apart-none };
         known = λ other. inr (λ o. o);
         silent = λ other c v k e o. o;
+        marks = λ other p a j k o c m n. absurd o;
         free = inr (record { stopped = stop; operand = operand; nobody = λ other o. o; unqueued = refl });
         stays = λ u st′ ν t′ us same keeps f real′ rest′ lines′.
             idle (subst (λ l. Real L u st′ ν l) (f stop) real′) (same .run ∙ stop) (subst (λ l. Rest L st′ ν t′ Nobody l) (f stop) rest′);

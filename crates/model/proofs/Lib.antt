@@ -58,6 +58,7 @@ pub mod Alts
 pub mod Choices
 pub mod Bystanders
 pub mod Wakings
+pub mod Takes
 pub mod Steps
 pub mod Turns
 pub mod Memory

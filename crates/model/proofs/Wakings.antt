@@ -5,16 +5,17 @@ use native.Mathlib.Decide.{ℕ-discrete}
 use mathlib.Core.Path.{_≡_, refl, sym, ap, _∙_, subst}
 use mathlib.Core.Logic.{_≢_, _⊎_, inl, inr, ⊎-elim}
 use mathlib.Core.Bool.{Bool, true, false, cond}
-use mathlib.Core.List.{List, [], _∷_, _++_, map, append-nil, List·Memᴰ}
+use mathlib.Core.List.{List, [], _∷_, _++_, map, append-nil, List·Memᴰ, List·Memᴰ·head, Memᴰ·append-left, Memᴰ·append-right}
 use mathlib.Core.Option.{Option, none, some}
 use lib.ListN.{length, getD}
 use Rattle.model.specs.Word.{notProcess}
-use Rattle.model.specs.Syntax.{Site}
+use Rattle.model.specs.Syntax.{Site, inputOf, outputOf, Stmts}
+use Rattle.model.specs.Reader.{numbered}
 use Rattle.model.specs.Usage.{same}
 use Rattle.model.specs.Scheme.{sizeEnable}
 use Rattle.model.specs.Machine.{Talk, World, done, Act, return, testPlace, join, resumeWord}
 use Rattle.model.specs.Run.{land}
-use Rattle.model.specs.Occam.{Store, store, Frame, Process, atOutput, framesOf, put, resume, State, Sender, process, outside, Communication, over-channel, Event}
+use Rattle.model.specs.Occam.{Store, store, Frame, Process, Branches, atOutput, framesOf, put, resume, State, Sender, process, outside, Communication, over-channel, Event}
 use Rattle.model.specs.Demand.{Segment, liveIn, talkOf}
 use Rattle.model.proofs.Cases.{never, by-bool}
 use Rattle.model.proofs.Sites.{same-eq}
@@ -26,17 +27,19 @@ use Rattle.model.proofs.Parts as Parts
 use Rattle.model.proofs.Parts.{Part, Target}
 use Rattle.model.proofs.Marks.{Own}
 use Rattle.model.proofs.Onwards.{disable-first}
-use Rattle.model.proofs.Trees.{Label, alone, Info, Sits, Tree, bytesLeft, leaf-bytes}
+use Rattle.model.proofs.Trees.{some-same, Label, alone, Info, Sits, Tree, t-leaf, t-par, Forest, f-none, f-live, f-over, labelAt, labelIn}
+use Rattle.model.proofs.Trees.{part-inside, bytesLeft, leaf-bytes}
 use Rattle.model.proofs.Zones.{zoneOf, Distant}
 use Rattle.model.proofs.Leaves.{upd, member, Unmarked, Waits, Held, h-queued, h-woken}
 use Rattle.model.proofs.Stays.{Calm, calm-trans}
 use Rattle.model.proofs.Effects.{cpuOf, sizeOf}
 use Rattle.model.proofs.Acts.{when-true, when-false, testPlace-in}
 use Rattle.model.proofs.Queues.{joined, released, join-queue-free, free-queue}
-use Rattle.model.proofs.Kernel.{Loaded, S, root, size, LeafAt, NodeAt, Rest, Lined, Real}
+use Rattle.model.proofs.Kernel.{Loaded, S, root, size, LeafAt, NodeAt, Owned, Rest, Lined, Real}
 use Rattle.model.proofs.Writes.{upd-same, upd-other, changed, node, apart-zones, apart-parts, own-one, part-small, sits-at, sender-stored, sender-kept}
 use Rattle.model.proofs.Puts.{putting, treeThen, here-then, other-then, lined-then, rest-then, moved, sender-then, sender-before}
-use Rattle.model.proofs.Grounds.{small-size, sound-at, code-end}
+use Rattle.model.proofs.Grounds.{chan-in, small-size, sound-at, code-end}
+use Rattle.model.proofs.FineParts.{outsideNames}
 use Rattle.model.proofs.Traces.{Trace, t-none, trace-then}
 use Rattle.model.proofs.Running.{Only, Nobody, Here, within, at-end, off-small, fresh, Now, now-goes, now-alt, Inv, runs, starts, idle}
 use Rattle.model.proofs.Moving.{rest-out, lined-in}
@@ -324,3 +327,62 @@ module _ (L : Loaded) where
       → s .talk ≡ s₀ .talk → ((u : World) → join w s ≡ done tt u → land u ≡ done tt u → did u) → Joins w s st n → Answers did s₀ st₀ e n
   answers-silent {s₀ = s₀} {g = g} ms talk ran (joins u h e f ns inv) =
       answers u (g ++ h) (ran u e (inv-lands inv)) (trace-then ms ns) (f ∙ talk ∙ sym (append-nil (s₀ .talk))) inv (omega arith)
+
+-- names in scope around are in scope of every process
+module _ (S : Setting) where
+  mutual
+    unfolding labelAt labelIn
+
+    pub outer-chans : {a : Part} {p : Process} (t : Tree S a p) (path : List ℕ) {l : Label} → labelAt S t path ≡ some l → (c : Site)
+        → List·Memᴰ c (a .chans) → List·Memᴰ c (zoneOf l .chans)
+    outer-chans (t-leaf q i h) [] e c m = subst (λ l. List·Memᴰ c (zoneOf l .chans)) (some-same e) (h .placed .chans-outer c m)
+    outer-chans (t-leaf q i h) (j ∷ path) e c m = never (cc)
+    outer-chans (t-par a f) [] e c m = subst (λ l. List·Memᴰ c (zoneOf l .chans)) (some-same e) (a .placed .chans-outer c m)
+    outer-chans (t-par a f) (j ∷ path) e c m = branch-chans f j path e c (a .placed .chans-outer c m)
+
+    branch-chans : {vars chans : List Site} {w d : ℕ} {ss : Stmts} {bs : Branches} (f : Forest S vars chans w d ss bs) (i : ℕ) (path : List ℕ)
+        {l : Label} → labelIn S f i path ≡ some l → (c : Site) → List·Memᴰ c chans → List·Memᴰ c (zoneOf l .chans)
+    branch-chans f-none i path e c m = never (cc)
+    branch-chans (f-live t f) zero path e c m = outer-chans t path e c m
+    branch-chans (f-live t f) (suc i) path e c m = branch-chans f i path e c m
+    branch-chans (f-over f) zero path e c m = never (cc)
+    branch-chans (f-over f) (suc i) path e c m = branch-chans f i path e c m
+
+  whole-label : {a : Part} {p : Process} (t : Tree S a p) → (l : Label) × (labelAt S t [] ≡ some l)
+  unfolding labelAt
+  whole-label (t-leaf q i h) = (_, refl)
+  whole-label (t-par a f) = (_, refl)
+
+-- one of some numbered names
+numbered-here : (of : ℕ → Site) (n k : ℕ) → k < n → List·Memᴰ (of k) (numbered of n)
+unfolding numbered
+numbered-here of zero k h = absurd (omega arith)
+numbered-here of (suc n) k h = by (λ l. numbered-here of n k l) (ℕ-discrete k n)
+  where
+    by : (k < n → List·Memᴰ (of k) (numbered of n)) → Dec (k ≡ n) → List·Memᴰ (of k) (numbered of n ++ of n ∷ [])
+    by f (yes e) = Memᴰ·append-right (numbered of n) (List·Memᴰ·head (ap of e))
+    by f (no e) = Memᴰ·append-left (of n ∷ []) (f (omega arith))
+
+module _ (L : Loaded) where
+  pub input-named : (k : ℕ) → k < L .prog .inputs → List·Memᴰ (inputOf k) (outsideNames (L .prog))
+  input-named k h = Memᴰ·append-left _ (numbered-here inputOf (L .prog .inputs) k h)
+
+  pub output-named : (k : ℕ) → k < L .prog .outputs → List·Memᴰ (outputOf k) (outsideNames (L .prog))
+  output-named k h = Memᴰ·append-right (numbered inputOf (L .prog .inputs)) (numbered-here outputOf (L .prog .outputs) k h)
+
+  -- an outside channel is empty, or some process waits at it
+  pub outside-chan : {st : State} {μ : Mem} {t : Tree (S L) (root L) (st .process)} {Out : List ℕ → Type 0} {ws : List ℕ} → Rest L st μ t Out ws
+      → (c : Site) → List·Memᴰ c (outsideNames (L .prog)) → (μ (S L .word c) ≡ notProcess) ⊎ Owned L st t c (μ (S L .word c))
+  outside-chan {t = t} rest c m =
+      let (l, e) = whole-label (S L) t in rest .chans {path = []} (record { label = e }) c (outer-chans (S L) t [] e c m)
+
+  -- and in the machine's memory
+  pub outside-in : (st : State) (t : Tree (S L) (root L) (st .process)) → (c : Site) → List·Memᴰ c (outsideNames (L .prog)) → S L .word c < size L
+  outside-in st t c m =
+      let (l, e) = whole-label (S L) t in
+      chan-in L {st = st} {t = t} {path = []} {l = l} (record { label = e }) c (outer-chans (S L) t [] e c m)
+
+  -- what a process inputs from and outputs to, the program does
+  pub part-of : {st : State} {t : Tree (S L) (root L) (st .process)} {path : List ℕ} {q : Process} {b : Part} {i : Info}
+      → LeafAt L st t path q b i → Parts.Inside b (root L)
+  part-of {t = t} {path} k = part-inside (S L) t path (rw (k .label))
