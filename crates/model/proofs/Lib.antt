@@ -59,6 +59,7 @@ pub mod Choices
 pub mod Bystanders
 pub mod Wakings
 pub mod Takes
+pub mod Offers
 pub mod Steps
 pub mod Turns
 pub mod Memory

@@ -50,7 +50,7 @@ waking-does act s u e f =
     (λ r. when-false (cpuOf s .running) (return tt) land u r f))
 
 -- the channel is empty again, and the process that waited is woken
-abbrev communicated : ℕ → ℕ → World → World
+abbrev pub communicated : ℕ → ℕ → World → World
 communicated c v u = record { machine = u .machine; memory = u .memory; talk = u .talk ++ record { channel = c; value = v } ∷ [] }
 
 pub received-does : (c p v : ℕ) (s u : World) → c < sizeOf s → join p (stored c notProcess s) ≡ done tt u
