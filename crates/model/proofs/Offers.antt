@@ -81,3 +81,257 @@ unfolding offering deliver
 offer-delivers k v c p m s u at h name n hs state alt hm joined l =
     waking-does _ s (communicated c v u)
     (rw (peek-at s at h name, ne-eqb p notProcess n, peek-at s refl hs state, alt, poke-in m v s hm, at, received-does c p v (stored m v s) u h joined)) l
+
+-- with an offer more
+abbrev pub withOffer : ℕ → ℕ → (ℕ → Option ℕ) → ℕ → Option ℕ
+withOffer k v o = λ j. cond (eqb j k) (some v) (o j)
+
+-- offered and received at once
+abbrev passedOffer : ℕ → ℕ → (ℕ → Option ℕ) → ℕ → Option ℕ
+passedOffer k v o = λ j. cond (eqb j k) none (cond (eqb j k) (some v) (o j))
+
+passed-same : (k v : ℕ) (o : ℕ → Option ℕ) → o k ≡ none → (j : ℕ) → o j ≡ passedOffer k v o j
+passed-same k v o e j = by-bool (eqb j k) (λ z. rw z (ap o (eqb-true j k z) ∙ e)) (λ z. rw z)
+
+-- senders where one offer is more
+module _ (st : State) (k v : ℕ) where
+  more-senders : {c : Site} → Sender st c → Sender (changed (st .store) (withOffer k v (st .offers)) st) c
+  more-senders (process p g) = process p g
+  more-senders (outside {n} {v = u} g) =
+      by-bool (eqb n k) (λ z. outside {n = n} {v = v} (rw z)) (λ z. outside {n = n} {v = u} (rw z g))
+
+  fewer-senders : {c : Site} → c ≢ inputOf k → Sender (changed (st .store) (withOffer k v (st .offers)) st) c → Sender st c
+  fewer-senders d (process p g) = process p g
+  fewer-senders d (outside {n} {v = u} g) =
+      by-bool (eqb n k) (λ z. absurd (d (ap inputOf (eqb-true n k z)))) (λ z. outside {n = n} {v = u} (rw z at g))
+
+  offer-sends : Sender (changed (st .store) (withOffer k v (st .offers)) st) (inputOf k)
+  offer-sends = outside {n = k} {v = v} (rw (eq-eqb k k refl))
+
+-- and where all are the same
+same-senders : {st : State} {o : ℕ → Option ℕ} → ((j : ℕ) → st .offers j ≡ o j) → {c : Site} → Sender st c → Sender (changed (st .store) o st) c
+same-senders e (process p g) = process p g
+same-senders e (outside {n} {v = u} g) = outside {n = n} {v = u} (sym (e n) ∙ g)
+
+senders-same : {st : State} {o : ℕ → Option ℕ} → ((j : ℕ) → st .offers j ≡ o j) → {c : Site} → Sender (changed (st .store) o st) c → Sender st c
+senders-same e (process p g) = process p g
+senders-same e (outside {n} {v = u} g) = outside {n = n} {v = u} (e n ∙ g)
+
+module _ (L : Loaded) where
+  -- the machine where the offers are the same
+  real-offers : {s : World} {st : State} {μ : Mem} {ws : List ℕ} (o : ℕ → Option ℕ) → ((j : ℕ) → st .offers j ≡ o j) → Real L s st μ ws
+      → Real L s (changed (st .store) o st) μ ws
+  real-offers {st = st} o e r =
+      record {
+        setup-kept = r .setup-kept;
+        no-fault = r .no-fault;
+        room = r .room;
+        mirror = r .mirror;
+        queue = r .queue;
+        eight = r .eight;
+        offers = λ n h. offer-same L (st .store) (st .process) (r .offers n h) (e n);
+        beyond = λ n h. sym (e n) ∙ r .beyond n h;
+      }
+
+  -- and where one is held
+  real-held : {s : World} {st : State} {μ : Mem} {ws : List ℕ} (k v : ℕ) → k < L .prog .inputs → v < 2 ^ 32 → Real L s st μ ws
+      → Real L (holding k v s) (changed (st .store) (withOffer k v (st .offers)) st) μ ws
+  real-held {s} {st} k v h small r =
+      record {
+        setup-kept = r .setup-kept;
+        no-fault = r .no-fault;
+        room = r .room;
+        mirror = r .mirror;
+        queue = queue-same (holding k v s) refl refl refl (λ w m. refl) (r .queue);
+        eight = (length-set (s .machine .offers) k v ∙ r .eight .0, length-set (s .machine .held) k true ∙ r .eight .1);
+        offers = λ n l. by n (ℕ-discrete n k) (r .offers n l);
+        beyond = λ n l. rw (ne-eqb n k (λ e. absurd (omega arith))) (r .beyond n l);
+      }
+    where
+      by : (n : ℕ) → Dec (n ≡ k) → Offer L s st n → Offer L (holding k v s) (changed (st .store) (withOffer k v (st .offers)) st) n
+      by n (yes e) o =
+          held-offer v small (rw e (getD-set-same (s .machine .held) k true false (omega (arith, r .eight .1, L .few-inputs))))
+          (rw e (getD-set-same (s .machine .offers) k v 0 (omega (arith, r .eight .0, L .few-inputs)))) (rw (eq-eqb n k e))
+      by n (no e) (no-offer f g) = no-offer (getD-set-other (s .machine .held) k n true false e ∙ f) (rw (ne-eqb n k e) g)
+      by n (no e) (held-offer u m f g z) =
+          held-offer u m (getD-set-other (s .machine .held) k n true false e ∙ f) (getD-set-other (s .machine .offers) k n v 0 e ∙ g)
+          (rw (ne-eqb n k e) z)
+
+  -- an offer that the machine does not hold is none, and one that it holds is one
+  unheld : {s : World} {st : State} {k : ℕ} → getD (s .machine .held) k false ≡ false → Offer L s st k → st .offers k ≡ none
+  unheld e (no-offer f g) = g
+  unheld e (held-offer v m f g z) = never (cc (e, f))
+
+  offer-is : {s : World} {st : State} {k : ℕ} → getD (s .machine .held) k false ≡ true → Offer L s st k → (u : ℕ) × (st .offers k ≡ some u)
+  offer-is e (no-offer f g) = never (cc (e, f))
+  offer-is e (held-offer v m f g z) = (v, z)
+
+  pub offer-held : {s : World} {st : State} {n : ℕ} → Inv L s st n → (k : ℕ) → k < L .prog .inputs → getD (s .machine .held) k false ≡ true
+      → (u : ℕ) × (st .offers k ≡ some u)
+  offer-held (runs real run leaf rest lines now) k h e = offer-is e (real .offers k h)
+  offer-held (starts B real run leaf rest lines now) k h e = offer-is e (real .offers k h)
+  offer-held (idle real stop rest) k h e = offer-is e (real .offers k h)
+
+module _ (L : Loaded) {s : World} {st : State} {μ : Mem} {t : Tree (S L) (root L) (st .process)} {Out : List ℕ → Type 0} {ws : List ℕ}
+    (G : Ground L s st μ t Out ws) (k v : ℕ) (below : k < L .prog .inputs) (small : v < 2 ^ 32)
+    (free : getD (s .machine .held) k false ≡ false) where
+  abbrev c : Site
+  c = inputOf k
+
+  c-in : S L .word c < size L
+  c-in = outside-in L st t c (input-named L k below)
+
+  -- the word that an offer looks at
+  at-word : s .machine .setup .base + k ≡ S L .word c
+  at-word = omega (arith, ap (λ (u : Setup). u .base) (G .real .setup-kept), input-at L k)
+
+  none-offered : st .offers k ≡ none
+  none-offered = unheld L free (G .real .offers k below)
+
+  -- with the offer
+  abbrev st₁ : State
+  st₁ = changed (st .store) (withOffer k v (st .offers)) st
+
+  event : Outside st (offers k v Offered) [] st₁
+  event = offered none-offered
+
+  abbrev Goal : Type 0
+  Goal = Answers L (λ u. offering k v s ≡ done tt u) s st (offers k v Offered) (bytesLeft (S L) t)
+
+  -- those whose names the channel does not hold see nothing of it
+  calm-held : {b : Part} {i : Info} {skip : ℕ} → (Own b (μ (S L .word c)) → ⊥) → Calm (S L) b i skip st st₁ μ μ
+  calm-held {b} no-name =
+      calm-offers L (withOffer k v (st .offers)) (λ d m g. more-senders st k v g)
+      (λ d m n o g. fewer-senders st k v (λ e. no-name (subst (λ z. Own b (μ (S L .word z))) e o)) g)
+
+  idle-empty : cpuOf s .running ≡ false → ws ≡ []
+  idle-empty e = ⊎-elim (λ run. never (cc (run, e))) (λ F. F .unqueued) (G .free)
+
+  -- nobody is there: the offer is held
+  did-hold : μ (S L .word c) ≡ notProcess → Goal
+  did-hold empty =
+      let strange : (b : Part) → b .top ≤ 4096 → Own b (μ (S L .word c)) → ⊥ = λ b h o. not-own b h (subst (Own b) empty o) in
+      let rest = change-offers L (withOffer k v (st .offers)) (G .rest) (λ other r d j l n. (
+        (λ a m g. more-senders st k v g),
+        (λ a m x o g. fewer-senders st k v (λ e. strange d (omega (arith, part-small L l, small-size L)) (subst (λ z. Own d (μ (S L .word z))) e o)) g),
+      )) in
+      let inv = G .stays (holding k v s) st₁ μ t ws (record { run = refl; place = refl; operand = refl; regs = refl })
+      (λ path q b i l o. (after-leaf L l, calm-held (strange b (omega (arith, part-small L l, small-size L))))) idle-empty
+      (real-held L k v below small (G .real)) rest (after-lined L (G .lined)) in
+      answers (holding k v s) (Demand.outside (offers k v Offered) [] st₁ ∷ [])
+      (offer-holds k v (S L .word c) s at-word (rw (size-is L (G .real)) c-in) (mirrored L (G .real) (S L .word c) c-in empty) (inv-lands L inv))
+      (t-event event t-none) (sym (append-nil (s .talk))) inv (omega arith)
+
+  -- an ALT has enabled the channel
+  module _ {other : List ℕ} {gs : Guards} {l : List Frame} {d : Part} {j : Info} {far to : ℕ} (chooser : LeafAt L st t other (atAlt gs l) d j)
+      (strange : Out other → ⊥) (a : AltCode (S L) d gs (j .vars) (j .chans) l far to (j .w + 1)) (here : μ (S L .word c) ≡ j .w) where
+    chooser₁ : LeafAt L st₁ t other (atAlt gs l) d j
+    chooser₁ = after-leaf L chooser
+
+    own-name : Own d (μ (S L .word c))
+    own-name = let p = sits-at L chooser .placed in subst (Own d) (sym here) (omega (arith, p .room), p .low)
+
+    -- its words
+    t-low : (d .bottom ≤ stateWord (j .w)) × (stateWord (j .w) < j .w)
+    t-low =
+        let p = sits-at L chooser .placed in
+        (omega (arith, a .fine .0, p .low, part-small L chooser, small-size L), omega (arith, a .fine .0, p .low, part-small L chooser, small-size L))
+
+    t-high : stateWord (j .w) < d .top
+    t-high = omega (arith, t-low .1, sits-at L chooser .placed .low)
+
+    alt-in : stateWord (j .w) < size L
+    alt-in = omega (arith, t-high, part-small L chooser)
+
+    abbrev ν : Mem
+    ν = upd μ (stateWord (j .w)) ready
+
+    rest₁ : Rest L st₁ ν t (With Out other) ws
+    rest₁ =
+        rest-below L chooser₁ (inr refl) (sits-at L chooser .placed) (stateWord (j .w)) ready (t-low .0) (t-low .1)
+        (change-offers L (withOffer k v (st .offers)) (rest-out L (λ here o. inl o) (G .rest)) (λ path r b i x n. (
+          (λ y m g. more-senders st k v g),
+          (λ y m z o g. fewer-senders st k v (λ e. own-one L (apart-parts L chooser x (λ q. n (inr q))) own-name
+              (subst (λ z. Own b (μ (S L .word z))) e o)) g),
+        )))
+
+    keeps : Keeps L st st₁ μ ν t t Out
+    keeps path q b i x o =
+        let off : other ≢ path = λ e. strange (subst Out (sym e) o) in
+        (
+          after-leaf L x,
+          calm-trans (calm-held (λ n. own-one L (apart-parts L chooser x off) own-name n))
+              (calm-own L chooser₁ (after-leaf L x) off μ (stateWord (j .w)) ready (t-low .0) t-high),
+        )
+
+    abbrev s₁ : World
+    s₁ = stored (stateWord (j .w)) ready (holding k v s)
+
+    same-regs : SameRegs L s₁ s
+    same-regs = record { run = refl; place = refl; operand = refl; regs = refl }
+
+    real₁ : Real L s₁ st₁ ν ws
+    real₁ =
+        real-stored L (stateWord (j .w)) ready alt-in
+        (link-any L (G .lined) chooser (stateWord (j .w)) (t-low .0) t-high
+        (λ q. absurd (omega (arith, a .fine .0, sits-at L chooser .placed .low, part-small L chooser, small-size L))))
+        (real-held L k v below small (G .real))
+
+    -- the other words are as they were
+    base-word : ν (j .w) ≡ μ (j .w)
+    base-word = upd-other μ (stateWord (j .w)) ready (j .w) (λ q. absurd (omega (arith, t-low .1)))
+
+    resumes₁ : {at hi : ℕ} → Resumes (S L) d j st μ at hi → Resumes (S L) d j st₁ ν at hi
+    resumes₁ r =
+        let p = sits-at L chooser .placed in
+        record {
+          place = upd-other μ (stateWord (j .w)) ready (resumeWord (j .w))
+              (λ q. absurd (omega (arith, a .fine .0, p .low, part-small L chooser, small-size L))) ∙ r .place;
+          soon = r .soon;
+        }
+
+    marked₁ : {hs : Guards} → Marked (S L) d st (j .vars) (j .chans) hs μ (j .w) → Marked (S L) d st₁ (j .vars) (j .chans) hs ν (j .w)
+    marked₁ h y m o =
+        let e = upd-other μ (stateWord (j .w)) ready (S L .word y) (chan-above L (sits-at L chooser .placed) (stateWord (j .w)) (t-low .1) y m) in
+        let g = h y m (subst (Own d) e o) in
+        (e ∙ g .0, g .1)
+
+    tells : {z : ℕ} → μ (stateWord (j .w)) ≡ z → isAltState z ≡ true → (u : World) → notify (j .w) z (holding k v s) ≡ done tt u
+        → land u ≡ done tt u → offering k v s ≡ done tt u
+    tells {z} state alt u told lands =
+        let p = sits-at L chooser .placed in
+        let sz = size-is L (G .real) in
+        offer-tells k v (S L .word c) (j .w) z s u at-word (rw sz c-in) (mirrored L (G .real) (S L .word c) c-in here)
+        (λ q. absurd (omega (arith, p .low, part-small L chooser, small-size L, q))) (rw sz alt-in)
+        (mirrored L (G .real) (stateWord (j .w)) alt-in state) alt told lands
+
+    -- it waits: it is woken
+    did-wake : Guarded (st .store) c gs → member (j .w) ws ≡ false → Resumes (S L) d j st μ (to + 2 + sizeEnable gs + 1) far
+        → μ (stateWord (j .w)) ≡ waiting → μ (j .w) ≡ noneSelected → Marked (S L) d st (j .vars) (j .chans) gs μ (j .w) → Goal
+    did-wake guarded unqueued r state chosen marks =
+        let lines = after-lined L (lined-out L chooser unqueued (λ y q. ⊎-elim (λ p. inr p) (λ p. inl p) q) (G .lined)) in
+        let held : Held (S L) d j st₁ ν true (atAlt gs l) =
+        h-woken a (resumes₁ r) (upd-same μ (stateWord (j .w)) ready)
+        (record { marks = marked₁ marks; chosen = inr (base-word ∙ chosen, guarded-ready guarded (offer-sends st k v)) }) in
+        answers-silent L (t-event event t-none) refl
+        (λ u e lands. tells state refl u (notify-waiting (j .w) (holding k v s) (rw (size-is L (G .real)) alt-in) ∙ e) lands)
+        (goes-on L G same-regs real₁ rest₁ lines chooser₁ strange keeps held)
+
+    -- it was woken before: it stays Ready
+    did-tell : member (j .w) ws ≡ true → Resumes (S L) d j st μ (to + 2 + sizeEnable gs + 1) far → μ (stateWord (j .w)) ≡ ready
+        → Disabling (S L) d st (j .vars) (j .chans) l gs gs (a .choice) μ (j .w) → Goal
+    did-tell queued r state dis =
+        let held : Held (S L) d j st₁ ν true (atAlt gs l) =
+        h-woken a (resumes₁ r) (upd-same μ (stateWord (j .w)) ready)
+        (record {
+          marks = marked₁ (dis .marks);
+          chosen = ⊎-elim (λ y. let (n, q, g, x) = y in inl (n, q, picks-more (λ y. more-senders st k v) refl g, base-word ∙ x))
+              (λ y. inr (base-word ∙ y .0, ready-more (λ y. more-senders st k v) refl (y .1))) (dis .chosen);
+        }) in
+        let rest₂ = rest-in L {Out′ = Out} chooser₁ (subst (λ y. Held (S L) d j st₁ ν y (atAlt gs l)) (sym queued) held)
+        (λ y n q. ⊎-elim (λ o. o) (λ e. absurd (n e)) q) rest₁ in
+        let inv = G .stays s₁ st₁ ν t ws same-regs keeps idle-empty real₁ rest₂ (after-lined L (G .lined)) in
+        answers s₁ (Demand.outside (offers k v Offered) [] st₁ ∷ [])
+        (tells state refl s₁
+        (notify-other (j .w) ready (holding k v s) (rw (size-is L (G .real)) alt-in) (λ q. absurd (omega arith))) (inv-lands L inv))
+        (t-event event t-none) (sym (append-nil (s .talk))) inv (omega arith)
