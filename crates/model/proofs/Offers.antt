@@ -192,6 +192,9 @@ module _ (L : Loaded) {s : World} {st : State} {μ : Mem} {t : Tree (S L) (root 
   abbrev st₁ : State
   st₁ = changed (st .store) (withOffer k v (st .offers)) st
 
+  there : st₁ .offers k ≡ some v
+  there = rw (eq-eqb k k refl)
+
   event : Outside st (offers k v Offered) [] st₁
   event = offered none-offered
 
@@ -335,3 +338,131 @@ module _ (L : Loaded) {s : World} {st : State} {μ : Mem} {t : Tree (S L) (root 
         (tells state refl s₁
         (notify-other (j .w) ready (holding k v s) (rw (size-is L (G .real)) alt-in) (λ q. absurd (omega arith))) (inv-lands L inv))
         (t-event event t-none) (sym (append-nil (s .talk))) inv (omega arith)
+
+  -- a process waits in IN: it gets the value
+  module _ {other : List ℕ} {x : Site} {l : List Frame} {d : Part} {j : Info} {to far : ℕ} (receiver : LeafAt L st t other (atInput c x l) d j)
+      (strange : Out other → ⊥) (unqueued : member (j .w) ws ≡ false) (waits : Waits (S L) d j st μ c l to far (S L .word x))
+      (target : Target d (j .vars) x) where
+    -- with the value, and with the offer gone again
+    abbrev st₂ : State
+    st₂ = changed (store x v (st .store)) (st .offers) st
+
+    abbrev st₃ : State
+    st₃ = changed (store x v (st .store)) (passedOffer k v (st .offers)) st
+
+    same-offers : (n : ℕ) → st .offers n ≡ passedOffer k v (st .offers) n
+    same-offers = passed-same k v (st .offers) none-offered
+
+    abbrev η₁ : Mem
+    η₁ = upd μ (S L .word x) v
+
+    abbrev η : Mem
+    η = upd η₁ (S L .word c) notProcess
+
+    x-in : S L .word x < size L
+    x-in = omega (arith, var-in L (node L receiver) x (target .0))
+
+    x-not-c : S L .word c ≢ S L .word x
+    x-not-c q = sits-at L receiver .placed .scoped .apart x c (target .0) (waits .scope) (sym q)
+
+    receiver₂ : LeafAt L st₂ t other (atInput c x l) d j
+    receiver₂ = after-leaf L receiver
+
+    receiver₃ : LeafAt L st₃ t other (atInput c x l) d j
+    receiver₃ = after-leaf L receiver
+
+    own-before : Own d (μ (S L .word c))
+    own-before = let p = sits-at L receiver .placed in subst (Own d) (sym (waits .here)) (omega (arith, p .room), p .low)
+
+    own-then : Own d (η₁ (S L .word c))
+    own-then = subst (Own d) (sym (upd-other μ (S L .word x) v (S L .word c) x-not-c)) own-before
+
+    lines₁ : Lined L st t (With Out other) ws
+    lines₁ = lined-out L receiver unqueued (λ here o. ⊎-elim (λ o. inr o) (λ e. inl e) o) (G .lined)
+
+    rest₃ : Rest L st₃ η t (With Out other) ws
+    rest₃ =
+        change-offers L (passedOffer k v (st .offers))
+        (clear-chan L receiver₂ (inr refl)
+        (write-var L receiver (rest-out L (λ here o. inl o) (G .rest)) x v (target .0) (target .1) small (inr refl)) c (waits .scope)
+        (inr own-then))
+        (λ path r b i y n. ((λ a m g. same-senders {st = st₂} same-offers g), (λ a m z o g. senders-same {st = st₂} same-offers g)))
+
+    abbrev s₂ : World
+    s₂ = stored (S L .word c) notProcess (stored (S L .word x) v s)
+
+    real₃ : Real L s₂ st₃ η ws
+    real₃ =
+        real-offers L (passedOffer k v (st .offers)) same-offers
+        (real-stored L (S L .word c) notProcess c-in (link-chan L (after-lined L lines₁) receiver₂ (inr refl) c (waits .scope))
+        (real-state L (st .process) (store x v (st .store))
+        (real-stored L (S L .word x) v x-in (link-var L lines₁ receiver (inr refl) x (target .0)) (G .real))))
+
+    keeps₃ : Keeps L st st₃ μ η t t Out
+    keeps₃ path q b i y o =
+        let off : other ≢ path = λ e. strange (subst Out (sym e) o) in
+        let y₂ : LeafAt L st₂ t path q b i = after-leaf L y in
+        (
+          after-leaf L y,
+          calm-trans (calm-var L receiver y off μ x v target)
+              (calm-trans
+              (calm-chan L receiver₂ y₂ off η₁ c notProcess (waits .scope) (λ n. own-one L (apart-parts L receiver y off) own-then n)
+              (not-own b (omega (arith, part-small L y, small-size L))))
+              (calm-offers L {st = st₂} (passedOffer k v (st .offers)) (λ a m g. same-senders {st = st₂} same-offers g)
+              (λ a m z n g. senders-same {st = st₂} same-offers g))),
+        )
+
+    clean₃ : Unmarked (S L) d j st₃ η
+    clean₃ a m o = by (ℕ-discrete (S L .word a) (S L .word c))
+      where
+        by : Dec (S L .word a ≡ S L .word c) → ⊥
+        by (yes e) =
+            not-own d (omega (arith, part-small L receiver, small-size L))
+            (subst (Own d) (ap η e ∙ upd-same η₁ (S L .word c) notProcess) o)
+        by (no e) =
+            e (ap (S L .word) (waits .only a m (subst (Own d)
+            (upd-other η₁ (S L .word c) notProcess (S L .word a) e
+            ∙ upd-other μ (S L .word x) v (S L .word a) (λ q. sits-at L receiver .placed .scoped .apart x a (target .0) m (sym q))) o)))
+
+    kept₃ : η (resumeWord (j .w)) ≡ μ (resumeWord (j .w))
+    kept₃ =
+        let p = sits-at L receiver .placed in
+        let under : resumeWord (j .w) < j .w = omega (arith, p .room, p .low, part-small L receiver, small-size L) in
+        upd-other η₁ (S L .word c) notProcess (resumeWord (j .w)) (λ e. chan-above L p (resumeWord (j .w)) under c (waits .scope) (sym e))
+        ∙ upd-other μ (S L .word x) v (resumeWord (j .w)) (λ e. var-above L p (resumeWord (j .w)) under x (target .0) (sym e))
+
+    goes : Joins L (j .w) s₂ (putting other (resume l) st₃) (bytesLeft (S L) t)
+    goes =
+        waited-goes L G (record { run = refl; place = refl; operand = refl; regs = refl }) real₃ rest₃ (after-lined L lines₁) receiver₃ strange
+        keeps₃ waits kept₃ refl clean₃ (λ a z f e here p y n q m. never (cc))
+
+    -- offered, and received
+    passes : Trace st (Demand.outside (offers k v Offered) [] st₁ ∷ Demand.step (over-channel c v) (putting other (resume l) st₃) ∷ [])
+        (putting other (resume l) st₃) (over-channel c v) (offers k v Offered ∷ [])
+    passes = t-event event (t-step (receives other (receiver .found) there) t-none)
+
+    did-pass : Goal
+    did-pass =
+        let p = sits-at L receiver .placed in
+        let sz = size-is L (G .real) in
+        let tall : stateWord (j .w) < size L = omega (arith, waits .space, p .low, part-small L receiver, small-size L) in
+        answers-talk L {c = c} {v = v} passes refl
+        (λ u e lands. offer-delivers k v (S L .word c) (j .w) (S L .word x) s u at-word (rw sz c-in)
+        (mirrored L (G .real) (S L .word c) c-in (waits .here))
+        (λ q. absurd (omega (arith, p .low, part-small L receiver, small-size L, q))) (rw sz tall)
+        (mirrored L (G .real) (stateWord (j .w)) tall (waits .message-at)) (no-alt-state (S L .word x) (omega (arith, x-in, small-size L)))
+        (rw sz x-in) e lands) goes
+
+  -- every offer, where it is known what comes of one to a process that is left out
+  by-holder : ((path : List ℕ) (q : Process) (b : Part) (i : Info) → LeafAt L st t path q b i → Out path → List·Memᴰ c (i .chans)
+      → Own b (μ (S L .word c)) → Goal) → Holder L st μ t Out ws c → Goal
+  by-holder out (holds-input y n e w x inp unsent) = did-pass y n e w x
+  by-holder out (holds-output y n e w o low z tiny) = absurd (L .one-way k (part-of L y .outputs c o))
+  by-holder out (holds-wait y n e a r g z all un mk here guarded inp) = did-wake y n a here guarded e r g z mk
+  by-holder out (holds-woken y n e a r g d here guarded inp) = did-tell y n a here e r g d
+  by-holder out (holds-out y o m n) = out _ _ _ _ y o m n
+
+  pub ground-offers : ((path : List ℕ) (q : Process) (b : Part) (i : Info) → LeafAt L st t path q b i → Out path → List·Memᴰ c (i .chans)
+      → Own b (μ (S L .word c)) → Goal) → Goal
+  ground-offers out =
+      ⊎-elim did-hold (λ o. by-holder out (holder L (G .rest) (G .known) o refl)) (outside-chan L (G .rest) c (input-named L k below))
