@@ -59,6 +59,8 @@ pub mod Choices
 pub mod Bystanders
 pub mod Wakings
 pub mod Takes
+pub mod Offerings
+pub mod Tellings
 pub mod Offers
 pub mod Steps
 pub mod Turns

@@ -1,0 +1,148 @@
+-- An ALT that has the processor is told of an offer on a channel that it has marked.
+use Prim.Native.Nat.{ℕ, zero, suc, _+_, _-_, _^_, _≤_, _<_}
+use native.Mathlib.Omega.{arith}
+use native.Mathlib.Decide.{ℕ-discrete}
+use mathlib.Core.Path.{_≡_, refl, sym, ap, _∙_, subst}
+use mathlib.Core.Logic.{_≢_, _⊎_, inl, inr, ⊎-elim}
+use mathlib.Core.Bool.{Bool, true, false, cond}
+use mathlib.Core.List.{List, [], _∷_, _++_, map, append-nil, List·Memᴰ}
+use mathlib.Core.Option.{Option, none, some}
+use lib.ListN.{length, getD, set, length-set}
+use lib.Seq.{getD-set-same, getD-set-other}
+use lib.Dec.{eqb}
+use borrow.Author.Tests.{eq-eqb, ne-eqb, eqb-true, eqb-false}
+use Rattle.model.specs.Word.{notProcess}
+use Rattle.model.specs.Syntax.{Site, inputOf, outputOf, Guards}
+use Rattle.model.specs.Layout.{base}
+use Rattle.model.specs.Scheme.{sizeEnable}
+use Rattle.model.specs.Machine.{World, done, Act, return, withOffers, join, resumeWord, stateWord}
+use Rattle.model.specs.Execute.{isAltState, notify, deliver, enabling, waiting, ready, noneSelected}
+use Rattle.model.specs.Run.{land}
+use Rattle.model.specs.Outside.{offering}
+use Rattle.model.specs.Occam.{Store, store, Frame, Process, atInput, atOutput, atAlt, resume, State, over-channel, Sender, process, outside}
+use Rattle.model.specs.Occam.{receives, Event, offers, Outside, offered}
+use Rattle.model.specs.Demand.{Move}
+use Rattle.model.specs.Demand as Demand
+use Rattle.model.specs.declared.Setup.{Setup}
+use Rattle.model.specs.declared.OfferAnswer.the-variants.{Offered}
+use Rattle.model.proofs.Cases.{never, by-bool}
+use Rattle.model.proofs.Ways.{Regs, regsOf, Mem}
+use Rattle.model.proofs.Conts.{Placed, cont-low, cont-placed}
+use Rattle.model.proofs.Parts.{Part, Target}
+use Rattle.model.proofs.Marks.{Own, Ready, Guarded, AltCode, Marked, Enabling, Disabling, AltPoint, pt-enable, pt-wait, pt-disable, pt-choose}
+use Rattle.model.proofs.Onwards.{AltGoes, rest-fine, guarded-ready}
+use Rattle.model.proofs.Trees.{Info, Tree, bytesLeft}
+use Rattle.model.proofs.Leaves.{upd, member, Unmarked, Resumes, Waits, Held, h-woken}
+use Rattle.model.proofs.Stays.{Calm, calm-trans}
+use Rattle.model.proofs.Effects.{cpuOf, sizeOf, stored, poke-in}
+use Rattle.model.proofs.Acts.{peek-at, notify-waiting, notify-other}
+use Rattle.model.proofs.Queues.{queue-same}
+use Rattle.model.proofs.Kernel.{Loaded, S, root, size, LeafAt, Rest, Lined, Real, Offer, no-offer, held-offer}
+use Rattle.model.proofs.Writes.{upd-same, upd-other, changed, after-leaf, after-lined, node, apart-parts, own-one, part-small, sits-at, write-var}
+use Rattle.model.proofs.Writes.{change-offers}
+use Rattle.model.proofs.Puts.{putting}
+use Rattle.model.proofs.Grounds.{var-in, small-size}
+use Rattle.model.proofs.Traces.{Trace, t-none, t-step, t-event}
+use Rattle.model.proofs.Running.{Inv, runs, starts, idle}
+use Rattle.model.proofs.Moving.{rest-in, rest-out, lined-out}
+use Rattle.model.proofs.Reals.{size-is, mirrored, offer-same, real-state, real-stored, link-any, link-var, link-chan}
+use Rattle.model.proofs.Channels.{Holder, holds-input, holds-output, holds-wait, holds-woken, holds-out, holder, input-at}
+use Rattle.model.proofs.Meets.{not-own, clear-chan, var-above, chan-above, rest-below, real-below}
+use Rattle.model.proofs.Outs.{ready-more, picks-more, no-alt-state}
+use Rattle.model.proofs.Bystanders.{way-still, way-holds, enables-stays, disables-stays, SameRegs, Keeps, Free, Ground, runs-ground, starts-ground, idle-ground, part-high}
+use Rattle.model.proofs.Wakings.{With, Answers, answers, inv-lands, calm-var, calm-chan, calm-own, calm-offers, Joins, goes-on, waited-goes}
+use Rattle.model.proofs.Wakings.{talked, answers-talk, answers-silent, input-named, outside-chan, outside-in, part-of}
+use Rattle.model.proofs.Takes.{waking-does, communicated, received-does}
+use Rattle.model.proofs.Offerings.{holding, offer-holds, offer-tells, offer-delivers, withOffer, passedOffer, passed-same, more-senders, fewer-senders}
+use Rattle.model.proofs.Offerings.{offer-sends, same-senders, senders-same, real-offers, real-held, unheld, offer-held}
+
+-- an ALT that has the processor and has marked the channel
+module _ (L : Loaded) (b : Part) (i : Info) (st : State) (μ : Mem) where
+  -- while it disables its guards its state is Ready
+  abbrev pub ReadyAlt : Process → Type 0
+  ReadyAlt q =
+      (gs : Guards) (l : List Frame) → q ≡ atAlt gs l → (y : Site) → List·Memᴰ y (i .chans) → Own b (μ (S L .word y))
+      → μ (stateWord (μ (S L .word y))) ≡ ready
+
+  -- its words at and below its name, and its state
+  record Stood (p : ℕ) : Type 0 where
+    low : b .bottom + 3 ≤ p
+    placed : Placed (S L) b (p + 1) (i .vars) (i .chans)
+    state : (μ (stateWord p) ≡ enabling) ⊎ (μ (stateWord p) ≡ ready)
+
+  module _ (c : Site) (m : List·Memᴰ c (i .chans)) (o : Own b (μ (S L .word c))) where
+    stood-at : {gs : Guards} {l : List Frame} {hi at : ℕ} (w : ℕ) → AltCode (S L) b gs (i .vars) (i .chans) l hi at (w + 1) → μ (S L .word c) ≡ w
+        → (μ (stateWord w) ≡ enabling) ⊎ (μ (stateWord w) ≡ ready) → Stood (μ (S L .word c))
+    stood-at w a e f =
+        subst Stood (sym e) (record { low = omega (arith, a .fine .0); placed = cont-placed (S L) b (a .after); state = f })
+
+    stood : {q : Process} → ReadyAlt q → (up j : ℕ) (r : Regs) → AltPoint (S L) b st (i .vars) (i .chans) q up μ j r → Stood (μ (S L .word c))
+    stood known up j r (pt-enable a l n e) =
+        stood-at (r .w) a (n .marks c m o .0) (⊎-elim (λ z. inl (z .0)) (λ z. inr (z .0)) (n .state))
+    stood known up j r (pt-wait a n) = stood-at (r .w) a (n .marks c m o .0) (⊎-elim (λ z. inl (z .0)) (λ z. inr (z .0)) (n .state))
+    stood known up j r (pt-disable {gs} {k = l} a x t n d) =
+        let e = n .marks c m o .0 in stood-at (r .w) a e (inr (ap (λ z. μ (stateWord z)) (sym e) ∙ known gs l refl c m o))
+    stood known up j r (pt-choose {gs} {k = l} a n) =
+        let e = n .marks c m o .0 in stood-at (r .w) a e (inr (ap (λ z. μ (stateWord z)) (sym e) ∙ known gs l refl c m o))
+
+    -- it stays in the ALT, Ready, when its channel gets an offer
+    module _ (n v : ℕ) (named : c ≡ inputOf n) where
+      abbrev p : ℕ
+      p = μ (S L .word c)
+
+      abbrev η : Mem
+      η = upd μ (stateWord p) ready
+
+      abbrev st₂ : State
+      st₂ = changed (st .store) (withOffer n v (st .offers)) st
+
+      sends-now : Sender st₂ c
+      sends-now = subst (λ z. Sender st₂ z) (sym named) (offer-sends st n v)
+
+      module _ (w : ℕ) {gs : Guards} {l : List Frame} {hi at : ℕ} (a : AltCode (S L) b gs (i .vars) (i .chans) l hi at (w + 1)) (e : p ≡ w)
+          (high : b .top ≤ 4096) where
+        state-low : (stateWord p < p) × (stateWord w < w)
+        state-low = (omega (arith, a .fine .0, cont-low (S L) b (a .after)), omega (arith, a .fine .0, cont-low (S L) b (a .after)))
+
+        now-ready : η (stateWord w) ≡ ready
+        now-ready = ap (λ z. η (stateWord z)) (sym e) ∙ upd-same μ (stateWord p) ready
+
+        base-kept : η w ≡ μ w
+        base-kept = upd-other μ (stateWord p) ready w (λ z. absurd (omega (arith, state-low .0)))
+
+        marks-kept : {hs : Guards} → Marked (S L) b st (i .vars) (i .chans) hs μ w → Marked (S L) b st₂ (i .vars) (i .chans) hs η w
+        marks-kept h y x z =
+            let f = upd-other μ (stateWord p) ready (S L .word y)
+            (chan-above L (cont-placed (S L) b (a .after)) (stateWord p) (omega (arith, state-low .0)) y x) in
+            let g = h y x (subst (Own b) f z) in
+            (f ∙ g .0, g .1)
+
+        enabling-told : {hs : Guards} → Enabling (S L) b st (i .vars) (i .chans) gs hs μ w → Enabling (S L) b st₂ (i .vars) (i .chans) gs hs η w
+        enabling-told f =
+            record {
+              rest = f .rest;
+              marks = marks-kept (f .marks);
+              state = inr (now-ready, guarded-ready (f .marks c m o .1) sends-now);
+            }
+
+        disabling-told : {hs : Guards} → Disabling (S L) b st (i .vars) (i .chans) l gs hs (a .choice) μ w
+            → Disabling (S L) b st₂ (i .vars) (i .chans) l gs hs (a .choice) η w
+        disabling-told f =
+            record {
+              marks = marks-kept (f .marks);
+              chosen = ⊎-elim (λ y. let (z, x, g, h) = y in inl (z, x, picks-more (λ y. more-senders st n v) refl g, base-kept ∙ h))
+                  (λ y. inr (base-kept ∙ y .0, ready-more (λ y. more-senders st n v) refl (y .1))) (f .chosen);
+            }
+
+      told-point : b .top ≤ 4096 → {q : Process} (up j : ℕ) (r : Regs) → AltPoint (S L) b st (i .vars) (i .chans) q up μ j r
+          → AltPoint (S L) b st₂ (i .vars) (i .chans) q up η j r
+      told-point high up j r (pt-enable a l f e) =
+          pt-enable a l (enabling-told (r .w) a (f .marks c m o .0) high f)
+          (enables-stays (S L) b (i .vars) (i .chans) (λ x y z. refl) (r .w + 1)
+          (rest-fine (S L .word) b (i .vars) (i .chans) (r .w + 1) (f .rest .1) (a .fine .1)) e)
+      told-point high up j r (pt-wait a f) = pt-wait a (enabling-told (r .w) a (f .marks c m o .0) high f)
+      told-point high up j r (pt-disable a l t f d) =
+          pt-disable a l t (disabling-told (r .w) a (f .marks c m o .0) high f)
+          (disables-stays (S L) b (i .vars) (i .chans) (λ x y z. refl) (r .w + 1)
+          (rest-fine (S L .word) b (i .vars) (i .chans) (r .w + 1) t (a .fine .1)) d)
+      told-point high up j r (pt-choose a f) = pt-choose a (disabling-told (r .w) a (f .marks c m o .0) high f)
