@@ -298,6 +298,20 @@ module _ (L : Loaded) where
               runs real′ (same .run ∙ run) leaf′ rest′ lines′ (now-stays same (part-high leaf) (sits-at L leaf) calm now);
         }
 
+    -- no channel holds a name of the first branch or of those that it has still to start
+    pub starts-unmarked : (B : Births) → NowStarts L s st μ t path q b i B → (other : List ℕ) (p : Process) (a : Part) (j : Info)
+        → LeafAt L st t other p a j → Starting path B other → (c : Site) → List·Memᴰ c (j .chans) → Own a (μ (S L .word c)) → ⊥
+    unfolding howMany
+    starts-unmarked B now other p a j k (inl e) c m o =
+        now .unmarked c (same-leaf L (λ z a (j : Info). List·Memᴰ c (j .chans)) (sym e) k leaf m)
+        (same-leaf L (λ z a (j : Info). Own a (μ (S L .word c))) (sym e) k leaf o)
+    starts-unmarked B now other p a j k (inr (unborn n l e)) c m o = elim (later-found (stmt (B .s) (B .ss)) (B .d) (B .b) n (omega arith)) [
+      | nth {r} h ↦
+          let birth = now .births n r _ _ h in
+          birth .unmarked c (same-leaf L (λ z a (j : Info). List·Memᴰ c (j .chans)) e k (birth .leaf) m)
+          (same-leaf L (λ z a (j : Info). Own a (μ (S L .word c))) e k (birth .leaf) o)
+    ]
+
     pub starts-ground : (B : Births) → Rest L st μ t (Starting path B) ws → Lined L st t (Starting path B) ws → NowStarts L s st μ t path q b i B
         → Ground s st μ t (Starting path B) ws
     unfolding howMany
@@ -312,10 +326,7 @@ module _ (L : Loaded) where
               (λ p. elim (now .own) [
                 | comes sk settled sub way ↦ skips-silent sk settled (some-same (sym (leaf .found) ∙ ap (λ z. look z (st .process)) p ∙ e))
               ]) (λ u. unborn-silent other c v k e u) o;
-          marks = λ other p a j k o c m n. absurd (⊎-elim
-              (λ e. now .unmarked c (same-leaf L (λ z a (j : Info). List·Memᴰ c (j .chans)) (sym e) k leaf m)
-              (same-leaf L (λ z a (j : Info). Own a (μ (S L .word c))) (sym e) k leaf n))
-              (λ u. unborn-unmarked other p a j k u c m n) o);
+          marks = λ other p a j k o c m n. absurd (starts-unmarked B now other p a j k o c m n);
           free = inl run;
           stays = λ u st′ ν t′ us same keeps f real′ rest′ lines′.
               starts B real′ (same .run ∙ run) (keeps path q b i leaf (inl refl) .0) rest′ lines′ (starts-stays same leaf keeps now);
@@ -325,15 +336,6 @@ module _ (L : Loaded) where
         unborn-silent other c v k e (unborn n l p) = elim (later-found (stmt (B .s) (B .ss)) (B .d) (B .b) n (omega arith)) [
           | nth {r} h ↦
               silent-begin r [] (some-same (sym (now .births n r _ _ h .leaf .found) ∙ ap (λ z. look z (st .process)) (sym p) ∙ e))
-        ]
-
-        unborn-unmarked : (other : List ℕ) (p : Process) (a : Part) (j : Info) → LeafAt L st t other p a j → Unborn B other → (c : Site)
-            → List·Memᴰ c (j .chans) → Own a (μ (S L .word c)) → ⊥
-        unborn-unmarked other p a j k (unborn n l e) c m o = elim (later-found (stmt (B .s) (B .ss)) (B .d) (B .b) n (omega arith)) [
-          | nth {r} h ↦
-              let birth = now .births n r _ _ h in
-              birth .unmarked c (same-leaf L (λ z a (j : Info). List·Memᴰ c (j .chans)) e k (birth .leaf) m)
-              (same-leaf L (λ z a (j : Info). Own a (μ (S L .word c))) e k (birth .leaf) o)
         ]
 
   pub idle-ground : {s : World} {st : State} {μ : Mem} {t : Tree (S L) (root L) (st .process)} → Real L s st μ [] → cpuOf s .running ≡ false

@@ -43,18 +43,19 @@ use Rattle.model.proofs.Writes.{change-offers}
 use Rattle.model.proofs.Puts.{putting}
 use Rattle.model.proofs.Grounds.{var-in, small-size}
 use Rattle.model.proofs.Traces.{Trace, t-none, t-step, t-event}
-use Rattle.model.proofs.Running.{Inv, runs, starts, idle}
-use Rattle.model.proofs.Moving.{rest-in, rest-out, lined-out}
+use Rattle.model.proofs.Running.{Only, Here, Now, now-goes, now-alt, Inv, runs, starts, idle}
+use Rattle.model.proofs.Moving.{same-leaf, rest-in, rest-out, lined-out}
 use Rattle.model.proofs.Reals.{size-is, mirrored, offer-same, real-state, real-stored, link-any, link-var, link-chan}
 use Rattle.model.proofs.Channels.{Holder, holds-input, holds-output, holds-wait, holds-woken, holds-out, holder, input-at}
 use Rattle.model.proofs.Meets.{not-own, clear-chan, var-above, chan-above, rest-below, real-below}
 use Rattle.model.proofs.Outs.{ready-more, picks-more, no-alt-state}
-use Rattle.model.proofs.Bystanders.{way-still, way-holds, enables-stays, disables-stays, SameRegs, Keeps, Free, Ground, runs-ground, starts-ground, idle-ground, part-high}
+use Rattle.model.proofs.Bystanders.{way-still, way-holds, enables-stays, disables-stays, SameRegs, Keeps, Free, Ground, runs-ground, starts-unmarked, starts-ground, idle-ground, part-high}
 use Rattle.model.proofs.Wakings.{With, Answers, answers, inv-lands, calm-var, calm-chan, calm-own, calm-offers, Joins, goes-on, waited-goes}
 use Rattle.model.proofs.Wakings.{talked, answers-talk, answers-silent, input-named, outside-chan, outside-in, part-of}
 use Rattle.model.proofs.Takes.{waking-does, communicated, received-does}
 use Rattle.model.proofs.Offerings.{holding, offer-holds, offer-tells, offer-delivers, withOffer, passedOffer, passed-same, more-senders, fewer-senders}
 use Rattle.model.proofs.Offerings.{offer-sends, same-senders, senders-same, real-offers, real-held, unheld, offer-held}
+use Rattle.model.proofs.Tellings.{ReadyAlt, Stood, stood, told-point}
 
 module _ (L : Loaded) {s : World} {st : State} {μ : Mem} {t : Tree (S L) (root L) (st .process)} {Out : List ℕ → Type 0} {ws : List ℕ}
     (G : Ground L s st μ t Out ws) (k v : ℕ) (below : k < L .prog .inputs) (small : v < 2 ^ 32)
@@ -350,3 +351,88 @@ module _ (L : Loaded) {s : World} {st : State} {μ : Mem} {t : Tree (S L) (root 
       → Own b (μ (S L .word c)) → Goal) → Goal
   ground-offers out =
       ⊎-elim did-hold (λ o. by-holder out (holder L (G .rest) (G .known) o refl)) (outside-chan L (G .rest) c (input-named L k below))
+
+-- an ALT that has the processor has marked the channel: it is told
+module _ (L : Loaded) {s : World} {st : State} {μ : Mem} {t : Tree (S L) (root L) (st .process)} {path : List ℕ} {q : Process} {b : Part} {i : Info}
+    {ws : List ℕ} (G : Ground L s st μ t (Only path) ws) (run : cpuOf s .running ≡ true) (leaf : LeafAt L st t path q b i) (k v : ℕ)
+    (below : k < L .prog .inputs) (small : v < 2 ^ 32) (free : getD (s .machine .held) k false ≡ false)
+    (m : List·Memᴰ (inputOf k) (i .chans)) (o : Own b (μ (S L .word (inputOf k)))) where
+  -- its name, and its state word
+  abbrev p : ℕ
+  p = μ (S L .word (inputOf k))
+
+  module _ (stood : Stood L b i st μ p) where
+    high : b .top ≤ 4096
+    high = omega (arith, part-small L leaf, small-size L)
+
+    w-low : (b .bottom ≤ stateWord p) × (stateWord p < p + 1)
+    w-low = (omega (arith, stood .low, o .1, high), omega (arith, stood .low, o .1, high))
+
+    w-in : stateWord p < size L
+    w-in = omega (arith, w-low .1, stood .placed .low, part-small L leaf)
+
+    abbrev st₄ : State
+    st₄ = changed (st .store) (withOffer k v (st .offers)) st
+
+    abbrev η₄ : Mem
+    η₄ = upd μ (stateWord p) ready
+
+    rest₄ : Rest L st₄ η₄ t (Only path) ws
+    rest₄ =
+        rest-below L (after-leaf L leaf) refl (stood .placed) (stateWord p) ready (w-low .0) (w-low .1)
+        (change-offers L (withOffer k v (st .offers)) (G .rest) (λ other r d j x n. (
+          (λ y l g. more-senders st k v g),
+          (λ y l z f g. fewer-senders st k v (λ e. own-one L (apart-parts L leaf x n) o (subst (λ z. Own d (μ (S L .word z))) e f)) g),
+        )))
+
+    abbrev s₄ : World
+    s₄ = stored (stateWord p) ready (holding k v s)
+
+    real₄ : Real L s₄ st₄ η₄ ws
+    real₄ =
+        real-below L (after-leaf L leaf) refl (stood .placed) (stateWord p) ready (w-low .0) (w-low .1) (after-lined L (G .lined))
+        (real-held L k v below small (G .real))
+
+    told : {z : ℕ} → μ (stateWord p) ≡ z → isAltState z ≡ true → z ≢ waiting → land s₄ ≡ done tt s₄ → offering k v s ≡ done tt s₄
+    told {z} state alt n lands =
+        let sz = size-is L (G .real) in
+        let inside-c = c-in L G k v below small free in
+        offer-tells k v (S L .word (inputOf k)) p z s s₄ (at-word L G k v below small free) (rw sz inside-c)
+        (G .real .mirror (S L .word (inputOf k)) inside-c) (λ e. not-own b high (subst (Own b) e o)) (rw sz w-in)
+        (mirrored L (G .real) (stateWord p) w-in state) alt (notify-other p z (holding k v s) (rw sz w-in) n) lands
+
+    did-alert : {hi at : ℕ} → Here L at (cpuOf s .place) (cpuOf s .operand) → AltGoes (S L) b st (i .vars) (i .chans) q hi μ at (regsOf (cpuOf s))
+        → hi ≤ i .left + cpuOf s .place → Answers L (λ u. offering k v s ≡ done tt u) s st (offers k v Offered) (bytesLeft (S L) t)
+    did-alert here way soon =
+        let inv = runs real₄ run (after-leaf L leaf) rest₄ (after-lined L (G .lined))
+        (now-alt here (way-still (S L) (λ x y. refl) (told-point L b i st μ (inputOf k) m o k v refl high) way) soon) in
+        let lands = inv-lands L inv in
+        answers s₄ (Demand.outside (offers k v Offered) [] st₄ ∷ [])
+        (⊎-elim (λ e. told e refl (λ z. absurd (omega arith)) lands) (λ e. told e refl (λ z. absurd (omega arith)) lands) (stood .state))
+        (t-event (offered (unheld L free (G .real .offers k below))) t-none) (sym (append-nil (s .talk))) inv (omega arith)
+
+  now-alerts : ReadyAlt L b i st μ q → Now L s st μ b i q
+      → Answers L (λ u. offering k v s ≡ done tt u) s st (offers k v Offered) (bytesLeft (S L) t)
+  now-alerts known (now-goes h way settled clean soon) = absurd (clean (inputOf k) m o)
+  now-alerts known (now-alt h way soon) =
+      did-alert (way-holds (S L) (stood L b i st μ (inputOf k) m o known) (λ z. absurd z) way) h way soon
+
+-- what the invariant does not say: an ALT that disables its guards is Ready; the operand is 0 while no process runs
+abbrev pub Fit : (L : Loaded) {s : World} {st : State} {n : ℕ} → Inv L s st n → Type 0
+Fit L {s} {st} (runs {μ} {q = q} {b} {i} real run leaf rest lines now) = ReadyAlt L b i st μ q
+Fit L (starts B real run leaf rest lines now) = Unit {0}
+Fit L {s} (idle real stop rest) = cpuOf s .operand ≡ 0
+
+-- every offer that is not turned down
+pub offers-does : (L : Loaded) {s : World} {st : State} {n : ℕ} (inv : Inv L s st n) → Fit L inv → (k v : ℕ) → k < L .prog .inputs → v < 2 ^ 32
+    → getD (s .machine .held) k false ≡ false → Answers L (λ u. offering k v s ≡ done tt u) s st (offers k v Offered) n
+offers-does L {s} {st} (runs {μ} {t} {path} {q} {b} {i} real run leaf rest lines now) fit k v below small free =
+    let G = runs-ground L real run leaf rest lines now in
+    ground-offers L G k v below small free (λ other p d j y e m o.
+    now-alerts L G run leaf k v below small free (same-leaf L (λ p d (j : Info). List·Memᴰ (inputOf k) (j .chans)) (sym e) y leaf m)
+    (same-leaf L (λ p d (j : Info). Own d (μ (S L .word (inputOf k)))) (sym e) y leaf o) fit now)
+offers-does L (starts B real run leaf rest lines now) fit k v below small free =
+    let G = starts-ground L real run leaf B rest lines now in
+    ground-offers L G k v below small free (λ other p d j y e m o. absurd (starts-unmarked L real run leaf B now other p d j y e (inputOf k) m o))
+offers-does L (idle real stop rest) fit k v below small free =
+    ground-offers L (idle-ground L real stop fit rest) k v below small free (λ other p d j y e m o. absurd e)

@@ -65,10 +65,10 @@ module _ (L : Loaded) (b : Part) (i : Info) (st : State) (μ : Mem) where
       → μ (stateWord (μ (S L .word y))) ≡ ready
 
   -- its words at and below its name, and its state
-  record Stood (p : ℕ) : Type 0 where
-    low : b .bottom + 3 ≤ p
-    placed : Placed (S L) b (p + 1) (i .vars) (i .chans)
-    state : (μ (stateWord p) ≡ enabling) ⊎ (μ (stateWord p) ≡ ready)
+  pub record Stood (p : ℕ) : Type 0 where
+    pub low : b .bottom + 3 ≤ p
+    pub placed : Placed (S L) b (p + 1) (i .vars) (i .chans)
+    pub state : (μ (stateWord p) ≡ enabling) ⊎ (μ (stateWord p) ≡ ready)
 
   module _ (c : Site) (m : List·Memᴰ c (i .chans)) (o : Own b (μ (S L .word c))) where
     stood-at : {gs : Guards} {l : List Frame} {hi at : ℕ} (w : ℕ) → AltCode (S L) b gs (i .vars) (i .chans) l hi at (w + 1) → μ (S L .word c) ≡ w
@@ -76,7 +76,7 @@ module _ (L : Loaded) (b : Part) (i : Info) (st : State) (μ : Mem) where
     stood-at w a e f =
         subst Stood (sym e) (record { low = omega (arith, a .fine .0); placed = cont-placed (S L) b (a .after); state = f })
 
-    stood : {q : Process} → ReadyAlt q → (up j : ℕ) (r : Regs) → AltPoint (S L) b st (i .vars) (i .chans) q up μ j r → Stood (μ (S L .word c))
+    pub stood : {q : Process} → ReadyAlt q → (up j : ℕ) (r : Regs) → AltPoint (S L) b st (i .vars) (i .chans) q up μ j r → Stood (μ (S L .word c))
     stood known up j r (pt-enable a l n e) =
         stood-at (r .w) a (n .marks c m o .0) (⊎-elim (λ z. inl (z .0)) (λ z. inr (z .0)) (n .state))
     stood known up j r (pt-wait a n) = stood-at (r .w) a (n .marks c m o .0) (⊎-elim (λ z. inl (z .0)) (λ z. inr (z .0)) (n .state))
@@ -134,7 +134,7 @@ module _ (L : Loaded) (b : Part) (i : Info) (st : State) (μ : Mem) where
                   (λ y. inr (base-kept ∙ y .0, ready-more (λ y. more-senders st n v) refl (y .1))) (f .chosen);
             }
 
-      told-point : b .top ≤ 4096 → {q : Process} (up j : ℕ) (r : Regs) → AltPoint (S L) b st (i .vars) (i .chans) q up μ j r
+      pub told-point : b .top ≤ 4096 → {q : Process} (up j : ℕ) (r : Regs) → AltPoint (S L) b st (i .vars) (i .chans) q up μ j r
           → AltPoint (S L) b st₂ (i .vars) (i .chans) q up η j r
       told-point high up j r (pt-enable a l f e) =
           pt-enable a l (enabling-told (r .w) a (f .marks c m o .0) high f)
