@@ -4,36 +4,35 @@ use native.Mathlib.Omega.{arith}
 use native.Mathlib.Decide.{ℕ-discrete}
 use mathlib.Core.Path.{_≡_, refl, sym, ap, _∙_, subst}
 use mathlib.Core.Logic.{_≢_, _⊎_, inl, inr, ⊎-elim}
-use mathlib.Core.Bool.{Bool, true, false}
+use mathlib.Core.Bool.{true, false}
 use mathlib.Core.List.{List, [], _∷_, _++_, List·Memᴰ, List·Memᴰ·not-nil}
-use mathlib.Core.Option.{Option, none, some}
-use lib.ListN.{length}
-use Rattle.model.specs.Syntax.{Site, Stmt, Stmts, noStmt, stmt, Guards, noGuard}
+use mathlib.Core.Option.{some}
+use Rattle.model.specs.Syntax.{Site, Stmt, Stmts, noStmt, stmt, Guards}
 use Rattle.model.specs.Counts.{need}
 use Rattle.model.specs.Scheme.{size, howMany}
 use Rattle.model.specs.Machine.{World, stateWord}
 use Rattle.model.specs.Occam.{Store, Frame, Process, atOutput, begin, look, State}
 use Rattle.model.proofs.Cases.{never}
-use Rattle.model.proofs.Ways.{Regs, regsOf, Mem, Way, arrived, through, quiet, loads, jumps, falls, way-stable}
-use Rattle.model.proofs.Points.{Setting, whole}
+use Rattle.model.proofs.Ways.{Regs, regsOf, Mem, Way, arrived, through, quiet, loads, jumps, falls}
+use Rattle.model.proofs.Points.{Setting}
 use Rattle.model.proofs.Paths.{same-path, silent-begin}
 use Rattle.model.proofs.Parts.{Part, joins, partOf, FineGuards}
 use Rattle.model.proofs.Conts.{cont-low}
-use Rattle.model.proofs.Marks.{Own, AltCode, Enabling, Enables, e-input, e-skip, Disabling, Disables, d-input, d-skip, AltPoint, pt-enable}
+use Rattle.model.proofs.Marks.{Own, AltCode, Enabling, Enables, e-input, e-skip, Disables, d-input, d-skip, AltPoint, pt-enable}
 use Rattle.model.proofs.Marks.{pt-wait, pt-disable, pt-choose}
-use Rattle.model.proofs.Arrivals.{Goes, Comes, comes}
+use Rattle.model.proofs.Arrivals.{Goes, comes}
 use Rattle.model.proofs.Onwards.{AltGoes, Starts, rest-fine, guarded-fine}
 use Rattle.model.proofs.Trees.{some-same, Info, newInfo, Sits, Tree, bytesLeft}
-use Rattle.model.proofs.Leaves.{Unmarked}
-use Rattle.model.proofs.Stays.{value-same, Calm, goes-stays, comes-stays, unmarked-stays, noticed-stays, marked-stays, ready-stays, disabling-stays}
+use Rattle.model.proofs.Stays.{value-same, Calm, goes-stays, comes-stays, unmarked-stays, noticed-stays, marked-stays, ready-stays}
+use Rattle.model.proofs.Stays.{disabling-stays}
 use Rattle.model.proofs.Effects.{cpuOf}
 use Rattle.model.proofs.Queues.{apart-none}
 use Rattle.model.proofs.Reach.{Moving, begins, alters, ends, way-kind, alt-in, alt-moving}
 use Rattle.model.proofs.Kernel.{Loaded, S, root, LeafAt, Rest, Lined, Real}
 use Rattle.model.proofs.Writes.{part-small, sits-at}
 use Rattle.model.proofs.Grounds.{small-size}
-use Rattle.model.proofs.Running.{Only, Nobody, Births, Later, l-here, l-next, Unborn, unborn, Starting, Here, Birth, Now, now-goes, now-alt, NowStarts}
-use Rattle.model.proofs.Running.{Inv, runs, starts, idle}
+use Rattle.model.proofs.Running.{Only, Nobody, Births, Later, l-here, l-next, Unborn, unborn, Starting, Here, Birth, Now, now-goes}
+use Rattle.model.proofs.Running.{now-alt, NowStarts, Inv, runs, starts, idle}
 use Rattle.model.proofs.Moving.{same-leaf, settled-silent, skips-silent}
 
 -- a path without jumps stays where its significant instruction does

@@ -1,23 +1,22 @@
 -- Takes from outside: the sender that waits at an outside output goes on, or nobody sends.
-use Prim.Native.Nat.{ℕ, zero, suc, _+_, _-_, _^_, _≤_, _<_}
+use Prim.Native.Nat.{ℕ, _+_, _<_}
 use native.Mathlib.Omega.{arith}
 use native.Mathlib.Decide.{ℕ-discrete}
 use mathlib.Core.Path.{_≡_, refl, sym, ap, _∙_, subst}
 use mathlib.Core.Logic.{_≢_, _⊎_, inl, inr, ⊎-elim}
-use mathlib.Core.Bool.{Bool, true, false, cond}
-use mathlib.Core.List.{List, [], _∷_, _++_, map, List·Memᴰ}
-use mathlib.Core.Option.{Option, none, some}
-use lib.ListN.{length, getD}
-use borrow.Author.Tests.{eq-eqb, ne-eqb}
+use mathlib.Core.Bool.{false}
+use mathlib.Core.List.{List, [], _∷_, _++_, List·Memᴰ}
+use mathlib.Core.Option.{none, some}
+use lib.ListN.{getD}
+use borrow.Author.Tests.{ne-eqb}
 use Rattle.model.specs.Word.{notProcess}
-use Rattle.model.specs.Syntax.{Site, inputOf, outputOf}
+use Rattle.model.specs.Syntax.{Site, outputOf}
 use Rattle.model.specs.Layout.{base}
-use Rattle.model.specs.Machine.{World, done, Act, _>>=_, _>>_, return, peek, join, communicate, resumeWord, stateWord}
+use Rattle.model.specs.Machine.{World, done, Act, return, join, resumeWord, stateWord}
 use Rattle.model.specs.Execute.{receive, received}
 use Rattle.model.specs.Run.{land}
 use Rattle.model.specs.Outside.{waking, looking, taking}
-use Rattle.model.specs.Occam.{Frame, Process, atOutput, resume, State, over-channel, Sender, Event, takes, taken}
-use Rattle.model.specs.Demand.{outside}
+use Rattle.model.specs.Occam.{Frame, Process, atOutput, resume, State, Sender, takes, taken}
 use Rattle.model.specs.declared.Setup.{Setup}
 use Rattle.model.specs.declared.TakeAnswer.the-variants.{Taken}
 use Rattle.model.proofs.Cases.{never, by-bool}
@@ -32,15 +31,17 @@ use Rattle.model.proofs.Kernel.{Loaded, S, root, size, LeafAt, Rest, Li
 use Rattle.model.proofs.Writes.{upd-same, upd-other, apart-parts, own-one, part-small, sits-at}
 use Rattle.model.proofs.Puts.{putting}
 use Rattle.model.proofs.Grounds.{small-size}
-use Rattle.model.proofs.Traces.{Trace, t-none, t-event}
+use Rattle.model.proofs.Traces.{t-none, t-event}
 use Rattle.model.proofs.Running.{Inv, runs, starts, idle}
 use Rattle.model.proofs.Moving.{rest-out, lined-out}
 use Rattle.model.proofs.Reals.{size-is, mirrored, real-stored, link-chan}
-use Rattle.model.proofs.Channels.{Holder, holds-input, holds-output, holds-wait, holds-woken, holds-out, holder, Sends, sends, sender-at, output-at}
+use Rattle.model.proofs.Channels.{Holder, holds-input, holds-output, holds-wait, holds-woken, holds-out, holder, Sends, sends}
+use Rattle.model.proofs.Channels.{sender-at, output-at}
 use Rattle.model.proofs.Meets.{not-own, clear-chan, chan-above}
 use Rattle.model.proofs.Ins.{output-channel}
-use Rattle.model.proofs.Bystanders.{SameRegs, Keeps, Ground, runs-ground, starts-ground, idle-ground, part-high}
-use Rattle.model.proofs.Wakings.{With, Answers, calm-chan, Joins, waited-goes, talked, answers-talk, output-named, outside-chan, outside-in, part-of}
+use Rattle.model.proofs.Bystanders.{Keeps, Ground, runs-ground, starts-ground, idle-ground}
+use Rattle.model.proofs.Wakings.{With, Answers, calm-chan, Joins, waited-goes, answers-talk, output-named, outside-chan}
+use Rattle.model.proofs.Wakings.{outside-in, part-of}
 
 -- where a free processor has taken a process, the place where it goes is tested
 pub waking-does : (act : Act (Unit {0})) (s u : World) → act s ≡ done tt u → land u ≡ done tt u → waking act s ≡ done tt u

@@ -1,60 +1,26 @@
 -- An ALT that has the processor is told of an offer on a channel that it has marked.
-use Prim.Native.Nat.{ℕ, zero, suc, _+_, _-_, _^_, _≤_, _<_}
+use Prim.Native.Nat.{ℕ, _+_, _≤_, _<_}
 use native.Mathlib.Omega.{arith}
-use native.Mathlib.Decide.{ℕ-discrete}
 use mathlib.Core.Path.{_≡_, refl, sym, ap, _∙_, subst}
-use mathlib.Core.Logic.{_≢_, _⊎_, inl, inr, ⊎-elim}
-use mathlib.Core.Bool.{Bool, true, false, cond}
-use mathlib.Core.List.{List, [], _∷_, _++_, map, append-nil, List·Memᴰ}
-use mathlib.Core.Option.{Option, none, some}
-use lib.ListN.{length, getD, set, length-set}
-use lib.Seq.{getD-set-same, getD-set-other}
-use lib.Dec.{eqb}
-use borrow.Author.Tests.{eq-eqb, ne-eqb, eqb-true, eqb-false}
-use Rattle.model.specs.Word.{notProcess}
-use Rattle.model.specs.Syntax.{Site, inputOf, outputOf, Guards}
-use Rattle.model.specs.Layout.{base}
-use Rattle.model.specs.Scheme.{sizeEnable}
-use Rattle.model.specs.Machine.{World, done, Act, return, withOffers, join, resumeWord, stateWord}
-use Rattle.model.specs.Execute.{isAltState, notify, deliver, enabling, waiting, ready, noneSelected}
-use Rattle.model.specs.Run.{land}
-use Rattle.model.specs.Outside.{offering}
-use Rattle.model.specs.Occam.{Store, store, Frame, Process, atInput, atOutput, atAlt, resume, State, over-channel, Sender, process, outside}
-use Rattle.model.specs.Occam.{receives, Event, offers, Outside, offered}
-use Rattle.model.specs.Demand.{Move}
-use Rattle.model.specs.Demand as Demand
-use Rattle.model.specs.declared.Setup.{Setup}
-use Rattle.model.specs.declared.OfferAnswer.the-variants.{Offered}
-use Rattle.model.proofs.Cases.{never, by-bool}
-use Rattle.model.proofs.Ways.{Regs, regsOf, Mem}
+use mathlib.Core.Logic.{_⊎_, inl, inr, ⊎-elim}
+use mathlib.Core.List.{List, [], List·Memᴰ}
+use Rattle.model.specs.Syntax.{Site, inputOf, Guards}
+use Rattle.model.specs.Machine.{stateWord}
+use Rattle.model.specs.Execute.{enabling, ready}
+use Rattle.model.specs.Occam.{store, Frame, Process, atAlt, State, Sender, offers}
+use Rattle.model.proofs.Ways.{Regs, Mem}
 use Rattle.model.proofs.Conts.{Placed, cont-low, cont-placed}
-use Rattle.model.proofs.Parts.{Part, Target}
-use Rattle.model.proofs.Marks.{Own, Ready, Guarded, AltCode, Marked, Enabling, Disabling, AltPoint, pt-enable, pt-wait, pt-disable, pt-choose}
-use Rattle.model.proofs.Onwards.{AltGoes, rest-fine, guarded-ready}
-use Rattle.model.proofs.Trees.{Info, Tree, bytesLeft}
-use Rattle.model.proofs.Leaves.{upd, member, Unmarked, Resumes, Waits, Held, h-woken}
-use Rattle.model.proofs.Stays.{Calm, calm-trans}
-use Rattle.model.proofs.Effects.{cpuOf, sizeOf, stored, poke-in}
-use Rattle.model.proofs.Acts.{peek-at, notify-waiting, notify-other}
-use Rattle.model.proofs.Queues.{queue-same}
-use Rattle.model.proofs.Kernel.{Loaded, S, root, size, LeafAt, Rest, Lined, Real, Offer, no-offer, held-offer}
-use Rattle.model.proofs.Writes.{upd-same, upd-other, changed, after-leaf, after-lined, node, apart-parts, own-one, part-small, sits-at, write-var}
-use Rattle.model.proofs.Writes.{change-offers}
-use Rattle.model.proofs.Puts.{putting}
-use Rattle.model.proofs.Grounds.{var-in, small-size}
-use Rattle.model.proofs.Traces.{Trace, t-none, t-step, t-event}
-use Rattle.model.proofs.Running.{Inv, runs, starts, idle}
-use Rattle.model.proofs.Moving.{rest-in, rest-out, lined-out}
-use Rattle.model.proofs.Reals.{size-is, mirrored, offer-same, real-state, real-stored, link-any, link-var, link-chan}
-use Rattle.model.proofs.Channels.{Holder, holds-input, holds-output, holds-wait, holds-woken, holds-out, holder, input-at}
-use Rattle.model.proofs.Meets.{not-own, clear-chan, var-above, chan-above, rest-below, real-below}
-use Rattle.model.proofs.Outs.{ready-more, picks-more, no-alt-state}
-use Rattle.model.proofs.Bystanders.{way-still, way-holds, enables-stays, disables-stays, SameRegs, Keeps, Free, Ground, runs-ground, starts-ground, idle-ground, part-high}
-use Rattle.model.proofs.Wakings.{With, Answers, answers, inv-lands, calm-var, calm-chan, calm-own, calm-offers, Joins, goes-on, waited-goes}
-use Rattle.model.proofs.Wakings.{talked, answers-talk, answers-silent, input-named, outside-chan, outside-in, part-of}
-use Rattle.model.proofs.Takes.{waking-does, communicated, received-does}
-use Rattle.model.proofs.Offerings.{holding, offer-holds, offer-tells, offer-delivers, withOffer, passedOffer, passed-same, more-senders, fewer-senders}
-use Rattle.model.proofs.Offerings.{offer-sends, same-senders, senders-same, real-offers, real-held, unheld, offer-held}
+use Rattle.model.proofs.Parts.{Part}
+use Rattle.model.proofs.Marks.{Own, AltCode, Marked, Enabling, Disabling, AltPoint, pt-enable, pt-wait, pt-disable, pt-choose}
+use Rattle.model.proofs.Onwards.{rest-fine, guarded-ready}
+use Rattle.model.proofs.Trees.{Info}
+use Rattle.model.proofs.Leaves.{upd}
+use Rattle.model.proofs.Kernel.{Loaded, S}
+use Rattle.model.proofs.Writes.{upd-same, upd-other, changed}
+use Rattle.model.proofs.Meets.{chan-above}
+use Rattle.model.proofs.Outs.{ready-more, picks-more}
+use Rattle.model.proofs.Bystanders.{enables-stays, disables-stays}
+use Rattle.model.proofs.Offerings.{withOffer, more-senders, offer-sends}
 
 -- an ALT that has the processor and has marked the channel
 module _ (L : Loaded) (b : Part) (i : Info) (st : State) (μ : Mem) where

@@ -1,51 +1,53 @@
 -- The outside wakes a process that waited: it joins the queue, or gets the processor at once where that is free.
-use Prim.Native.Nat.{ℕ, zero, suc, _+_, _-_, _^_, _≤_, _<_}
+use Prim.Native.Nat.{ℕ, zero, suc, _+_, _≤_, _<_}
 use native.Mathlib.Omega.{arith}
 use native.Mathlib.Decide.{ℕ-discrete}
 use mathlib.Core.Path.{_≡_, refl, sym, ap, _∙_, subst}
 use mathlib.Core.Logic.{_≢_, _⊎_, inl, inr, ⊎-elim}
-use mathlib.Core.Bool.{Bool, true, false, cond}
+use mathlib.Core.Bool.{true}
 use mathlib.Core.List.{List, [], _∷_, _++_, map, append-nil, List·Memᴰ, List·Memᴰ·head, Memᴰ·append-left, Memᴰ·append-right}
-use mathlib.Core.Option.{Option, none, some}
-use lib.ListN.{length, getD}
+use mathlib.Core.Option.{Option, some}
+use lib.ListN.{length}
 use Rattle.model.specs.Word.{notProcess}
 use Rattle.model.specs.Syntax.{Site, inputOf, outputOf, Stmts}
 use Rattle.model.specs.Reader.{numbered}
 use Rattle.model.specs.Usage.{same}
 use Rattle.model.specs.Scheme.{sizeEnable}
-use Rattle.model.specs.Machine.{Talk, World, done, Act, return, testPlace, join, resumeWord}
+use Rattle.model.specs.Machine.{Talk, World, done, return, testPlace, join, resumeWord}
 use Rattle.model.specs.Run.{land}
-use Rattle.model.specs.Occam.{Store, store, Frame, Process, Branches, atOutput, framesOf, put, resume, State, Sender, process, outside, Communication, over-channel, Event}
+use Rattle.model.specs.Occam.{store, Frame, Process, Branches, atOutput, framesOf, put, resume, State, Sender, process}
+use Rattle.model.specs.Occam.{Communication, over-channel, Event}
 use Rattle.model.specs.Demand.{Segment, liveIn, talkOf}
 use Rattle.model.proofs.Cases.{never, by-bool}
 use Rattle.model.proofs.Sites.{same-eq}
-use Rattle.model.proofs.Ways.{Regs, regsOf, Mem}
-use Rattle.model.proofs.Points.{Setting, whole, At}
-use Rattle.model.proofs.Arrive.{inside, up, rises-le}
-use Rattle.model.proofs.Paths.{Leaf, leaf-resume, live-resume, silent-resume, same-path}
+use Rattle.model.proofs.Ways.{Mem}
+use Rattle.model.proofs.Points.{Setting}
+use Rattle.model.proofs.Arrive.{inside, rises-le}
+use Rattle.model.proofs.Paths.{Leaf, leaf-resume, live-resume, silent-resume}
 use Rattle.model.proofs.Parts as Parts
 use Rattle.model.proofs.Parts.{Part, Target}
 use Rattle.model.proofs.Marks.{Own}
 use Rattle.model.proofs.Onwards.{disable-first}
-use Rattle.model.proofs.Trees.{some-same, Label, alone, Info, Sits, Tree, t-leaf, t-par, Forest, f-none, f-live, f-over, labelAt, labelIn}
-use Rattle.model.proofs.Trees.{part-inside, bytesLeft, leaf-bytes}
+use Rattle.model.proofs.Trees.{some-same, Label, alone, Info, Sits, Tree, t-leaf, t-par, Forest, f-none, f-live, f-over, labelAt}
+use Rattle.model.proofs.Trees.{labelIn, part-inside, bytesLeft, leaf-bytes}
 use Rattle.model.proofs.Zones.{zoneOf, Distant}
-use Rattle.model.proofs.Leaves.{upd, member, Unmarked, Waits, Held, h-queued, h-woken}
+use Rattle.model.proofs.Leaves.{upd, Unmarked, Waits, Held, h-queued, h-woken}
 use Rattle.model.proofs.Stays.{Calm, calm-trans}
-use Rattle.model.proofs.Effects.{cpuOf, sizeOf}
+use Rattle.model.proofs.Effects.{cpuOf}
 use Rattle.model.proofs.Acts.{when-true, when-false, testPlace-in}
 use Rattle.model.proofs.Queues.{joined, released, join-queue-free, free-queue}
-use Rattle.model.proofs.Kernel.{Loaded, S, root, size, LeafAt, NodeAt, Owned, Rest, Lined, Real}
-use Rattle.model.proofs.Writes.{upd-same, upd-other, changed, node, apart-zones, apart-parts, own-one, part-small, sits-at, sender-stored, sender-kept}
+use Rattle.model.proofs.Kernel.{Loaded, S, root, size, LeafAt, Owned, Rest, Lined, Real}
+use Rattle.model.proofs.Writes.{upd-same, upd-other, changed, node, apart-zones, apart-parts, part-small, sits-at, sender-stored}
+use Rattle.model.proofs.Writes.{sender-kept}
 use Rattle.model.proofs.Puts.{putting, treeThen, here-then, other-then, lined-then, rest-then, moved, sender-then, sender-before}
 use Rattle.model.proofs.Grounds.{chan-in, small-size, sound-at, code-end}
 use Rattle.model.proofs.FineParts.{outsideNames}
 use Rattle.model.proofs.Traces.{Trace, t-none, trace-then}
-use Rattle.model.proofs.Running.{Only, Nobody, Here, within, at-end, off-small, fresh, Now, now-goes, now-alt, Inv, runs, starts, idle}
+use Rattle.model.proofs.Running.{Only, Here, within, at-end, off-small, fresh, Now, now-goes, now-alt, Inv, runs, starts, idle}
 use Rattle.model.proofs.Moving.{rest-out, lined-in}
 use Rattle.model.proofs.Reals.{size-is, mirrored, real-state, real-queue, real-talk}
-use Rattle.model.proofs.Sched.{Stands, Settles, settles, settle, linkedTo, Woken, wakes}
-use Rattle.model.proofs.Meets.{not-own, resumed}
+use Rattle.model.proofs.Sched.{Stands, settles, settle, linkedTo, wakes}
+use Rattle.model.proofs.Meets.{resumed}
 use Rattle.model.proofs.Advance.{Silent}
 use Rattle.model.specs.declared.Setup.{Setup}
 use Rattle.model.proofs.Bystanders.{SameRegs, now-stays, starts-stays, Keeps, Free, Ground, part-high}
