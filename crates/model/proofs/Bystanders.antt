@@ -36,7 +36,8 @@ use Rattle.model.proofs.Running.{now-alt, NowStarts, Inv, runs, starts,
 use Rattle.model.proofs.Moving.{same-leaf, settled-silent, skips-silent}
 
 -- a path without jumps stays where its significant instruction does
-pub way-still : (S : Setting) {P Q : ℕ → Mem → ℕ → Regs → Type 0} {E : Type 0} {σ τ : Store} {R : Site → Type 0} {hi : ℕ} {μ ν : Mem} {i : ℕ}
+pub way-still : (S : Setting) {P Q : ℕ → Mem → ℕ → Regs → Type 0} {E : Type 0} {σ τ : Store} {R : Site → Type 0} {hi : ℕ} {μ ν : Mem}
+    {i : ℕ}
     {r : Regs} → ((x : Site) → R x → σ x ≡ τ x) → ((h i : ℕ) (r : Regs) → P h μ i r → Q h ν i r)
     → Way (S .xs) (S .off) (S .word) P E σ R (λ w. ⊥) hi μ i r → Way (S .xs) (S .off) (S .word) Q E τ R (λ w. ⊥) hi ν i r
 way-still S h l (arrived p b) = arrived (l _ _ _ p) b
@@ -47,7 +48,8 @@ way-still S h l (jumps at i c e v) = absurd c
 way-still S h l (falls at i a e v) = falls at i a e (way-still S h l v)
 
 -- what holds at its significant instruction and at the end holds on it
-pub way-holds : (S : Setting) {P : ℕ → Mem → ℕ → Regs → Type 0} {E K : Type 0} {σ : Store} {R : Site → Type 0} {hi : ℕ} {μ : Mem} {i : ℕ} {r : Regs}
+pub way-holds : (S : Setting) {P : ℕ → Mem → ℕ → Regs → Type 0} {E K : Type 0} {σ : Store} {R : Site → Type 0} {hi : ℕ} {μ : Mem}
+    {i : ℕ} {r : Regs}
     → ((h i : ℕ) (r : Regs) → P h μ i r → K) → (E → K) → Way (S .xs) (S .off) (S .word) P E σ R (λ w. ⊥) hi μ i r → K
 way-holds S l f (arrived p b) = l _ _ _ p
 way-holds S l f (through e b g) = f g
@@ -100,7 +102,8 @@ module _ (S : Setting) (b : Part) (i : Info) (high : b .top < 2 ^ 32) (sits : Si
       → AltPoint S b st′ (i .vars) (i .chans) q up ν j r
   alt-point-stays up j r (pt-enable c l n e) =
       pt-enable c l (enabling-stays (r .w) c n)
-      (enables-stays S b (i .vars) (i .chans) (calm .reads) (r .w + 1) (rest-fine (S .word) b (i .vars) (i .chans) (r .w + 1) (n .rest .1) (c .fine .1)) e)
+      (enables-stays S b (i .vars) (i .chans) (calm .reads) (r .w + 1) (rest-fine (S .word) b (i .vars) (i .chans) (r .w + 1)
+      (n .rest .1) (c .fine .1)) e)
   alt-point-stays up j r (pt-wait c n) = pt-wait c (enabling-stays (r .w) c n)
   alt-point-stays up j r (pt-disable c l t n d) =
       let f = rest-fine (S .word) b (i .vars) (i .chans) (r .w + 1) t (c .fine .1) in
@@ -203,7 +206,8 @@ module _ (L : Loaded) where
         next-one = now .next-one;
         same-w = now .same-w;
         here = here-same same (now .here);
-        way = subst (λ r. Starts (S L) (st′ .store) (B .s) (B .ss) (B .d) (B .b) (B .first) (B .w) (now .hi) ν (now .at) r) (sym (same .regs))
+        way = subst (λ r. Starts (S L) (st′ .store) (B .s) (B .ss) (B .d) (B .b) (B .first) (B .w) (now .hi) ν (now .at) r)
+            (sym (same .regs))
             (way-still (S L) (λ x m. absurd m) (λ h j r p. p) (now .way));
         births = λ k r d c l. birth k r d c l (now .births k r d c l);
         own = comes-stays (S L) b (i .vars) (i .chans) (calm .reads) (now .own);
@@ -212,11 +216,13 @@ module _ (L : Loaded) where
         soon = soon-same same (i .left) (now .soon);
       }
     where
-      birth : (k : ℕ) (r : Stmt) (d c : ℕ) → Later (stmt (B .s) (B .ss)) (B .d) (B .b) k r d c → Birth L st μ t B k r d c → Birth L st′ ν t′ B k r d c
+      birth : (k : ℕ) (r : Stmt) (d c : ℕ) → Later (stmt (B .s) (B .ss)) (B .d) (B .b) k r d c → Birth L st μ t B k r d c
+          → Birth L st′ ν t′ B k r d c
       birth k r d c l h =
           let a = partOf (B .vars) (B .chans) (B .w - d) (joins d) r in
           let j = newInfo (S L) (B .vars) (B .chans) (B .w - d) in
-          let (leaf′, calm) = keeps (B .par ++ (B .next + k) ∷ []) (begin r []) a j (h .leaf) (inr (unborn k (omega (arith, later-few l)) refl)) in
+          let (leaf′, calm) = keeps (B .par ++ (B .next + k) ∷ []) (begin r []) a j (h .leaf)
+          (inr (unborn k (omega (arith, later-few l)) refl)) in
           record {
             leaf = leaf′;
             comes = comes-stays (S L) a (B .vars) (B .chans) (calm .reads) (h .comes);
@@ -233,14 +239,16 @@ module _ (L : Loaded) where
     pub unqueued : ws ≡ []
 
   -- all that the invariant says, with what it comes to where the processes that are left out keep what they have
-  pub record Ground (s : World) (st : State) (μ : Mem) (t : Tree (S L) (root L) (st .process)) (Out : List ℕ → Type 0) (ws : List ℕ) : Type 0 where
+  pub record Ground (s : World) (st : State) (μ : Mem) (t : Tree (S L) (root L) (st .process)) (Out : List ℕ → Type 0)
+      (ws : List ℕ) : Type 0 where
     pub real : Real L s st μ ws
     pub rest : Rest L st μ t Out ws
     pub lined : Lined L st t Out ws
     pub known : (other : List ℕ) → Out other ⊎ (Out other → ⊥)
     pub silent : (path : List ℕ) (c : Site) (v : ℕ) (k : List Frame) → look path (st .process) ≡ some (atOutput c v k) → Out path → ⊥
     -- a channel that holds a name of theirs is one of their inputs
-    pub marks : (path : List ℕ) (q : Process) (b : Part) (i : Info) → LeafAt L st t path q b i → Out path → (c : Site) → List·Memᴰ c (i .chans)
+    pub marks : (path : List ℕ) (q : Process) (b : Part) (i : Info) → LeafAt L st t path q b i → Out path → (c : Site)
+        → List·Memᴰ c (i .chans)
         → Own b (μ (S L .word c)) → List·Memᴰ c (b .inputs)
     pub free : (cpuOf s .running ≡ true) ⊎ Free s Out ws
     pub stays : (u : World) (st′ : State) (ν : Mem) (t′ : Tree (S L) (root L) (st′ .process)) (us : List ℕ) → SameRegs u s
@@ -253,14 +261,16 @@ module _ (L : Loaded) where
   moving-silent alters e = never (cc)
   moving-silent ends e = never (cc)
 
-  now-silent : {s : World} {st : State} {μ : Mem} {b : Part} {i : Info} {q : Process} {c : Site} {v : ℕ} {k : List Frame} → Now L s st μ b i q
+  now-silent : {s : World} {st : State} {μ : Mem} {b : Part} {i : Info} {q : Process} {c : Site} {v : ℕ} {k : List Frame}
+      → Now L s st μ b i q
       → q ≡ atOutput c v k → ⊥
   now-silent (now-goes h way settled clean soon) e = settled-silent settled e
   now-silent {b = b} {q = q} (now-alt h way soon) e =
       moving-silent (way-kind (S L) (alt-in (S L) b) (Moving q) (alt-moving (S L) b) (λ z. absurd z) way) e
 
   -- an ALT's marks are at its guards
-  point-marks : {st : State} {μ : Mem} {b : Part} (i : Info) {q : Process} (c : Site) → List·Memᴰ c (i .chans) → Own b (μ (S L .word c)) → (up j : ℕ)
+  point-marks : {st : State} {μ : Mem} {b : Part} (i : Info) {q : Process} (c : Site) → List·Memᴰ c (i .chans) → Own b (μ (S L .word c))
+      → (up j : ℕ)
       (r : Regs) → AltPoint (S L) b st (i .vars) (i .chans) q up μ j r → List·Memᴰ c (b .inputs)
   point-marks {b = b} i c m o up j r (pt-enable a l n e) =
       guarded-fine (S L .word) b (i .vars) (i .chans) (r .w + 1) (n .marks c m o .1) (a .fine .1) .1
@@ -272,7 +282,8 @@ module _ (L : Loaded) where
   point-marks {b = b} i c m o up j r (pt-choose a n) =
       guarded-fine (S L .word) b (i .vars) (i .chans) (r .w + 1) (n .marks c m o .1) tt .1
 
-  now-marks : {s : World} {st : State} {μ : Mem} {b : Part} {i : Info} {q : Process} → Now L s st μ b i q → (c : Site) → List·Memᴰ c (i .chans)
+  now-marks : {s : World} {st : State} {μ : Mem} {b : Part} {i : Info} {q : Process} → Now L s st μ b i q → (c : Site)
+      → List·Memᴰ c (i .chans)
       → Own b (μ (S L .word c)) → List·Memᴰ c (b .inputs)
   now-marks (now-goes h way settled clean soon) c m o = absurd (clean c m o)
   now-marks {i = i} (now-alt h way soon) c m o = way-holds (S L) (point-marks i c m o) (λ z. absurd z) way
@@ -304,14 +315,16 @@ module _ (L : Loaded) where
     starts-unmarked B now other p a j k (inl e) c m o =
         now .unmarked c (same-leaf L (λ z a (j : Info). List·Memᴰ c (j .chans)) (sym e) k leaf m)
         (same-leaf L (λ z a (j : Info). Own a (μ (S L .word c))) (sym e) k leaf o)
-    starts-unmarked B now other p a j k (inr (unborn n l e)) c m o = elim (later-found (stmt (B .s) (B .ss)) (B .d) (B .b) n (omega arith)) [
+    starts-unmarked B now other p a j k (inr (unborn n l e)) c m o = elim
+        (later-found (stmt (B .s) (B .ss)) (B .d) (B .b) n (omega arith)) [
       | nth {r} h ↦
           let birth = now .births n r _ _ h in
           birth .unmarked c (same-leaf L (λ z a (j : Info). List·Memᴰ c (j .chans)) e k (birth .leaf) m)
           (same-leaf L (λ z a (j : Info). Own a (μ (S L .word c))) e k (birth .leaf) o)
     ]
 
-    pub starts-ground : (B : Births) → Rest L st μ t (Starting path B) ws → Lined L st t (Starting path B) ws → NowStarts L s st μ t path q b i B
+    pub starts-ground : (B : Births) → Rest L st μ t (Starting path B) ws → Lined L st t (Starting path B) ws
+        → NowStarts L s st μ t path q b i B
         → Ground s st μ t (Starting path B) ws
     unfolding howMany
     starts-ground B rest lines now =
@@ -331,7 +344,8 @@ module _ (L : Loaded) where
               starts B real′ (same .run ∙ run) (keeps path q b i leaf (inl refl) .0) rest′ lines′ (starts-stays same leaf keeps now);
         }
       where
-        unborn-silent : (other : List ℕ) (c : Site) (v : ℕ) (k : List Frame) → look other (st .process) ≡ some (atOutput c v k) → Unborn B other → ⊥
+        unborn-silent : (other : List ℕ) (c : Site) (v : ℕ) (k : List Frame) → look other (st .process) ≡ some (atOutput c v k)
+            → Unborn B other → ⊥
         unborn-silent other c v k e (unborn n l p) = elim (later-found (stmt (B .s) (B .ss)) (B .d) (B .b) n (omega arith)) [
           | nth {r} h ↦
               silent-begin r [] (some-same (sym (now .births n r _ _ h .leaf .found) ∙ ap (λ z. look z (st .process)) (sym p) ∙ e))

@@ -49,14 +49,16 @@ offer-tells k v c p t s u at h name n hs state alt told l =
     waking-does _ s u (rw (peek-at s at h name, ne-eqb p notProcess n, peek-at s refl hs state, alt, told)) l
 
 -- a process in IN is
-pub offer-delivers : (k v c p m : ℕ) (s u : World) → s .machine .setup .base + k ≡ c → c < sizeOf s → getD (s .memory) c 0 ≡ p → p ≢ notProcess
+pub offer-delivers : (k v c p m : ℕ) (s u : World) → s .machine .setup .base + k ≡ c → c < sizeOf s → getD (s .memory) c 0 ≡ p
+    → p ≢ notProcess
     → stateWord p < sizeOf s → getD (s .memory) (stateWord p) 0 ≡ m → isAltState m ≡ false → m < sizeOf s
     → join p (stored c notProcess (stored m v s)) ≡ done tt u → land (communicated c v u) ≡ done tt (communicated c v u)
     → offering k v s ≡ done tt (communicated c v u)
 unfolding offering deliver
 offer-delivers k v c p m s u at h name n hs state alt hm joined l =
     waking-does _ s (communicated c v u)
-    (rw (peek-at s at h name, ne-eqb p notProcess n, peek-at s refl hs state, alt, poke-in m v s hm, at, received-does c p v (stored m v s) u h joined)) l
+    (rw (peek-at s at h name, ne-eqb p notProcess n, peek-at s refl hs state, alt, poke-in m v s hm, at, received-does c p v
+    (stored m v s) u h joined)) l
 
 -- with an offer more
 abbrev pub withOffer : ℕ → ℕ → (ℕ → Option ℕ) → ℕ → Option ℕ
@@ -85,11 +87,13 @@ module _ (st : State) (k v : ℕ) where
   offer-sends = outside {n = k} {v = v} (rw (eq-eqb k k refl))
 
 -- and where all are the same
-pub same-senders : {st : State} {o : ℕ → Option ℕ} → ((j : ℕ) → st .offers j ≡ o j) → {c : Site} → Sender st c → Sender (changed (st .store) o st) c
+pub same-senders : {st : State} {o : ℕ → Option ℕ} → ((j : ℕ) → st .offers j ≡ o j) → {c : Site} → Sender st c
+    → Sender (changed (st .store) o st) c
 same-senders e (process p g) = process p g
 same-senders e (outside {n} {v = u} g) = outside {n = n} {v = u} (sym (e n) ∙ g)
 
-pub senders-same : {st : State} {o : ℕ → Option ℕ} → ((j : ℕ) → st .offers j ≡ o j) → {c : Site} → Sender (changed (st .store) o st) c → Sender st c
+pub senders-same : {st : State} {o : ℕ → Option ℕ} → ((j : ℕ) → st .offers j ≡ o j) → {c : Site} → Sender (changed (st .store) o st) c
+    → Sender st c
 senders-same e (process p g) = process p g
 senders-same e (outside {n} {v = u} g) = outside {n = n} {v = u} (e n ∙ g)
 

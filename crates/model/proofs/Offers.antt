@@ -97,17 +97,20 @@ module _ (L : Loaded) {s : World} {st : State} {μ : Mem} {t : Tree (S L) (root 
       let strange : (b : Part) → b .top ≤ 4096 → Own b (μ (S L .word c)) → ⊥ = λ b h o. not-own b h (subst (Own b) empty o) in
       let rest = change-offers L (withOffer k v (st .offers)) (G .rest) (λ other r d j l n. (
         (λ a m g. more-senders st k v g),
-        (λ a m x o g. fewer-senders st k v (λ e. strange d (omega (arith, part-small L l, small-size L)) (subst (λ z. Own d (μ (S L .word z))) e o)) g),
+        (λ a m x o g. fewer-senders st k v (λ e. strange d (omega (arith, part-small L l, small-size L))
+            (subst (λ z. Own d (μ (S L .word z))) e o)) g),
       )) in
       let inv = G .stays (holding k v s) st₁ μ t ws (record { run = refl; place = refl; operand = refl; regs = refl })
       (λ path q b i l o. (after-leaf L l, calm-held (strange b (omega (arith, part-small L l, small-size L))))) idle-empty
       (real-held L k v below small (G .real)) rest (after-lined L (G .lined)) in
       answers (holding k v s) (Demand.outside (offers k v Offered) [] st₁ ∷ [])
-      (offer-holds k v (S L .word c) s at-word (rw (size-is L (G .real)) c-in) (mirrored L (G .real) (S L .word c) c-in empty) (inv-lands L inv))
+      (offer-holds k v (S L .word c) s at-word (rw (size-is L (G .real)) c-in) (mirrored L (G .real) (S L .word c) c-in empty)
+      (inv-lands L inv))
       (t-event event t-none) (sym (append-nil (s .talk))) inv (omega arith)
 
   -- an ALT has enabled the channel
-  module _ {other : List ℕ} {gs : Guards} {l : List Frame} {d : Part} {j : Info} {far to : ℕ} (chooser : LeafAt L st t other (atAlt gs l) d j)
+  module _ {other : List ℕ} {gs : Guards} {l : List Frame} {d : Part} {j : Info} {far to : ℕ}
+      (chooser : LeafAt L st t other (atAlt gs l) d j)
       (strange : Out other → ⊥) (a : AltCode (S L) d gs (j .vars) (j .chans) l far to (j .w + 1)) (here : μ (S L .word c) ≡ j .w) where
     chooser₁ : LeafAt L st₁ t other (atAlt gs l) d j
     chooser₁ = after-leaf L chooser
@@ -119,7 +122,8 @@ module _ (L : Loaded) {s : World} {st : State} {μ : Mem} {t : Tree (S L) (root 
     t-low : (d .bottom ≤ stateWord (j .w)) × (stateWord (j .w) < j .w)
     t-low =
         let p = sits-at L chooser .placed in
-        (omega (arith, a .fine .0, p .low, part-small L chooser, small-size L), omega (arith, a .fine .0, p .low, part-small L chooser, small-size L))
+        (omega (arith, a .fine .0, p .low, part-small L chooser, small-size L), omega
+        (arith, a .fine .0, p .low, part-small L chooser, small-size L))
 
     t-high : stateWord (j .w) < d .top
     t-high = omega (arith, t-low .1, sits-at L chooser .placed .low)
@@ -176,7 +180,8 @@ module _ (L : Loaded) {s : World} {st : State} {μ : Mem} {t : Tree (S L) (root 
 
     marked₁ : {hs : Guards} → Marked (S L) d st (j .vars) (j .chans) hs μ (j .w) → Marked (S L) d st₁ (j .vars) (j .chans) hs ν (j .w)
     marked₁ h y m o =
-        let e = upd-other μ (stateWord (j .w)) ready (S L .word y) (chan-above L (sits-at L chooser .placed) (stateWord (j .w)) (t-low .1) y m) in
+        let e = upd-other μ (stateWord (j .w)) ready (S L .word y) (chan-above L (sits-at L chooser .placed) (stateWord (j .w))
+        (t-low .1) y m) in
         let g = h y m (subst (Own d) e o) in
         (e ∙ g .0, g .1)
 
@@ -221,7 +226,8 @@ module _ (L : Loaded) {s : World} {st : State} {μ : Mem} {t : Tree (S L) (root 
         (t-event event t-none) (sym (append-nil (s .talk))) inv (omega arith)
 
   -- a process waits in IN: it gets the value
-  module _ {other : List ℕ} {x : Site} {l : List Frame} {d : Part} {j : Info} {to far : ℕ} (receiver : LeafAt L st t other (atInput c x l) d j)
+  module _ {other : List ℕ} {x : Site} {l : List Frame} {d : Part} {j : Info} {to far : ℕ}
+      (receiver : LeafAt L st t other (atInput c x l) d j)
       (strange : Out other → ⊥) (unqueued : member (j .w) ws ≡ false) (waits : Waits (S L) d j st μ c l to far (S L .word x))
       (target : Target d (j .vars) x) where
     -- with the value, and with the offer gone again
@@ -314,7 +320,8 @@ module _ (L : Loaded) {s : World} {st : State} {μ : Mem} {t : Tree (S L) (root 
 
     goes : Joins L (j .w) s₂ (putting other (resume l) st₃) (bytesLeft (S L) t)
     goes =
-        waited-goes L G (record { run = refl; place = refl; operand = refl; regs = refl }) real₃ rest₃ (after-lined L lines₁) receiver₃ strange
+        waited-goes L G (record { run = refl; place = refl; operand = refl; regs = refl }) real₃ rest₃
+        (after-lined L lines₁) receiver₃ strange
         keeps₃ waits kept₃ refl clean₃ (λ a z f e here p y n q m. never (cc))
 
     -- offered, and received
@@ -349,7 +356,8 @@ module _ (L : Loaded) {s : World} {st : State} {μ : Mem} {t : Tree (S L) (root 
       ⊎-elim did-hold (λ o. by-holder out (holder L (G .rest) (G .known) o refl)) (outside-chan L (G .rest) c (input-named L k below))
 
 -- an ALT that has the processor has marked the channel: it is told
-module _ (L : Loaded) {s : World} {st : State} {μ : Mem} {t : Tree (S L) (root L) (st .process)} {path : List ℕ} {q : Process} {b : Part} {i : Info}
+module _ (L : Loaded) {s : World} {st : State} {μ : Mem} {t : Tree (S L) (root L) (st .process)} {path : List ℕ} {q : Process}
+    {b : Part} {i : Info}
     {ws : List ℕ} (G : Ground L s st μ t (Only path) ws) (run : cpuOf s .running ≡ true) (leaf : LeafAt L st t path q b i) (k v : ℕ)
     (below : k < L .prog .inputs) (small : v < 2 ^ 32) (free : getD (s .machine .held) k false ≡ false)
     (m : List·Memᴰ (inputOf k) (i .chans)) (o : Own b (μ (S L .word (inputOf k)))) where
@@ -397,7 +405,8 @@ module _ (L : Loaded) {s : World} {st : State} {μ : Mem} {t : Tree (S L) (root 
         (G .real .mirror (S L .word (inputOf k)) inside-c) (λ e. not-own b high (subst (Own b) e o)) (rw sz w-in)
         (mirrored L (G .real) (stateWord p) w-in state) alt (notify-other p z (holding k v s) (rw sz w-in) n) lands
 
-    did-alert : {hi at : ℕ} → Here L at (cpuOf s .place) (cpuOf s .operand) → AltGoes (S L) b st (i .vars) (i .chans) q hi μ at (regsOf (cpuOf s))
+    did-alert : {hi at : ℕ} → Here L at (cpuOf s .place) (cpuOf s .operand)
+        → AltGoes (S L) b st (i .vars) (i .chans) q hi μ at (regsOf (cpuOf s))
         → hi ≤ i .left + cpuOf s .place → Answers L (λ u. offering k v s ≡ done tt u) s st (offers k v Offered) (bytesLeft (S L) t)
     did-alert here way soon =
         let inv = runs real₄ run (after-leaf L leaf) rest₄ (after-lined L (G .lined))
@@ -420,7 +429,8 @@ Fit L (starts B real run leaf rest lines now) = Unit {0}
 Fit L {s} (idle real stop rest) = cpuOf s .operand ≡ 0
 
 -- every offer that is not turned down
-pub offers-does : (L : Loaded) {s : World} {st : State} {n : ℕ} (inv : Inv L s st n) → Fit L inv → (k v : ℕ) → k < L .prog .inputs → v < 2 ^ 32
+pub offers-does : (L : Loaded) {s : World} {st : State} {n : ℕ} (inv : Inv L s st n) → Fit L inv → (k v : ℕ) → k < L .prog .inputs
+    → v < 2 ^ 32
     → getD (s .machine .held) k false ≡ false → Answers L (λ u. offering k v s ≡ done tt u) s st (offers k v Offered) n
 offers-does L {s} {st} (runs {μ} {t} {path} {q} {b} {i} real run leaf rest lines now) fit k v below small free =
     let G = runs-ground L real run leaf rest lines now in
@@ -429,6 +439,7 @@ offers-does L {s} {st} (runs {μ} {t} {path} {q} {b} {i} real run leaf rest line
     (same-leaf L (λ p d (j : Info). Own d (μ (S L .word (inputOf k)))) (sym e) y leaf o) fit now)
 offers-does L (starts B real run leaf rest lines now) fit k v below small free =
     let G = starts-ground L real run leaf B rest lines now in
-    ground-offers L G k v below small free (λ other p d j y e m o. absurd (starts-unmarked L real run leaf B now other p d j y e (inputOf k) m o))
+    ground-offers L G k v below small free (λ other p d j y e m o. absurd
+    (starts-unmarked L real run leaf B now other p d j y e (inputOf k) m o))
 offers-does L (idle real stop rest) fit k v below small free =
     ground-offers L (idle-ground L real stop fit rest) k v below small free (λ other p d j y e m o. absurd e)

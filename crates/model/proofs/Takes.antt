@@ -67,7 +67,8 @@ take-none k c s e h f = rw (peek-at s e h f)
 
 -- a take with one
 module _ (k c p m v : ℕ) (s u : World) (at : s .machine .setup .base + s .machine .setup .inputs + k ≡ c) (h : c < sizeOf s)
-    (name : getD (s .memory) c 0 ≡ p) (some-name : p ≢ notProcess) (hm : stateWord p < sizeOf s) (place : getD (s .memory) (stateWord p) 0 ≡ m)
+    (name : getD (s .memory) c 0 ≡ p) (some-name : p ≢ notProcess) (hm : stateWord p < sizeOf s)
+    (place : getD (s .memory) (stateWord p) 0 ≡ m)
     (hv : m < sizeOf s) (holds : getD (s .memory) m 0 ≡ v) (joined : join p (stored c notProcess s) ≡ done tt u)
     (lands : land (communicated c v u) ≡ done tt (communicated c v u)) where
   look-some : looking k s ≡ done (some v) s
@@ -151,7 +152,8 @@ module _ (L : Loaded) {s : World} {st : State} {μ : Mem} {t : Tree (S L) (root 
 
     goes : Joins L (j .w) (stored (S L .word c) notProcess s) (putting other (resume f) st) (bytesLeft (S L) t)
     goes =
-        waited-goes L G (record { run = refl; place = refl; operand = refl; regs = refl }) real rest lines sender strange keeps waits kept refl
+        waited-goes L G
+        (record { run = refl; place = refl; operand = refl; regs = refl }) real rest lines sender strange keeps waits kept refl
         clean (λ a z l e here p x n y m. unread y (subst (λ q. List·Memᴰ q (x .inputs)) (output-channel (sym e)) m))
 
     pub did-take : Answers L (λ u. taking k s ≡ done (some v) u) s st (takes k (Taken v)) (bytesLeft (S L) t)
@@ -163,7 +165,8 @@ module _ (L : Loaded) {s : World} {st : State} {μ : Mem} {t : Tree (S L) (root 
         answers-talk L {c = c} {v = v} (t-event (taken other (sender .found)) t-none) refl
         (λ u e l. take-some k (S L .word c) (j .w) (j .w) v s u at-word (rw sz c-in) (mirrored L (G .real) (S L .word c) c-in (waits .here))
         (λ e. absurd (omega (arith, p .low, part-small L sender, small-size L, e))) (rw sz tall)
-        (mirrored L (G .real) (stateWord (j .w)) tall (waits .message-at)) (rw sz in-memory) (mirrored L (G .real) (j .w) in-memory holds) e l) goes
+        (mirrored L (G .real) (stateWord (j .w)) tall (waits .message-at)) (rw sz in-memory)
+        (mirrored L (G .real) (j .w) in-memory holds) e l) goes
 
   -- what a take comes to
   abbrev pub Took : Type 0

@@ -37,12 +37,14 @@ module _ (L : Loaded) (b : Part) (i : Info) (st : State) (μ : Mem) where
     pub state : (μ (stateWord p) ≡ enabling) ⊎ (μ (stateWord p) ≡ ready)
 
   module _ (c : Site) (m : List·Memᴰ c (i .chans)) (o : Own b (μ (S L .word c))) where
-    stood-at : {gs : Guards} {l : List Frame} {hi at : ℕ} (w : ℕ) → AltCode (S L) b gs (i .vars) (i .chans) l hi at (w + 1) → μ (S L .word c) ≡ w
+    stood-at : {gs : Guards} {l : List Frame} {hi at : ℕ} (w : ℕ) → AltCode (S L) b gs (i .vars) (i .chans) l hi at (w + 1)
+        → μ (S L .word c) ≡ w
         → (μ (stateWord w) ≡ enabling) ⊎ (μ (stateWord w) ≡ ready) → Stood (μ (S L .word c))
     stood-at w a e f =
         subst Stood (sym e) (record { low = omega (arith, a .fine .0); placed = cont-placed (S L) b (a .after); state = f })
 
-    pub stood : {q : Process} → ReadyAlt q → (up j : ℕ) (r : Regs) → AltPoint (S L) b st (i .vars) (i .chans) q up μ j r → Stood (μ (S L .word c))
+    pub stood : {q : Process} → ReadyAlt q → (up j : ℕ) (r : Regs) → AltPoint (S L) b st (i .vars) (i .chans) q up μ j r
+        → Stood (μ (S L .word c))
     stood known up j r (pt-enable a l n e) =
         stood-at (r .w) a (n .marks c m o .0) (⊎-elim (λ z. inl (z .0)) (λ z. inr (z .0)) (n .state))
     stood known up j r (pt-wait a n) = stood-at (r .w) a (n .marks c m o .0) (⊎-elim (λ z. inl (z .0)) (λ z. inr (z .0)) (n .state))
@@ -83,7 +85,8 @@ module _ (L : Loaded) (b : Part) (i : Info) (st : State) (μ : Mem) where
             let g = h y x (subst (Own b) f z) in
             (f ∙ g .0, g .1)
 
-        enabling-told : {hs : Guards} → Enabling (S L) b st (i .vars) (i .chans) gs hs μ w → Enabling (S L) b st₂ (i .vars) (i .chans) gs hs η w
+        enabling-told : {hs : Guards} → Enabling (S L) b st (i .vars) (i .chans) gs hs μ w
+            → Enabling (S L) b st₂ (i .vars) (i .chans) gs hs η w
         enabling-told f =
             record {
               rest = f .rest;

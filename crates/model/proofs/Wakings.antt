@@ -182,7 +182,8 @@ module _ (L : Loaded) where
   -- other offers
   pub calm-offers : {b : Part} {i : Info} {skip : ℕ} {st : State} {μ : Mem} (o : ℕ → Option ℕ)
       → ((c : Site) → List·Memᴰ c (b .inputs) → Sender st c → Sender (changed (st .store) o st) c)
-      → ((c : Site) → List·Memᴰ c (i .chans) → List·Memᴰ c (b .inputs) → Own b (μ (S L .word c)) → Sender (changed (st .store) o st) c → Sender st c)
+      → ((c : Site) → List·Memᴰ c (i .chans) → List·Memᴰ c (b .inputs) → Own b (μ (S L .word c)) → Sender (changed (st .store) o st) c
+      → Sender st c)
       → Calm (S L) b i skip st (changed (st .store) o st) μ μ
   calm-offers o more fewer =
       record { own = λ a lo hi d. refl; reads = λ x m g. refl; chans = λ d m. inl refl; sends = more; none-sends = fewer }
@@ -194,7 +195,8 @@ module _ (L : Loaded) where
 
   -- where it can go on
   module _ {s₀ : World} {st₀ : State} {μ₀ : Mem} {t₀ : Tree (S L) (root L) (st₀ .process)} {Out : List ℕ → Type 0} {ws : List ℕ}
-      (G : Ground L s₀ st₀ μ₀ t₀ Out ws) {s : World} {st : State} {μ : Mem} {t : Tree (S L) (root L) (st .process)} (same-regs : SameRegs L s s₀)
+      (G : Ground L s₀ st₀ μ₀ t₀ Out ws) {s : World} {st : State} {μ : Mem} {t : Tree (S L) (root L) (st .process)}
+      (same-regs : SameRegs L s s₀)
       {other : List ℕ} {r : Process} {d : Part} {j : Info} (real : Real L s st μ ws) (rest : Rest L st μ t (With Out other) ws)
       (lines : Lined L st t (With Out other) ws) (leaf : LeafAt L st t other r d j) (strange : Out other → ⊥)
       (keeps : Keeps L st₀ st μ₀ μ t₀ t Out) where
@@ -270,7 +272,8 @@ module _ (L : Loaded) where
 
       waited-rest : Rest L (putting other (resume k) st) μ tree (With Out other) ws
       waited-rest =
-          rest-then L leaf (resume k) (leaf-resume k) j (sits-at L leaf) rest (inr refl) (rest .vars (node L leaf)) (rest .chans (node L leaf))
+          rest-then L leaf (resume k) (leaf-resume k) j (sits-at L leaf) rest (inr refl) (rest .vars (node L leaf))
+          (rest .chans (node L leaf))
           (live-resume k (j .vars) (λ x m. rest .live leaf x (subst (λ z. List·Memᴰ x (liveIn z)) (sym frames) m))) (λ a m o. m)
           (λ a v l e here p q n y z m. lost a v l e here p q n y m) (λ a v l e here p q n y z m g o. silent-resume k e)
 
@@ -284,11 +287,13 @@ module _ (L : Loaded) where
           let quiet : Silent (resume k) = λ a v f e. silent-resume k e in
           (
             other-then L leaf (resume k) (leaf-resume k) j (sits-at L leaf) off l′,
-            calm-trans calm (calm-put leaf l′ off μ (resume k) (leaf-resume k) j (sits-at L leaf) quiet (λ a v f e m. lost a v f e path q b i l′ m)),
+            calm-trans calm (calm-put leaf l′ off μ (resume k) (leaf-resume k) j (sits-at L leaf) quiet
+                (λ a v f e m. lost a v f e path q b i l′ m)),
           )
 
       waited-bytes : bytesLeft (S L) tree ≡ bytesLeft (S L) t
-      waited-bytes = omega (arith, moved L leaf (resume k) (leaf-resume k) j (sits-at L leaf) .bytes, leaf-bytes (S L) t other (leaf .label))
+      waited-bytes = omega (arith, moved L leaf (resume k) (leaf-resume k) j (sits-at L leaf) .bytes, leaf-bytes (S L) t other
+          (leaf .label))
 
   -- the process that waited, as it goes on
   pub waited-goes : {s₀ : World} {st₀ : State} {μ₀ : Mem} {t₀ : Tree (S L) (root L) (st₀ .process)} {Out : List ℕ → Type 0} {ws : List ℕ}
@@ -325,7 +330,8 @@ module _ (L : Loaded) where
       (ap (λ z. z ++ record { channel = S L .word c; value = v } ∷ []) (f ∙ talk)) inv′ (omega arith)
 
   -- without one
-  pub answers-silent : {did : World → Type 0} {s₀ s : World} {st₀ st : State} {e : Event} {w n : ℕ} {g : Segment} → Trace st₀ g st [] (e ∷ [])
+  pub answers-silent : {did : World → Type 0} {s₀ s : World} {st₀ st : State} {e : Event} {w n : ℕ} {g : Segment}
+      → Trace st₀ g st [] (e ∷ [])
       → s .talk ≡ s₀ .talk → ((u : World) → join w s ≡ done tt u → land u ≡ done tt u → did u) → Joins w s st n → Answers did s₀ st₀ e n
   answers-silent {s₀ = s₀} {g = g} ms talk ran (joins u h e f ns inv) =
       answers u (g ++ h) (ran u e (inv-lands inv)) (trace-then ms ns) (f ∙ talk ∙ sym (append-nil (s₀ .talk))) inv (omega arith)
@@ -342,7 +348,8 @@ module _ (S : Setting) where
     outer-chans (t-par a f) [] e c m = subst (λ l. List·Memᴰ c (zoneOf l .chans)) (some-same e) (a .placed .chans-outer c m)
     outer-chans (t-par a f) (j ∷ path) e c m = branch-chans f j path e c (a .placed .chans-outer c m)
 
-    branch-chans : {vars chans : List Site} {w d : ℕ} {ss : Stmts} {bs : Branches} (f : Forest S vars chans w d ss bs) (i : ℕ) (path : List ℕ)
+    branch-chans : {vars chans : List Site} {w d : ℕ} {ss : Stmts} {bs : Branches} (f : Forest S vars chans w d ss bs) (i : ℕ)
+        (path : List ℕ)
         {l : Label} → labelIn S f i path ≡ some l → (c : Site) → List·Memᴰ c chans → List·Memᴰ c (zoneOf l .chans)
     branch-chans f-none i path e c m = never (cc)
     branch-chans (f-live t f) zero path e c m = outer-chans t path e c m
@@ -373,13 +380,15 @@ module _ (L : Loaded) where
   output-named k h = Memᴰ·append-right (numbered inputOf (L .prog .inputs)) (numbered-here outputOf (L .prog .outputs) k h)
 
   -- an outside channel is empty, or some process waits at it
-  pub outside-chan : {st : State} {μ : Mem} {t : Tree (S L) (root L) (st .process)} {Out : List ℕ → Type 0} {ws : List ℕ} → Rest L st μ t Out ws
+  pub outside-chan : {st : State} {μ : Mem} {t : Tree (S L) (root L) (st .process)} {Out : List ℕ → Type 0} {ws : List ℕ}
+      → Rest L st μ t Out ws
       → (c : Site) → List·Memᴰ c (outsideNames (L .prog)) → (μ (S L .word c) ≡ notProcess) ⊎ Owned L st t c (μ (S L .word c))
   outside-chan {t = t} rest c m =
       let (l, e) = whole-label (S L) t in rest .chans {path = []} (record { label = e }) c (outer-chans (S L) t [] e c m)
 
   -- and in the machine's memory
-  pub outside-in : (st : State) (t : Tree (S L) (root L) (st .process)) → (c : Site) → List·Memᴰ c (outsideNames (L .prog)) → S L .word c < size L
+  pub outside-in : (st : State) (t : Tree (S L) (root L) (st .process)) → (c : Site) → List·Memᴰ c (outsideNames (L .prog))
+      → S L .word c < size L
   outside-in st t c m =
       let (l, e) = whole-label (S L) t in
       chan-in L {st = st} {t = t} {path = []} {l = l} (record { label = e }) c (outer-chans (S L) t [] e c m)
