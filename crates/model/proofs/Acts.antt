@@ -20,10 +20,10 @@ use Rattle.model.specs.Execute.{enableSkip, waitAlt, select, disableRead
 use Rattle.model.proofs.Effects.{cpuOf, sizeOf, stored, peek-in, poke-in, resume-in}
 
 -- a test that is true, or false, decides between two actions
-when-true : {A : Type 0} {y : Result A} (t : Bool) (f g : Act A) (s : World) → t ≡ true → f s ≡ y → cond t f g s ≡ y
+pub when-true : {A : Type 0} {y : Result A} (t : Bool) (f g : Act A) (s : World) → t ≡ true → f s ≡ y → cond t f g s ≡ y
 when-true t f g s e d = rw (e) d
 
-when-false : {A : Type 0} {y : Result A} (t : Bool) (f g : Act A) (s : World) → t ≡ false → g s ≡ y → cond t f g s ≡ y
+pub when-false : {A : Type 0} {y : Result A} (t : Bool) (f g : Act A) (s : World) → t ≡ false → g s ≡ y → cond t f g s ≡ y
 when-false t f g s e d = rw (e) d
 
 -- reading and writing a word at an address that is given by an equation

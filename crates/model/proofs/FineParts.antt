@@ -5,12 +5,12 @@ use mathlib.Core.Path.{_≡_, refl, ap, _∙_}
 use mathlib.Core.Logic.{inr, ⊎-elim}
 use mathlib.Core.Bool.{false}
 use mathlib.Core.List.{List, [], _++_, List·Memᴰ, List·Memᴰ·append-cases, Memᴰ·append-left, Memᴰ·append-right, List·Memᴰ·not-nil}
-use mathlib.Core.List.{List·Memᴰ·head, List·Memᴰ·tail, List·Memᴰ·eq-of-singleton}
+use mathlib.Core.List.{List·Memᴰ·head, List·Memᴰ·tail, List·Memᴰ·eq-of-singleton, List·Memᴰ·cases-cons}
 use mathlib.Core.Option.{none}
 use Rattle.model.specs.Syntax.{Site, inputOf, outputOf, declared, Expr, constant, variable, NOT, binary, Whole, Stmt, SKIP, STOP}
 use Rattle.model.specs.Syntax.{assign, input, output, VAR, CHAN, SEQ, PAR, IF, WHILE, ALT, Stmts, noStmt, stmt, Pairs, noPair, pair}
 use Rattle.model.specs.Syntax.{Guards, noGuard, inputGuard, skipGuard, Program}
-use Rattle.model.specs.Reader.{Scope, canOutput, names, numbered, withVariables, withChannels, program}
+use Rattle.model.specs.Reader.{Scope, canInput, canOutput, names, numbered, withVariables, withChannels, program}
 use Rattle.model.specs.Usage.{Usage, _⊕_, reads, reading, changing, inputting, usage, usageAll, usagePairs, usageGuards, clash}
 use Rattle.model.specs.Usage.{clashesLater, anyClash, firstClash, firstClashAll, firstClashPairs, firstClashGuards}
 use Rattle.model.specs.Counts.{registers, need, mostNeed, sumNeed, pairNeed, guardNeed, firstDeep, firstDeepAll, firstDeepPairs}
@@ -448,3 +448,45 @@ mutual
 pub accepted-one-way : (table : List ℕ) (p : Program) → accept table ≡ program p → (l : ℕ)
     → List·Memᴰ (inputOf l) (wholePart p .outputs) → ⊥
 accepted-one-way table p h l m = outputs-on (p .body) (outermost p) l (read-well table p (accept-reads table p h) .0 .2) m
+
+-- no statement inputs from an outside output
+mutual
+  unfolding usage usageAll usagePairs usageGuards
+
+  inputs-on : (s : Stmt) (sc : Scope) (l : ℕ) → Well sc s → List·Memᴰ (outputOf l) (usage s .inputs) → ⊥
+  inputs-on SKIP sc l h m = List·Memᴰ·not-nil m
+  inputs-on STOP sc l h m = List·Memᴰ·not-nil m
+  inputs-on (assign x e) sc l h m = List·Memᴰ·not-nil m
+  inputs-on (input c x) sc l h m = never (cc (ap canInput (List·Memᴰ·eq-of-singleton m), h .0 .1))
+  inputs-on (output c e) sc l h m = List·Memᴰ·not-nil m
+  inputs-on (VAR p n s) sc l h m = inputs-on s (withVariables p n sc) l (h .2) m
+  inputs-on (CHAN p n s) sc l h m = inputs-on s (withChannels p n sc) l (h .2) m
+  inputs-on (SEQ ss) sc l h m = inputs-all ss sc l h m
+  inputs-on (PAR p ss) sc l h m = inputs-all ss sc l (h .1) m
+  inputs-on (IF ps) sc l h m = inputs-pairs ps sc l h m
+  inputs-on (WHILE e s) sc l h m = inputs-on s sc l (h .1) m
+  inputs-on (ALT gs) sc l h m = inputs-guards gs sc l h m
+
+  inputs-all : (ss : Stmts) (sc : Scope) (l : ℕ) → WellAll sc ss → List·Memᴰ (outputOf l) (usageAll ss .inputs) → ⊥
+  inputs-all noStmt sc l h m = List·Memᴰ·not-nil m
+  inputs-all (stmt s ss) sc l h m =
+      ⊎-elim (λ k. inputs-on s sc l (h .0) k) (λ k. inputs-all ss sc l (h .1) k) (List·Memᴰ·append-cases (usage s .inputs) m)
+
+  inputs-pairs : (ps : Pairs) (sc : Scope) (l : ℕ) → WellPairs sc ps → List·Memᴰ (outputOf l) (usagePairs ps .inputs) → ⊥
+  inputs-pairs noPair sc l h m = List·Memᴰ·not-nil m
+  inputs-pairs (pair e s ps) sc l h m =
+      ⊎-elim (λ k. inputs-on s sc l (h .1) k) (λ k. inputs-pairs ps sc l (h .2) k) (List·Memᴰ·append-cases (usage s .inputs) m)
+
+  inputs-guards : (gs : Guards) (sc : Scope) (l : ℕ) → WellGuards sc gs → List·Memᴰ (outputOf l) (usageGuards gs .inputs) → ⊥
+  inputs-guards noGuard sc l h m = List·Memᴰ·not-nil m
+  inputs-guards (inputGuard e c x s gs) sc l h m =
+      ⊎-elim (λ k. never (cc (ap canInput k, h .1 .1)))
+      (λ k. ⊎-elim (λ n. inputs-on s sc l (h .3) n) (λ n. inputs-guards gs sc l (h .4) n) (List·Memᴰ·append-cases (usage s .inputs) k))
+      (List·Memᴰ·cases-cons m)
+  inputs-guards (skipGuard e s gs) sc l h m =
+      ⊎-elim (λ k. inputs-on s sc l (h .1) k) (λ k. inputs-guards gs sc l (h .2) k) (List·Memᴰ·append-cases (usage s .inputs) m)
+
+-- so no accepted program does
+pub accepted-one-way-in : (table : List ℕ) (p : Program) → accept table ≡ program p → (l : ℕ)
+    → List·Memᴰ (outputOf l) (wholePart p .inputs) → ⊥
+accepted-one-way-in table p h l m = inputs-on (p .body) (outermost p) l (read-well table p (accept-reads table p h) .0 .2) m

@@ -8,7 +8,7 @@ use mathlib.Core.List.{List, [], _∷_, _++_, List·Memᴰ}
 use mathlib.Core.Option.{Option, none, some}
 use lib.ListN.{length, getD}
 use Rattle.model.specs.Word.{notProcess}
-use Rattle.model.specs.Syntax.{Site, inputOf, Stmt, Stmts, Program}
+use Rattle.model.specs.Syntax.{Site, inputOf, outputOf, Stmt, Stmts, Program}
 use Rattle.model.specs.Counts.{processes}
 use Rattle.model.specs.Accept.{limit, memoryWords}
 use Rattle.model.specs.Layout.{base, wordOf}
@@ -46,6 +46,8 @@ pub record Loaded : Type 0 where
   pub few : processes (prog .body) ≤ limit
   -- no output to an outside input
   pub one-way : (l : ℕ) → List·Memᴰ (inputOf l) (wholePart prog .outputs) → ⊥
+  -- no input from an outside output
+  pub no-return : (l : ℕ) → List·Memᴰ (outputOf l) (wholePart prog .inputs) → ⊥
 
 module _ (L : Loaded) where
   pub base-small : base (L .prog) ≤ 4096

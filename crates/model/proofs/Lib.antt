@@ -63,6 +63,12 @@ pub mod Joins
 pub mod Ends
 pub mod Instructions
 pub mod OneByte
+pub mod Bystanders
+pub mod Wakings
+pub mod Takes
+pub mod Offerings
+pub mod Tellings
+pub mod Offers
 pub mod Steps
 pub mod Turns
 pub mod Memory

@@ -61,13 +61,13 @@ use Rattle.model.specs.Scheme.{sizeEnable}
 use Rattle.model.proofs.Zones.{zoneOf, Distant}
 
 -- what is ready or picked stays so where no sender goes
-ready-more : {st st′ : State} → ((c : Site) → Sender st c → Sender st′ c) → {gs : Guards} → st .store ≡ st′ .store → Ready st gs → Ready st′ gs
+pub ready-more : {st st′ : State} → ((c : Site) → Sender st c → Sender st′ c) → {gs : Guards} → st .store ≡ st′ .store → Ready st gs → Ready st′ gs
 ready-more h q (r-input {e} t g) = r-input {e = e} (subst (λ σ. isTrue σ e ≡ true) q t) (h _ g)
 ready-more h q (r-skip {e} t) = r-skip {e = e} (subst (λ σ. isTrue σ e ≡ true) q t)
 ready-more h q (r-past-input g) = r-past-input (ready-more h q g)
 ready-more h q (r-past-skip g) = r-past-skip (ready-more h q g)
 
-picks-more : {st st′ : State} {k : List Frame} → ((c : Site) → Sender st c → Sender st′ c) → {gs : Guards} {b t : ℕ} {p : Process}
+pub picks-more : {st st′ : State} {k : List Frame} → ((c : Site) → Sender st c → Sender st′ c) → {gs : Guards} {b t : ℕ} {p : Process}
     → st .store ≡ st′ .store → Picks st k gs b t p → Picks st′ k gs b t p
 picks-more h q (p-input {e} t g) = p-input {e = e} (subst (λ σ. isTrue σ e ≡ true) q t) (h _ g)
 picks-more h q (p-skip {e} t) = p-skip {e = e} (subst (λ σ. isTrue σ e ≡ true) q t)

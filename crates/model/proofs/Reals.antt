@@ -39,7 +39,7 @@ module _ (L : Loaded) where
       → getD (s .memory) v 0 ≡ z
   mirrored r v h e = r .mirror v h ∙ e
 
-  offer-same : {s : World} {st : State} {o : ℕ → Option ℕ} {k : ℕ} (σ : Store) (p : Process) → Offer L s st k
+  pub offer-same : {s : World} {st : State} {o : ℕ → Option ℕ} {k : ℕ} (σ : Store) (p : Process) → Offer L s st k
       → st .offers k ≡ o k → Offer L s (record { process = p; store = σ; offers = o }) k
   offer-same σ p (no-offer h e) f = no-offer h (sym f ∙ e)
   offer-same σ p (held-offer v m h g e) f = held-offer v m h g (sym f ∙ e)

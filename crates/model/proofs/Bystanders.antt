@@ -1,0 +1,367 @@
+-- A process that has the processor stays as it is while the outside acts on other processes.
+use Prim.Native.Nat.{ℕ, zero, suc, _+_, _-_, _^_, _≤_, _<_}
+use native.Mathlib.Omega.{arith}
+use native.Mathlib.Decide.{ℕ-discrete}
+use mathlib.Core.Path.{_≡_, refl, sym, ap, _∙_, subst}
+use mathlib.Core.Logic.{_≢_, _⊎_, inl, inr, ⊎-elim}
+use mathlib.Core.Bool.{true, false}
+use mathlib.Core.List.{List, [], _∷_, _++_, List·Memᴰ, List·Memᴰ·not-nil}
+use mathlib.Core.Option.{some}
+use Rattle.model.specs.Syntax.{Site, Stmt, Stmts, noStmt, stmt, Guards}
+use Rattle.model.specs.Counts.{need}
+use Rattle.model.specs.Scheme.{size, howMany}
+use Rattle.model.specs.Machine.{World, stateWord}
+use Rattle.model.specs.Occam.{Store, Frame, Process, atOutput, begin, look, State}
+use Rattle.model.proofs.Cases.{never}
+use Rattle.model.proofs.Ways.{Regs, regsOf, Mem, Way, arrived, through, quiet, loads, jumps, falls}
+use Rattle.model.proofs.Points.{Setting}
+use Rattle.model.proofs.Paths.{same-path, silent-begin}
+use Rattle.model.proofs.Parts.{Part, joins, partOf, FineGuards}
+use Rattle.model.proofs.Conts.{cont-low}
+use Rattle.model.proofs.Marks.{Own, AltCode, Enabling, Enables, e-input, e-skip, Disables, d-input, d-skip, AltPoint, pt-enable}
+use Rattle.model.proofs.Marks.{pt-wait, pt-disable, pt-choose}
+use Rattle.model.proofs.Arrivals.{Goes, comes}
+use Rattle.model.proofs.Onwards.{AltGoes, Starts, rest-fine, guarded-fine}
+use Rattle.model.proofs.Trees.{some-same, Info, newInfo, Sits, Tree, bytesLeft}
+use Rattle.model.proofs.Stays.{value-same, Calm, goes-stays, comes-stays, unmarked-stays, noticed-stays, marked-stays, ready-stays}
+use Rattle.model.proofs.Stays.{disabling-stays}
+use Rattle.model.proofs.Effects.{cpuOf}
+use Rattle.model.proofs.Queues.{apart-none}
+use Rattle.model.proofs.Reach.{Moving, begins, alters, ends, way-kind, alt-in, alt-moving}
+use Rattle.model.proofs.Kernel.{Loaded, S, root, LeafAt, Rest, Lined, Real}
+use Rattle.model.proofs.Writes.{part-small, sits-at}
+use Rattle.model.proofs.Grounds.{small-size}
+use Rattle.model.proofs.Running.{Only, Nobody, Births, Later, l-here, l-next, Unborn, unborn, Starting, Here, Birth, Now, now-goes}
+use Rattle.model.proofs.Running.{now-alt, NowStarts, Inv, runs, starts, idle}
+use Rattle.model.proofs.Moving.{same-leaf, settled-silent, skips-silent}
+
+-- a path without jumps stays where its significant instruction does
+pub way-still : (S : Setting) {P Q : ℕ → Mem → ℕ → Regs → Type 0} {E : Type 0} {σ τ : Store} {R : Site → Type 0} {hi : ℕ} {μ ν : Mem}
+    {i : ℕ}
+    {r : Regs} → ((x : Site) → R x → σ x ≡ τ x) → ((h i : ℕ) (r : Regs) → P h μ i r → Q h ν i r)
+    → Way (S .xs) (S .off) (S .word) P E σ R (λ w. ⊥) hi μ i r → Way (S .xs) (S .off) (S .word) Q E τ R (λ w. ⊥) hi ν i r
+way-still S h l (arrived p b) = arrived (l _ _ _ p) b
+way-still S h l (through e b f) = through e b f
+way-still S h l (quiet g at q v) = quiet g at q (way-still S h l v)
+way-still S {Q = Q} {ν = ν} h l (loads x at a m v) = loads x at a m (rw (h x m) at (way-still S {Q = Q} {ν = ν} h l v))
+way-still S h l (jumps at i c e v) = absurd c
+way-still S h l (falls at i a e v) = falls at i a e (way-still S h l v)
+
+-- what holds at its significant instruction and at the end holds on it
+pub way-holds : (S : Setting) {P : ℕ → Mem → ℕ → Regs → Type 0} {E K : Type 0} {σ : Store} {R : Site → Type 0} {hi : ℕ} {μ : Mem}
+    {i : ℕ} {r : Regs}
+    → ((h i : ℕ) (r : Regs) → P h μ i r → K) → (E → K) → Way (S .xs) (S .off) (S .word) P E σ R (λ w. ⊥) hi μ i r → K
+way-holds S l f (arrived p b) = l _ _ _ p
+way-holds S l f (through e b g) = f g
+way-holds S l f (quiet g at q v) = way-holds S l f v
+way-holds S l f (loads x at a m v) = way-holds S l f v
+way-holds S l f (jumps at i c e v) = absurd c
+way-holds S l f (falls at i a e v) = way-holds S l f v
+
+-- the guards that an ALT is at
+module _ (S : Setting) (b : Part) (vars chans : List Site) {st st′ : State}
+    (same : (x : Site) → List·Memᴰ x vars → List·Memᴰ x (b .reads) → st .store x ≡ st′ .store x) where
+  pub enables-stays : {gs : Guards} {j j′ : ℕ} {r : Regs} (vw : ℕ) → FineGuards (S .word) b vars chans vw gs
+      → Enables S b st vars chans gs j r j′ → Enables S b st′ vars chans gs j r j′
+  enables-stays vw f (e-input {e} x v c g) = e-input x (v ∙ value-same b vars same e (f .0)) c g
+  enables-stays vw f (e-skip {e} x v g) = e-skip x (v ∙ value-same b vars same e (f .0)) g
+
+  pub disables-stays : {gs : Guards} {c m j j′ : ℕ} {r : Regs} (vw : ℕ) → FineGuards (S .word) b vars chans vw gs
+      → Disables S b st vars chans gs c m j r j′ → Disables S b st′ vars chans gs c m j r j′
+  disables-stays vw f (d-input {e} x u v c g) = d-input x u (v ∙ value-same b vars same e (f .0)) c g
+  disables-stays vw f (d-skip {e} x u v g) = d-skip x u (v ∙ value-same b vars same e (f .0)) g
+
+module _ (S : Setting) (b : Part) (i : Info) (high : b .top < 2 ^ 32) (sits : Sits S b i) {st st′ : State} {μ ν : Mem}
+    (calm : Calm S b i (b .top) st st′ μ ν) where
+  pub all-same : (v : ℕ) → b .bottom ≤ v → v < b .top → ν v ≡ μ v
+  all-same v lo hi = calm .own v lo hi (λ e. absurd (omega arith))
+
+  -- an ALT's code has room for its words
+  module _ (w : ℕ) {gs : Guards} {k : List Frame} {hi at : ℕ} (c : AltCode S b gs (i .vars) (i .chans) k hi at (w + 1)) where
+    alt-own : Own b w
+    alt-own = (omega (arith, c .fine .0), omega (arith, cont-low S b (c .after)))
+
+    alt-base : ν w ≡ μ w
+    alt-base = all-same w (omega (arith, c .fine .0)) (omega (arith, cont-low S b (c .after)))
+
+    alt-state : ν (stateWord w) ≡ μ (stateWord w)
+    alt-state = let l = cont-low S b (c .after) in all-same (stateWord w) (omega (arith, c .fine .0)) (omega (arith, c .fine .0))
+
+    enabling-stays : {hs : Guards} → Enabling S b st (i .vars) (i .chans) gs hs μ w → Enabling S b st′ (i .vars) (i .chans) gs hs ν w
+    enabling-stays n =
+        record {
+          rest = n .rest;
+          marks = marked-stays S b i high sits calm (w + 1) (c .fine .1) (n .marks);
+          state = ⊎-elim
+              (λ e. inl (alt-state ∙ e .0, noticed-stays S b i high sits calm (w + 1) alt-own (c .fine .1) (e .1)))
+              (λ e. inr (alt-state ∙ e .0, ready-stays S b i high sits calm (w + 1) (c .fine .1) (e .1))) (n .state);
+        }
+
+  -- the significant instructions of an ALT
+  alt-point-stays : {q : Process} (up j : ℕ) (r : Regs) → AltPoint S b st (i .vars) (i .chans) q up μ j r
+      → AltPoint S b st′ (i .vars) (i .chans) q up ν j r
+  alt-point-stays up j r (pt-enable c l n e) =
+      pt-enable c l (enabling-stays (r .w) c n)
+      (enables-stays S b (i .vars) (i .chans) (calm .reads) (r .w + 1) (rest-fine (S .word) b (i .vars) (i .chans) (r .w + 1)
+      (n .rest .1) (c .fine .1)) e)
+  alt-point-stays up j r (pt-wait c n) = pt-wait c (enabling-stays (r .w) c n)
+  alt-point-stays up j r (pt-disable c l t n d) =
+      let f = rest-fine (S .word) b (i .vars) (i .chans) (r .w + 1) t (c .fine .1) in
+      pt-disable c l t (disabling-stays S b i high sits calm (r .w + 1) (c .fine .1) f (alt-base (r .w) c) n)
+      (disables-stays S b (i .vars) (i .chans) (calm .reads) (r .w + 1) f d)
+  alt-point-stays up j r (pt-choose c n) =
+      pt-choose c (disabling-stays S b i high sits calm (r .w + 1) (c .fine .1) tt (alt-base (r .w) c) n)
+
+  pub alt-stays : {q : Process} {hi j : ℕ} {r : Regs} → AltGoes S b st (i .vars) (i .chans) q hi μ j r
+      → AltGoes S b st′ (i .vars) (i .chans) q hi ν j r
+  alt-stays way = way-still S (λ x m. calm .reads x (m .0) (m .1)) alt-point-stays way
+
+-- the k-th of some statements
+later-few : {ss : Stmts} {d b k d′ b′ : ℕ} {r : Stmt} → Later ss d b k r d′ b′ → k < howMany ss
+unfolding howMany
+later-few l-here = omega arith
+later-few (l-next h) = omega (arith, later-few h)
+
+data Nth (ss : Stmts) (d b k : ℕ) : Type 0 where
+  nth : {r : Stmt} {d′ b′ : ℕ} → Later ss d b k r d′ b′ → Nth ss d b k
+
+later-found : (ss : Stmts) (d b k : ℕ) → k < howMany ss → Nth ss d b k
+unfolding howMany
+later-found noStmt d b k h = absurd (omega arith)
+later-found (stmt s ss) d b zero h = nth l-here
+later-found (stmt s ss) d b (suc k) h = elim (later-found ss (d + need s) (b + size s + 2) k (omega arith)) [ nth l ↦ nth (l-next l) ]
+
+-- whether a branch is still to be started
+unborn-upto : (B : Births) (other : List ℕ) (n : ℕ) → n ≤ howMany (B .ss)
+    → Unborn B other ⊎ ((k : ℕ) → k ≤ n → other ≢ B .par ++ (B .next + k) ∷ [])
+unborn-upto B other zero h =
+    ⊎-elim (λ e. inl (unborn 0 h e)) (λ d. inr (λ k l e. d (e ∙ ap (λ z. B .par ++ (B .next + z) ∷ []) (omega arith))))
+    (same-path other (B .par ++ (B .next + 0) ∷ []))
+unborn-upto B other (suc n) h =
+    ⊎-elim (λ e. inl (unborn (suc n) h e))
+    (λ d. ⊎-elim (λ u. inl u) (λ g. inr (λ k l e. by d g k l e (ℕ-discrete k (suc n)))) (unborn-upto B other n (omega arith)))
+    (same-path other (B .par ++ (B .next + suc n) ∷ []))
+  where
+    by : other ≢ B .par ++ (B .next + suc n) ∷ [] → ((k : ℕ) → k ≤ n → other ≢ B .par ++ (B .next + k) ∷ []) → (k : ℕ) → k ≤ suc n
+        → other ≡ B .par ++ (B .next + k) ∷ [] → Dec (k ≡ suc n) → ⊥
+    by d g k l e (yes z) = d (e ∙ ap (λ z. B .par ++ (B .next + z) ∷ []) z)
+    by d g k l e (no z) = g k (omega arith) e
+
+unborn-known : (B : Births) (other : List ℕ) → Unborn B other ⊎ (Unborn B other → ⊥)
+unborn-known B other =
+    ⊎-elim (λ u. inl u) (λ n. inr (λ u. elim u [ unborn k l e ↦ n k l e ])) (unborn-upto B other (howMany (B .ss)) (omega arith))
+
+module _ (L : Loaded) where
+  -- two machines whose processes see the same registers
+  pub record SameRegs (u s : World) : Type 0 where
+    pub run : cpuOf u .running ≡ cpuOf s .running
+    pub place : cpuOf u .place ≡ cpuOf s .place
+    pub operand : cpuOf u .operand ≡ cpuOf s .operand
+    pub regs : regsOf (cpuOf u) ≡ regsOf (cpuOf s)
+
+  module _ {u s : World} (same : SameRegs u s) where
+    here-same : {at : ℕ} → Here L at (cpuOf s .place) (cpuOf s .operand) → Here L at (cpuOf u .place) (cpuOf u .operand)
+    here-same {at} h =
+        subst (λ z. Here L at (cpuOf u .place) z) (sym (same .operand)) (subst (λ z. Here L at z (cpuOf s .operand)) (sym (same .place)) h)
+
+    soon-same : {hi : ℕ} (n : ℕ) → hi ≤ n + cpuOf s .place → hi ≤ n + cpuOf u .place
+    soon-same n h = omega (arith, same .place)
+
+    pub now-stays : {st st′ : State} {μ ν : Mem} {b : Part} {i : Info} {q : Process} → b .top < 2 ^ 32 → Sits (S L) b i
+        → Calm (S L) b i (b .top) st st′ μ ν → Now L s st μ b i q → Now L u st′ ν b i q
+    now-stays {st′ = st′} {ν = ν} {b} {i} {q} high sits calm (now-goes {hi} {at} h way settled clean soon) =
+        now-goes (here-same h)
+        (subst (λ r. Goes (S L) b (st′ .store) (i .vars) (i .chans) q hi ν at r) (sym (same .regs))
+        (goes-stays (S L) b (i .vars) (i .chans) (calm .reads) (all-same (S L) b i high sits calm) way))
+        settled (unmarked-stays (S L) b i high sits calm clean) (soon-same (i .left) soon)
+    now-stays {st′ = st′} {ν = ν} {b} {i} {q} high sits calm (now-alt {hi} {at} h way soon) =
+        now-alt (here-same h)
+        (subst (λ r. AltGoes (S L) b st′ (i .vars) (i .chans) q hi ν at r) (sym (same .regs)) (alt-stays (S L) b i high sits calm way))
+        (soon-same (i .left) soon)
+
+  -- a part is below the end of words
+  pub part-high : {st : State} {t : Tree (S L) (root L) (st .process)} {path : List ℕ} {q : Process} {b : Part} {i : Info}
+      → LeafAt L st t path q b i → b .top < 2 ^ 32
+  part-high k = omega (arith, part-small L k, small-size L)
+
+  -- what the processes that are left out keep
+  abbrev pub Keeps : (st st′ : State) (μ ν : Mem) (t : Tree (S L) (root L) (st .process)) (t′ : Tree (S L) (root L) (st′ .process))
+      (Out : List ℕ → Type 0) → Type 0
+  Keeps st st′ μ ν t t′ Out =
+      (path : List ℕ) (q : Process) (b : Part) (i : Info) → LeafAt L st t path q b i → Out path
+      → LeafAt L st′ t′ path q b i × Calm (S L) b i (b .top) st st′ μ ν
+
+  -- the first branch of a PAR, and those that it has still to start
+  pub starts-stays : {u s : World} → SameRegs u s → {st st′ : State} {μ ν : Mem} {t : Tree (S L) (root L) (st .process)}
+      {t′ : Tree (S L) (root L) (st′ .process)} {path : List ℕ} {q : Process} {b : Part} {i : Info} {B : Births}
+      → LeafAt L st t path q b i → Keeps st st′ μ ν t t′ (Starting path B) → NowStarts L s st μ t path q b i B
+      → NowStarts L u st′ ν t′ path q b i B
+  unfolding howMany
+  starts-stays {u} {s} same {st} {st′} {μ} {ν} {t} {t′} {path} {q} {b} {i} {B} leaf keeps now =
+      let calm = keeps path q b i leaf (inl refl) .1 in
+      record {
+        hi = now .hi;
+        at = now .at;
+        first-branch = now .first-branch;
+        next-one = now .next-one;
+        same-w = now .same-w;
+        here = here-same same (now .here);
+        way = subst (λ r. Starts (S L) (st′ .store) (B .s) (B .ss) (B .d) (B .b) (B .first) (B .w) (now .hi) ν (now .at) r)
+            (sym (same .regs))
+            (way-still (S L) (λ x m. absurd m) (λ h j r p. p) (now .way));
+        births = λ k r d c l. birth k r d c l (now .births k r d c l);
+        own = comes-stays (S L) b (i .vars) (i .chans) (calm .reads) (now .own);
+        inner = now .inner;
+        unmarked = unmarked-stays (S L) b i (part-high leaf) (sits-at L leaf) calm (now .unmarked);
+        soon = soon-same same (i .left) (now .soon);
+      }
+    where
+      birth : (k : ℕ) (r : Stmt) (d c : ℕ) → Later (stmt (B .s) (B .ss)) (B .d) (B .b) k r d c → Birth L st μ t B k r d c
+          → Birth L st′ ν t′ B k r d c
+      birth k r d c l h =
+          let a = partOf (B .vars) (B .chans) (B .w - d) (joins d) r in
+          let j = newInfo (S L) (B .vars) (B .chans) (B .w - d) in
+          let (leaf′, calm) = keeps (B .par ++ (B .next + k) ∷ []) (begin r []) a j (h .leaf)
+          (inr (unborn k (omega (arith, later-few l)) refl)) in
+          record {
+            leaf = leaf′;
+            comes = comes-stays (S L) a (B .vars) (B .chans) (calm .reads) (h .comes);
+            inner = h .inner;
+            room = h .room;
+            unmarked = unmarked-stays (S L) a j (part-high (h .leaf)) (sits-at L (h .leaf)) calm (h .unmarked);
+          }
+
+  -- the processor is free: no process is left out, and none is queued
+  pub record Free (s : World) (Out : List ℕ → Type 0) (ws : List ℕ) : Type 0 where
+    pub stopped : cpuOf s .running ≡ false
+    pub operand : cpuOf s .operand ≡ 0
+    pub nobody : (other : List ℕ) → Out other → ⊥
+    pub unqueued : ws ≡ []
+
+  -- all that the invariant says, with what it comes to where the processes that are left out keep what they have
+  pub record Ground (s : World) (st : State) (μ : Mem) (t : Tree (S L) (root L) (st .process)) (Out : List ℕ → Type 0)
+      (ws : List ℕ) : Type 0 where
+    pub real : Real L s st μ ws
+    pub rest : Rest L st μ t Out ws
+    pub lined : Lined L st t Out ws
+    pub known : (other : List ℕ) → Out other ⊎ (Out other → ⊥)
+    pub silent : (path : List ℕ) (c : Site) (v : ℕ) (k : List Frame) → look path (st .process) ≡ some (atOutput c v k) → Out path → ⊥
+    -- a channel that holds a name of theirs is one of their inputs
+    pub marks : (path : List ℕ) (q : Process) (b : Part) (i : Info) → LeafAt L st t path q b i → Out path → (c : Site)
+        → List·Memᴰ c (i .chans)
+        → Own b (μ (S L .word c)) → List·Memᴰ c (b .inputs)
+    pub free : (cpuOf s .running ≡ true) ⊎ Free s Out ws
+    pub stays : (u : World) (st′ : State) (ν : Mem) (t′ : Tree (S L) (root L) (st′ .process)) (us : List ℕ) → SameRegs u s
+        → Keeps st st′ μ ν t t′ Out → (cpuOf s .running ≡ false → us ≡ []) → Real L u st′ ν us → Rest L st′ ν t′ Out us
+        → Lined L st′ t′ Out us → Inv L u st′ (bytesLeft (S L) t′)
+
+  -- a process that goes on sends nothing
+  moving-silent : {q : Process} {c : Site} {v : ℕ} {k : List Frame} → Moving q → q ≡ atOutput c v k → ⊥
+  moving-silent begins e = never (cc)
+  moving-silent alters e = never (cc)
+  moving-silent ends e = never (cc)
+
+  now-silent : {s : World} {st : State} {μ : Mem} {b : Part} {i : Info} {q : Process} {c : Site} {v : ℕ} {k : List Frame}
+      → Now L s st μ b i q
+      → q ≡ atOutput c v k → ⊥
+  now-silent (now-goes h way settled clean soon) e = settled-silent settled e
+  now-silent {b = b} {q = q} (now-alt h way soon) e =
+      moving-silent (way-kind (S L) (alt-in (S L) b) (Moving q) (alt-moving (S L) b) (λ z. absurd z) way) e
+
+  -- an ALT's marks are at its guards
+  point-marks : {st : State} {μ : Mem} {b : Part} (i : Info) {q : Process} (c : Site) → List·Memᴰ c (i .chans) → Own b (μ (S L .word c))
+      → (up j : ℕ)
+      (r : Regs) → AltPoint (S L) b st (i .vars) (i .chans) q up μ j r → List·Memᴰ c (b .inputs)
+  point-marks {b = b} i c m o up j r (pt-enable a l n e) =
+      guarded-fine (S L .word) b (i .vars) (i .chans) (r .w + 1) (n .marks c m o .1) (a .fine .1) .1
+  point-marks {b = b} i c m o up j r (pt-wait a n) =
+      guarded-fine (S L .word) b (i .vars) (i .chans) (r .w + 1) (n .marks c m o .1) (a .fine .1) .1
+  point-marks {b = b} i c m o up j r (pt-disable a l t n d) =
+      guarded-fine (S L .word) b (i .vars) (i .chans) (r .w + 1) (n .marks c m o .1)
+      (rest-fine (S L .word) b (i .vars) (i .chans) (r .w + 1) t (a .fine .1)) .1
+  point-marks {b = b} i c m o up j r (pt-choose a n) =
+      guarded-fine (S L .word) b (i .vars) (i .chans) (r .w + 1) (n .marks c m o .1) tt .1
+
+  now-marks : {s : World} {st : State} {μ : Mem} {b : Part} {i : Info} {q : Process} → Now L s st μ b i q → (c : Site)
+      → List·Memᴰ c (i .chans)
+      → Own b (μ (S L .word c)) → List·Memᴰ c (b .inputs)
+  now-marks (now-goes h way settled clean soon) c m o = absurd (clean c m o)
+  now-marks {i = i} (now-alt h way soon) c m o = way-holds (S L) (point-marks i c m o) (λ z. absurd z) way
+
+  module _ {s : World} {st : State} {μ : Mem} {t : Tree (S L) (root L) (st .process)} {path : List ℕ} {q : Process} {b : Part} {i : Info}
+      {ws : List ℕ} (real : Real L s st μ ws) (run : cpuOf s .running ≡ true) (leaf : LeafAt L st t path q b i) where
+    pub runs-ground : Rest L st μ t (Only path) ws → Lined L st t (Only path) ws → Now L s st μ b i q → Ground s st μ t (Only path) ws
+    runs-ground rest lines now =
+        record {
+          real = real;
+          rest = rest;
+          lined = lines;
+          known = same-path path;
+          silent = λ other c v k e o. now-silent now (some-same (sym (leaf .found) ∙ ap (λ z. look z (st .process)) o ∙ e));
+          marks = λ other p a j k o c m n.
+              same-leaf L (λ z a (j : Info). List·Memᴰ c (a .inputs)) o leaf k
+              (now-marks now c (same-leaf L (λ z a (j : Info). List·Memᴰ c (j .chans)) (sym o) k leaf m)
+              (same-leaf L (λ z a (j : Info). Own a (μ (S L .word c))) (sym o) k leaf n));
+          free = inl run;
+          stays = λ u st′ ν t′ us same keeps f real′ rest′ lines′.
+              let (leaf′, calm) = keeps path q b i leaf refl in
+              runs real′ (same .run ∙ run) leaf′ rest′ lines′ (now-stays same (part-high leaf) (sits-at L leaf) calm now);
+        }
+
+    -- no channel holds a name of the first branch or of those that it has still to start
+    pub starts-unmarked : (B : Births) → NowStarts L s st μ t path q b i B → (other : List ℕ) (p : Process) (a : Part) (j : Info)
+        → LeafAt L st t other p a j → Starting path B other → (c : Site) → List·Memᴰ c (j .chans) → Own a (μ (S L .word c)) → ⊥
+    unfolding howMany
+    starts-unmarked B now other p a j k (inl e) c m o =
+        now .unmarked c (same-leaf L (λ z a (j : Info). List·Memᴰ c (j .chans)) (sym e) k leaf m)
+        (same-leaf L (λ z a (j : Info). Own a (μ (S L .word c))) (sym e) k leaf o)
+    starts-unmarked B now other p a j k (inr (unborn n l e)) c m o = elim
+        (later-found (stmt (B .s) (B .ss)) (B .d) (B .b) n (omega arith)) [
+          | nth {r} h ↦
+              let birth = now .births n r _ _ h in
+              birth .unmarked c (same-leaf L (λ z a (j : Info). List·Memᴰ c (j .chans)) e k (birth .leaf) m)
+              (same-leaf L (λ z a (j : Info). Own a (μ (S L .word c))) e k (birth .leaf) o)
+        ]
+
+    pub starts-ground : (B : Births) → Rest L st μ t (Starting path B) ws → Lined L st t (Starting path B) ws
+        → NowStarts L s st μ t path q b i B
+        → Ground s st μ t (Starting path B) ws
+    unfolding howMany
+    starts-ground B rest lines now =
+        record {
+          real = real;
+          rest = rest;
+          lined = lines;
+          known = λ other. ⊎-elim (λ e. inl (inl e))
+              (λ d. ⊎-elim (λ u. inl (inr u)) (λ n. inr (λ o. ⊎-elim d n o)) (unborn-known B other)) (same-path path other);
+          silent = λ other c v k e o. ⊎-elim
+              (λ p. elim (now .own) [
+                | comes sk settled sub way ↦ skips-silent sk settled (some-same (sym (leaf .found) ∙ ap (λ z. look z (st .process)) p ∙ e))
+              ]) (λ u. unborn-silent other c v k e u) o;
+          marks = λ other p a j k o c m n. absurd (starts-unmarked B now other p a j k o c m n);
+          free = inl run;
+          stays = λ u st′ ν t′ us same keeps f real′ rest′ lines′.
+              starts B real′ (same .run ∙ run) (keeps path q b i leaf (inl refl) .0) rest′ lines′ (starts-stays same leaf keeps now);
+        }
+      where
+        unborn-silent : (other : List ℕ) (c : Site) (v : ℕ) (k : List Frame) → look other (st .process) ≡ some (atOutput c v k)
+            → Unborn B other → ⊥
+        unborn-silent other c v k e (unborn n l p) = elim (later-found (stmt (B .s) (B .ss)) (B .d) (B .b) n (omega arith)) [
+          | nth {r} h ↦
+              silent-begin r [] (some-same (sym (now .births n r _ _ h .leaf .found) ∙ ap (λ z. look z (st .process)) (sym p) ∙ e))
+        ]
+
+  pub idle-ground : {s : World} {st : State} {μ : Mem} {t : Tree (S L) (root L) (st .process)} → Real L s st μ [] → cpuOf s .running ≡ false
+      → cpuOf s .operand ≡ 0 → Rest L st μ t Nobody [] → Ground s st μ t Nobody []
+  idle-ground real stop operand rest =
+      record {
+        real = real;
+        rest = rest;
+        lined = record { each = λ w m. absurd (List·Memᴰ·not-nil m); once = apart-none };
+        known = λ other. inr (λ o. o);
+        silent = λ other c v k e o. o;
+        marks = λ other p a j k o c m n. absurd o;
+        free = inr (record { stopped = stop; operand = operand; nobody = λ other o. o; unqueued = refl });
+        stays = λ u st′ ν t′ us same keeps f real′ rest′ lines′.
+            idle (subst (λ l. Real L u st′ ν l) (f stop) real′) (same .run ∙ stop) (subst (λ l. Rest L st′ ν t′ Nobody l) (f stop) rest′);
+      }
