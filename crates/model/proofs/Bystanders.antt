@@ -212,6 +212,7 @@ module _ (L : Loaded) where
         births = λ k r d c l. birth k r d c l (now .births k r d c l);
         own = comes-stays (S L) b (i .vars) (i .chans) (calm .reads) (now .own);
         inner = now .inner;
+        near = now .near;
         unmarked = unmarked-stays (S L) b i (part-high leaf) (sits-at L leaf) calm (now .unmarked);
         soon = soon-same same (i .left) (now .soon);
       }
