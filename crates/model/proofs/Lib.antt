@@ -69,12 +69,7 @@ pub mod Takes
 pub mod Offerings
 pub mod Tellings
 pub mod Offers
-pub mod Steps
-pub mod Turns
-pub mod Memory
-pub mod Fold
-pub mod Calls
-pub mod Sequential
 pub mod Regular
 pub mod Runs
+pub mod Chains
 pub mod Examples

@@ -7,6 +7,7 @@ use mathlib.Core.List.{List, [], _∷_, _++_}
 use lib.ListN as L
 use lib.ListN.{length, drop}
 use lib.Dec.{ltb}
+use Rattle.model.specs.Word.{low}
 use Rattle.model.specs.Machine.{Talk, World, Result, done, faults}
 use Rattle.model.specs.Run.{After, worldOf, shortMemory, byte, ended, waits, run}
 use Rattle.model.specs.Outside.{offer, take}
@@ -21,9 +22,10 @@ use Rattle.model.specs.declared.TakeAnswer.{TakeAnswer}
 use Rattle.model.specs.declared.TakeAnswer.the-variants.{Taken, Nothing, Short as TakeShort, Fault as TakeFault}
 use Rattle.model.specs.declared.TakeAnswer.the-variants.{NoChannel as TakeNoChannel}
 
--- a call, with how many bytes of the code and words of the memory it lends
+-- a call, with how many bytes of the code and words of the memory it lends. A run may be lent more code than the start had, with
+-- anything behind (01: "Later runs use as much code as the start had"). An offer's value is a word
 pub data Call : Type 0 where
-  callRun : (codeLent memoryLent budget : ℕ) → Call
+  callRun : (behind : List ℕ) (codeLent memoryLent budget : ℕ) → Call
   callOffer : (memoryLent k value : ℕ) → Call
   callTake : (memoryLent k : ℕ) → Call
 
@@ -101,16 +103,17 @@ answered r rest said =
 
 -- a call over the code and memory that it is lent. A run's communications are found at its bytes' moments
 unfoldable pub call : (code : List ℕ) → Call → Machine → (memory : List ℕ) → Called
-call code (callRun codeLent lent budget) m memory =
-    let r = run m (L.take codeLent code) (L.take lent memory) budget in
+call code (callRun behind codeLent lent budget) m memory =
+    let lentCode = L.take codeLent (code ++ behind) in
+    let r = run m lentCode (L.take lent memory) budget in
     let left = r .memory ++ drop lent memory in
     record {
-      moments = quietly m memory ∷ during m (L.take codeLent code) (L.take lent memory) (drop lent memory) budget ++ quietly
-          (r .machine) left ∷ [];
+      moments = quietly m memory ∷ during m lentCode (L.take lent memory) (drop lent memory) budget ++ quietly (r .machine) left ∷ [];
       machine = r .machine;
       memory = left;
     }
-call code (callOffer lent k v) m memory = answered (offer m (L.take lent memory) k v) (drop lent memory) (offerEvent k v)
+call code (callOffer lent k v) m memory =
+    answered (offer m (L.take lent memory) k (low v)) (drop lent memory) (offerEvent k (low v))
 call code (callTake lent k) m memory = answered (take m (L.take lent memory) k) (drop lent memory) (takeEvent k)
 
 -- the moments of a list of calls
