@@ -62,6 +62,7 @@ pub mod Births
 pub mod Joins
 pub mod Ends
 pub mod Instructions
+pub mod Stuckness
 pub mod Steps
 pub mod Turns
 pub mod Memory
