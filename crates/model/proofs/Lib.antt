@@ -63,6 +63,7 @@ pub mod Joins
 pub mod Ends
 pub mod Instructions
 pub mod Stuckness
+pub mod Agreement
 pub mod Steps
 pub mod Turns
 pub mod Memory

@@ -1,18 +1,19 @@
 -- Which processes can go on, and that a run with none of them, not over, is stuck.
 use Prim.Native.Nat.{ℕ}
-use mathlib.Core.Path.{_≡_, refl, sym, ap, _∙_}
-use mathlib.Core.Logic.{_⊎_, inl, inr, ⊎-elim}
-use mathlib.Core.List.{List, [], _∷_, _++_}
+use mathlib.Core.Path.{_≡_, sym, ap, _∙_}
+use mathlib.Core.Logic.{⊎-elim}
+use mathlib.Core.List.{List, [], _∷_}
 use mathlib.Core.Option.{some}
-use Rattle.model.specs.Syntax.{Site, inputOf, Stmt, Guards, noGuard}
-use Rattle.model.specs.Occam.{Store, Frame, Process, before, atInput, atOutput, atStop, atAlt, inPar, finished, branchesOf, framesOf, look}
-use Rattle.model.specs.Occam.{State, Communication, Choice, by-input, by-skip, past-input, past-skip, Step, begins, ends, chooses, Stuck}
+use Rattle.model.specs.Syntax.{Site, Stmt, Guards, noGuard}
+use Rattle.model.specs.Occam.{Frame, Process, before, atInput, atOutput, atStop, atAlt, inPar, finished, look}
+use Rattle.model.specs.Occam.{State, Communication, Choice, by-input, by-skip, past-input, past-skip}
+use Rattle.model.specs.Occam.{Step, begins, ends, chooses, Stuck}
 use Rattle.model.proofs.Ways.{Regs, Mem}
 use Rattle.model.proofs.Points.{Setting}
 use Rattle.model.proofs.Paths.{look-prefix, prefixed, look-under, under, par-whole}
 use Rattle.model.proofs.Parts.{Part}
-use Rattle.model.proofs.Marks.{Ready, r-input, r-skip, r-past-input, r-past-skip, Rest as RestOf, Skips, s-none, s-skip, s-if, s-par, Settled}
-use Rattle.model.proofs.Marks.{Disabling, AltPoint, pt-enable, pt-wait, pt-disable, pt-choose}
+use Rattle.model.proofs.Marks.{Ready, r-input, r-skip, r-past-input, r-past-skip, Skips, s-none, s-skip, s-if, s-par}
+use Rattle.model.proofs.Marks.{Settled, Disabling, AltPoint, pt-enable, pt-wait, pt-disable, pt-choose}
 use Rattle.model.proofs.Arrivals.{Comes, comes}
 use Rattle.model.proofs.Onwards.{picks-choice, ready-picks, rest-ready, AltGoes}
 use Rattle.model.proofs.Reach.{way-kind, alt-in}
@@ -87,11 +88,13 @@ module _ (S : Setting) (a : Part) {st : State} where
       → Disabling S a st vars chans k gs hs choice μ w → (Ready st hs → Ready st gs) → Ready st gs
   disabling-ready n f = ⊎-elim (λ h. let (t, p, g, e) = h in choice-ready (picks-choice g)) (λ h. f (h .1)) (n .chosen)
 
-  alt-active : {vars chans : List Site} {q : Process} (h : ℕ) (μ : Mem) (i : ℕ) (r : Regs) → AltPoint S a st vars chans q h μ i r → Active st q
+  alt-active : {vars chans : List Site} {q : Process} (h : ℕ) (μ : Mem) (i : ℕ) (r : Regs) → AltPoint S a st vars chans q h μ i r
+      → Active st q
   alt-active h μ i r (pt-enable c l n e) = a-begins
   alt-active h μ i r (pt-wait c n) = a-begins
   alt-active h μ i r (pt-disable c l t n d) = a-chooses (disabling-ready n (rest-ready t))
   alt-active h μ i r (pt-choose c n) = a-chooses (disabling-ready n (λ z. absurd (unready z)))
 
-  pub alt-goes-active : {vars chans : List Site} {q : Process} {hi i : ℕ} {μ : Mem} {r : Regs} → AltGoes S a st vars chans q hi μ i r → Active st q
+  pub alt-goes-active : {vars chans : List Site} {q : Process} {hi i : ℕ} {μ : Mem} {r : Regs} → AltGoes S a st vars chans q hi μ i r
+      → Active st q
   alt-goes-active {q = q} way = way-kind S (alt-in S a) (Active st q) alt-active (λ z. absurd z) way
