@@ -43,11 +43,11 @@ use Rattle.model.proofs.Meets.{not-own}
 use Rattle.model.proofs.Pars.{beside}
 
 -- a path is empty or has a last number
-data Last (path : List ℕ) : Type 0 where
+pub data Last (path : List ℕ) : Type 0 where
   at-top : path ≡ [] → Last path
   last : (ρ : List ℕ) (n : ℕ) → path ≡ ρ ++ n ∷ [] → Last path
 
-lastly : (path : List ℕ) → Last path
+pub lastly : (path : List ℕ) → Last path
 lastly [] = at-top refl
 lastly (i ∷ path) = elim (lastly path) [
   | at-top e ↦ last [] i (ap (λ z. i ∷ z) e)

@@ -69,6 +69,8 @@ pub mod Takes
 pub mod Offerings
 pub mod Tellings
 pub mod Offers
+pub mod Stuckness
+pub mod Agreement
 pub mod Regular
 pub mod Runs
 pub mod Chains
