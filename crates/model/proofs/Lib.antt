@@ -74,4 +74,6 @@ pub mod Agreement
 pub mod Regular
 pub mod Runs
 pub mod Chains
+pub mod Lending
+pub mod Histories
 pub mod Examples

@@ -44,7 +44,7 @@ extended b code (RunFault n k) s = record { outcome = RunFault n k; world = s }
 
 module _ (code : List ℕ) where
   -- a run goes the same way whatever was before it
-  run-behind : (b n k : ℕ) (t : List Talk) (s : World) → runFrom b code (n + k) (behind t s) ≡ preceded n t (runFrom b code k s)
+  pub run-behind : (b n k : ℕ) (t : List Talk) (s : World) → runFrom b code (n + k) (behind t s) ≡ preceded n t (runFrom b code k s)
   unfolding runFrom
   run-behind zero n k t s =
       by-bool (ended (s .machine)) (λ e. rw e)

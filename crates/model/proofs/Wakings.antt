@@ -88,7 +88,7 @@ module _ (L : Loaded) where
   inv-lands {s} (idle real stop rest) = lands s (λ e. never (cc (e, stop)))
 
   -- nothing happens
-  calm-refl : {b : Part} {i : Info} {skip : ℕ} {st : State} {μ : Mem} → Calm (S L) b i skip st st μ μ
+  pub calm-refl : {b : Part} {i : Info} {skip : ℕ} {st : State} {μ : Mem} → Calm (S L) b i skip st st μ μ
   calm-refl =
       record {
         own = λ a lo hi d. refl;

@@ -1,0 +1,160 @@
+-- From one byte to a run, and from a call to every list of calls: the Occam run that grows with the list.
+use Prim.Native.Nat.{ℕ, zero, suc, _+_, _*_, _^_, _≤_, _<_}
+use native.Mathlib.Omega.{arith}
+use native.Mathlib.Nat.{zero-add}
+use mathlib.Core.Path.{_≡_, refl, sym, ap, _∙_, subst}
+use mathlib.Core.Logic.{_⊎_, inl, inr, ⊎-elim}
+use mathlib.Core.Bool.{Bool, true, false, _||_, _&&_}
+use mathlib.Core.List.{List, [], _∷_, _++_, map, append-nil, append-assoc}
+use mathlib.Core.Option.{Option, none, some}
+use lib.ListN as Ls
+use lib.ListN.{length, getD, drop, length-append, length-take, take-append-drop, List·getD-append}
+use lib.Seq.{take-all}
+use lib.Dec.{ltb}
+use borrow.Author.Tests.{ltb-true, ltb-false, lt-ltb}
+use Rattle.model.specs.Word.{low}
+use Rattle.model.specs.Syntax.{outputOf}
+use Rattle.model.specs.Accept.{limit}
+use Rattle.model.specs.Machine.{Talk, World, Result, done, memorySize}
+use Rattle.model.specs.Run.{After, Finish, unchanged, worldOf, shortMemory, byte, ended, waits, runFrom, run}
+use Rattle.model.specs.Outside.{offering, taking, offer, take}
+use Rattle.model.specs.Occam.{State, Communication, Event, offers, takes, Sender, Outside, held, nobody}
+use Rattle.model.specs.Demand.{Segment, steps, talkOf, Follows, step, outside}
+use Rattle.model.specs.History.{Call, callRun, callOffer, callTake, Moment, quietly, executed, bytes, during, call, history, offerEvent, takeEvent}
+use Rattle.model.specs.declared.Machine.{Machine}
+use Rattle.model.specs.declared.Setup.{Setup}
+use Rattle.model.specs.declared.Kept.the-variants.{Nothing as NoFault}
+use Rattle.model.specs.declared.OfferAnswer.{OfferAnswer}
+use Rattle.model.specs.declared.OfferAnswer.the-variants.{Offered, Short as OfferShort, NoChannel as OfferNoChannel, Held}
+use Rattle.model.specs.declared.TakeAnswer.{TakeAnswer}
+use Rattle.model.specs.declared.TakeAnswer.the-variants.{Taken, Nothing, Short as TakeShort, NoChannel as TakeNoChannel}
+use Rattle.model.proofs.Cases.{never, by-bool}
+use Rattle.model.proofs.Points.{whole}
+use Rattle.model.proofs.Most.{most}
+use Rattle.model.proofs.Kernel.{Loaded, S, setup, size, Real}
+use Rattle.model.proofs.Traces.{Trace, t-none, t-event, trace-valid, trace-reach, trace-talk, trace-events, trace-most}
+use Rattle.model.proofs.Running.{Inv, runs, starts, idle, Did, came}
+use Rattle.model.proofs.Finish.{inv-setup}
+use Rattle.model.proofs.OneByte.{code-is, Byte, byte-goes}
+use Rattle.model.proofs.Wakings.{Answers, answers}
+use Rattle.model.proofs.Takes.{takes-does}
+use Rattle.model.proofs.Offerings.{offer-held}
+use Rattle.model.proofs.Offers.{offers-does}
+use Rattle.model.proofs.Agreement.{inv-agrees, inv-no-fault}
+use Rattle.model.proofs.Runs.{run-behind}
+use Rattle.model.proofs.Chains.{Chain, chain-nil, chain-byte, chain-other, chain-append}
+use Rattle.model.proofs.Lending.{byte-lent, inv-lent, inv-few, inv-room}
+
+or-left : (a c : Bool) → (a || c) ≡ false → a ≡ false
+or-left true c e = never (cc)
+or-left false c e = refl
+
+or-right : (a c : Bool) → (a || c) ≡ false → c ≡ false
+or-right true c e = never (cc)
+or-right false c e = e
+
+module _ (code : List ℕ) where
+  -- a machine that has ended or waits runs no byte
+  run-stays : (b n : ℕ) (s : World) → (ended (s .machine) || waits (s .machine)) ≡ true → runFrom b code n s .world ≡ s
+  unfolding runFrom
+  run-stays zero n s z = by-bool (ended (s .machine)) (λ e. rw e) (λ e. by-bool (waits (s .machine)) (λ w. rw (e, w)) (λ w. rw (e, w)))
+  run-stays (suc b) n s z =
+      by-bool (ended (s .machine)) (λ e. rw e) (λ e. by-bool (waits (s .machine)) (λ w. rw (e, w)) (λ w. never (cc (rw (e, w) at z))))
+
+  bytes-stay : (b : ℕ) (rest : List ℕ) (s : World) → (ended (s .machine) || waits (s .machine)) ≡ true → bytes b code rest s ≡ []
+  unfolding bytes
+  bytes-stay zero rest s z = refl
+  bytes-stay (suc b) rest s z = rw z
+
+  run-spent : (n : ℕ) (s : World) → runFrom zero code n s .world ≡ s
+  unfolding runFrom
+  run-spent n s = by-bool (ended (s .machine)) (λ e. rw e) (λ e. by-bool (waits (s .machine)) (λ w. rw (e, w)) (λ w. rw (e, w)))
+
+  run-goes : (b n : ℕ) (s t : World) → ended (s .machine) ≡ false → waits (s .machine) ≡ false → byte code s ≡ done tt t
+      → runFrom (suc b) code n s ≡ runFrom b code (suc n) t
+  unfolding runFrom
+  run-goes b n s t e w d = rw (e, w, d)
+
+  bytes-go : (b : ℕ) (rest : List ℕ) (s t : World) → ended (s .machine) ≡ false → waits (s .machine) ≡ false → byte code s ≡ done tt t
+      → bytes (suc b) code rest s ≡ executed t rest ∷ bytes b code rest (worldOf (t .machine) (t .memory))
+  unfolding bytes
+  bytes-go b rest s t e w d = rw (e, w, d)
+
+  -- what was communicated before changes nothing of where a run comes
+  run-afresh : (b n : ℕ) (t : World) → (runFrom b code n t .world .machine ≡ runFrom b code n (worldOf (t .machine) (t .memory)) .world .machine)
+      × (runFrom b code n t .world .memory ≡ runFrom b code n (worldOf (t .machine) (t .memory)) .world .memory)
+  run-afresh b n t =
+      let w = worldOf (t .machine) (t .memory) in
+      let same : runFrom b code n t ≡ runFrom b code (0 + n) (record { machine = t .machine; memory = t .memory; talk = t .talk ++ [] }) =
+      ap (λ l. runFrom b code n (record { machine = t .machine; memory = t .memory; talk = l })) (sym (append-nil (t .talk)))
+      ∙ ap (λ z. runFrom b code z (record { machine = t .machine; memory = t .memory; talk = t .talk ++ [] })) (sym (zero-add n)) in
+      let all = same ∙ run-behind code b 0 n (t .talk) w in (
+        ap (λ (f : Finish). f .world .machine) all,
+        ap (λ (f : Finish). f .world .memory) all,
+      )
+
+module _ (L : Loaded) where
+  abbrev pub bound : ℕ
+  bound = limit * whole (S L)
+
+  -- moves are a segment for a moment with their communications and events
+  pub follows : {s : World} {st st′ : State} {g : Segment} {cs : List Communication} {es : List Event} {n : ℕ} (rest : List ℕ) (now : Moment)
+      → now .machine ≡ s .machine → now .memory ≡ s .memory ++ rest → now .talk ≡ map (talkOf (L .prog)) cs → now .events ≡ es
+      → Trace st g st′ cs es → Inv L s st′ n → Follows (L .prog) now st g
+  follows rest now em er et ee ms inv =
+      record {
+        valid = trace-valid ms;
+        same-talk = ap (map (talkOf (L .prog))) (trace-talk ms) ∙ sym et;
+        same-events = trace-events ms ∙ sym ee;
+        agrees = rw (trace-reach ms) (inv-agrees L rest now em er inv);
+      }
+
+  -- a run's bytes
+  data Ran (b n₀ : ℕ) (code : List ℕ) (s : World) (st : State) (n : ℕ) (rest : List ℕ) : Type 0 where
+    ran : {gs : List Segment} {st′ : State} {k : ℕ} (t : World) → Chain (L .prog) bound (bytes b code rest s) st gs st′ n k
+        → runFrom b code n₀ s .world .machine ≡ t .machine → runFrom b code n₀ s .world .memory ≡ t .memory → Inv L t st′ k
+        → most (st′ .process) ≤ limit → Ran b n₀ code s st n rest
+
+  module _ (more rest : List ℕ) where
+    abbrev lent : List ℕ
+    lent = L .code ++ more
+
+    run-rest : (b n₀ : ℕ) (s : World) {st : State} {n : ℕ} → (ended (s .machine) || waits (s .machine)) ≡ true → Inv L s st n
+        → most (st .process) ≤ limit → Ran b n₀ lent s st n rest
+    run-rest b n₀ s {st} {n} e inv few =
+        let c : Chain (L .prog) bound (bytes b lent rest s) st [] st n n = rw (bytes-stay lent b rest s e) chain-nil in
+        let stays = run-stays lent b n₀ s e in
+        ran s c (ap (λ (w : World). w .machine) stays) (ap (λ (w : World). w .memory) stays) inv few
+
+    run-on : (b n₀ : ℕ) (s : World) {st : State} {n : ℕ} → s .talk ≡ [] → ended (s .machine) ≡ false → waits (s .machine) ≡ false → Inv L s st n
+        → most (st .process) ≤ limit
+        → ((t : World) (st′ : State) (k : ℕ) → t .talk ≡ [] → Inv L t st′ k → most (st′ .process) ≤ limit → Ran b (suc n₀) lent t st′ k rest)
+        → Did L (Byte L s) s st n → Ran (suc b) n₀ lent s st n rest
+    run-on b n₀ s {st} {n} z e w inv few rec (came t {st′} {m} {cs} g d ms talk inv′ fewer) =
+        let d′ : byte lent s ≡ done tt t = byte-lent (L .code) more s (code-is L s (inv-setup L inv)) ∙ d in
+        let said : t .talk ≡ map (talkOf (L .prog)) cs = talk ∙ rw z in
+        let few′ : most (st′ .process) ≤ limit = omega (arith, trace-most ms) in
+        let fits : size L ≤ length (t .memory) = inv-room L inv′ in
+        let f : Follows (L .prog) (executed t rest) st g = follows {s = t} rest (executed t rest) refl refl said refl ms inv′ in
+        let (am, ar) = run-afresh lent b (suc n₀) t in
+        elim (rec (worldOf (t .machine) (t .memory)) st′ m refl (inv-lent L (t .memory) [] fits (λ a h. refl) inv′) few′) [
+          | ran {gs} {st′ = st₂} {k} u c em er inv″ few″ ↦
+              let all : Chain (L .prog) bound (bytes (suc b) lent rest s) st (g ∷ gs) st₂ n k =
+              rw (bytes-go lent b rest s t e w d′) (chain-byte f (trace-reach ms) refl (inv-few L inv′ few′) fewer c) in
+              let goes = run-goes lent b n₀ s t e w d′ in
+              ran u all (ap (λ (r : Finish). r .world .machine) goes ∙ am ∙ em) (ap (λ (r : Finish). r .world .memory) goes ∙ ar ∙ er) inv″ few″
+        ]
+
+    run-bytes : (b n₀ : ℕ) (s : World) (st : State) (n : ℕ) → s .talk ≡ [] → Inv L s st n → most (st .process) ≤ limit → Ran b n₀ lent s st n rest
+    unfolding bytes
+    run-bytes zero n₀ s st n z inv few =
+        let c : Chain (L .prog) bound (bytes zero lent rest s) st [] st n n = chain-nil in
+        let stays = run-spent lent n₀ s in
+        ran s c (ap (λ (w : World). w .machine) stays) (ap (λ (w : World). w .memory) stays) inv few
+    run-bytes (suc b) n₀ s st n z inv few =
+        by-bool (ended (s .machine) || waits (s .machine))
+        (λ e. run-rest (suc b) n₀ s e inv few)
+        (λ e.
+        let on : ended (s .machine) ≡ false = or-left (ended (s .machine)) (waits (s .machine)) e in
+        let busy : waits (s .machine) ≡ false = or-right (ended (s .machine)) (waits (s .machine)) e in
+        run-on b n₀ s z on busy inv few (λ t st′ k. run-bytes b (suc n₀) t st′ k) (byte-goes L inv on busy))
