@@ -364,5 +364,6 @@ module _ (L : Loaded) where
         marks = λ other p a j k o c m n. absurd o;
         free = inr (record { stopped = stop; operand = operand; nobody = λ other o. o; unqueued = refl });
         stays = λ u st′ ν t′ us same keeps f real′ rest′ lines′.
-            idle (subst (λ l. Real L u st′ ν l) (f stop) real′) (same .run ∙ stop) (subst (λ l. Rest L st′ ν t′ Nobody l) (f stop) rest′);
+            idle (subst (λ l. Real L u st′ ν l) (f stop) real′) (same .run ∙ stop) (same .operand ∙ operand)
+            (subst (λ l. Rest L st′ ν t′ Nobody l) (f stop) rest′);
       }

@@ -422,11 +422,11 @@ module _ (L : Loaded) {s : World} {st : State} {μ : Mem} {t : Tree (S L) (root 
   now-alerts known (now-alt h way soon) =
       did-alert (way-holds (S L) (stood L b i st μ (inputOf k) m o known) (λ z. absurd z) way) h way soon
 
--- what the invariant does not say: an ALT that disables its guards is Ready; the operand is 0 while no process runs
+-- what the invariant does not say: an ALT that disables its guards is Ready
 abbrev pub Fit : (L : Loaded) {s : World} {st : State} {n : ℕ} → Inv L s st n → Type 0
 Fit L {s} {st} (runs {μ} {q = q} {b} {i} real run leaf rest lines now) = ReadyAlt L b i st μ q
 Fit L (starts B real run leaf rest lines now) = Unit {0}
-Fit L {s} (idle real stop rest) = cpuOf s .operand ≡ 0
+Fit L (idle real stop operand rest) = Unit {0}
 
 -- every offer that is not turned down
 pub offers-does : (L : Loaded) {s : World} {st : State} {n : ℕ} (inv : Inv L s st n) → Fit L inv → (k v : ℕ) → k < L .prog .inputs
@@ -441,5 +441,5 @@ offers-does L (starts B real run leaf rest lines now) fit k v below small free =
     let G = starts-ground L real run leaf B rest lines now in
     ground-offers L G k v below small free (λ other p d j y e m o. absurd
     (starts-unmarked L real run leaf B now other p d j y e (inputOf k) m o))
-offers-does L (idle real stop rest) fit k v below small free =
-    ground-offers L (idle-ground L real stop fit rest) k v below small free (λ other p d j y e m o. absurd e)
+offers-does L (idle real stop operand rest) fit k v below small free =
+    ground-offers L (idle-ground L real stop operand rest) k v below small free (λ other p d j y e m o. absurd e)
