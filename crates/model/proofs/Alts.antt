@@ -544,6 +544,7 @@ module _ (L : Loaded) {s : World} {st : State} {μ : Mem} {t : Tree (S L) (root 
       disabling =
           record {
             marks = marks-there μ₁ marks₁;
+            state = upd-other μ (space s) noneSelected state-word (λ e. base-state L A c (sym e)) ∙ set-ready;
             chosen = inr (
               upd-same μ (space s) noneSelected,
               ready-stays (S L) b i high (sits-at L (A .leaf)) (calm-there μ₁) (space s + 1) (c .fine .1) now,

@@ -107,10 +107,10 @@ module _ (S : Setting) (b : Part) (i : Info) (high : b .top < 2 ^ 32) (sits : Si
   alt-point-stays up j r (pt-wait c n) = pt-wait c (enabling-stays (r .w) c n)
   alt-point-stays up j r (pt-disable c l t n d) =
       let f = rest-fine (S .word) b (i .vars) (i .chans) (r .w + 1) t (c .fine .1) in
-      pt-disable c l t (disabling-stays S b i high sits calm (r .w + 1) (c .fine .1) f (alt-base (r .w) c) n)
+      pt-disable c l t (disabling-stays S b i high sits calm (r .w + 1) (c .fine .1) f (alt-base (r .w) c) (alt-state (r .w) c) n)
       (disables-stays S b (i .vars) (i .chans) (calm .reads) (r .w + 1) f d)
   alt-point-stays up j r (pt-choose c n) =
-      pt-choose c (disabling-stays S b i high sits calm (r .w + 1) (c .fine .1) tt (alt-base (r .w) c) n)
+      pt-choose c (disabling-stays S b i high sits calm (r .w + 1) (c .fine .1) tt (alt-base (r .w) c) (alt-state (r .w) c) n)
 
   pub alt-stays : {q : Process} {hi j : ℕ} {r : Regs} → AltGoes S b st (i .vars) (i .chans) q hi μ j r
       → AltGoes S b st′ (i .vars) (i .chans) q hi ν j r
@@ -364,5 +364,6 @@ module _ (L : Loaded) where
         marks = λ other p a j k o c m n. absurd o;
         free = inr (record { stopped = stop; operand = operand; nobody = λ other o. o; unqueued = refl });
         stays = λ u st′ ν t′ us same keeps f real′ rest′ lines′.
-            idle (subst (λ l. Real L u st′ ν l) (f stop) real′) (same .run ∙ stop) (subst (λ l. Rest L st′ ν t′ Nobody l) (f stop) rest′);
+            idle (subst (λ l. Real L u st′ ν l) (f stop) real′) (same .run ∙ stop) (same .operand ∙ operand)
+            (subst (λ l. Rest L st′ ν t′ Nobody l) (f stop) rest′);
       }

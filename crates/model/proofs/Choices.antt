@@ -14,8 +14,8 @@ use Rattle.model.specs.Instruction.{ldc, Instruction, distance, operatio
 use Rattle.model.specs.Instruction as I
 use Rattle.model.specs.Code.{functionIn, operandIn}
 use Rattle.model.specs.Scheme.{size, sizeEnable, codeDisable}
-use Rattle.model.specs.Machine.{World, withCpu, withMemory, stack, goto, isHeld}
-use Rattle.model.specs.Execute.{noneSelected}
+use Rattle.model.specs.Machine.{World, withCpu, withMemory, stack, goto, isHeld, stateWord}
+use Rattle.model.specs.Execute.{ready, noneSelected}
 use Rattle.model.specs.Occam.{Store, value, isTrue, Frame, Process, before, atAlt, framesOf, begin, State, Sender, chooses}
 use Rattle.model.specs.Demand.{liveIn}
 use Rattle.model.proofs.Cases.{never}
@@ -48,10 +48,10 @@ use Rattle.model.proofs.Finish.{silent}
 use Rattle.model.proofs.Quiets.{target}
 use Rattle.model.proofs.Advance.{advances}
 use Rattle.model.proofs.Channels.{HeldAt, held-at, not-held, held-here}
-use Rattle.model.proofs.Alts.{true-when, false-when, alt-silent, offer-sends, space, w-some, base-mine, mine-size, mine-holds}
-use Rattle.model.proofs.Alts.{placed, chan-off, chan-size, chan-holds, none-own, Free, free-none, free-w, Shows, shown, own-write}
-use Rattle.model.proofs.Alts.{chan-write, own-chan, onward, fine-rest, ChannelIs, is-empty, is-ours, is-sent, channel-is, unsent}
-use Rattle.model.proofs.Alts.{does-enbc, does-enbs, does-altwt}
+use Rattle.model.proofs.Alts.{true-when, false-when, alt-silent, offer-sends, space, w-some, base-mine, state-mine, base-state}
+use Rattle.model.proofs.Alts.{mine-size, mine-holds, placed, chan-off, chan-size, chan-holds, none-own, Free, free-none, free-w}
+use Rattle.model.proofs.Alts.{Shows, shown, own-write, chan-write, own-chan, onward, fine-rest, ChannelIs, is-empty, is-ours}
+use Rattle.model.proofs.Alts.{is-sent, channel-is, unsent, does-enbc, does-enbs, does-altwt}
 
 -- a guarded channel, or a ready guard, that is not the first guard's is one of the rest
 past-guard : {σ : Store} {e : Whole} {d y z : Site} {g : Stmt} {hs : Guards} → Guarded σ d (inputGuard e y z g hs)
@@ -117,6 +117,10 @@ module _ (L : Loaded) {s : World} {st : State} {μ : Mem} {t : Tree (S L) (root 
   abbrev Marks : Guards → Mem → Type 0
   Marks hs ν = Marked (S L) b st (i .vars) (i .chans) hs ν (space s)
 
+  -- the ALT's state is Ready
+  abbrev IsReady : Mem → Type 0
+  IsReady ν = ν (stateWord (space s)) ≡ ready
+
   -- channels are as they were
   abbrev Kept : Mem → Type 0
   Kept ν = (d : Site) → List·Memᴰ d (i .chans) → ν (S L .word d) ≡ μ (S L .word d)
@@ -128,11 +132,11 @@ module _ (L : Loaded) {s : World} {st : State} {μ : Mem} {t : Tree (S L) (root 
   -- the disabling goes on with the rest of the guards
   disables-on : {x : Instruction} (hs : Guards) {m : ℕ} → hi₀ ≤ hi → RestOf gs (c .choice + 1) hs m
       → Seg (S L .xs) (suc at) (codeDisable (S L .word) (space s) (c .choice) m hs) (c .choice) → (f g h : ℕ) {l : List ℕ} (ν : Mem)
-      → Executes L x s (withCpu (stack f g h (cpuOf s)) (withMemory l s)) → Shows L A c l ν → Marks hs ν → Chosen hs ν → Goal x
-  disables-on hs near past code f g h ν ran m marks chosen =
+      → Executes L x s (withCpu (stack f g h (cpuOf s)) (withMemory l s)) → Shows L A c l ν → Marks hs ν → IsReady ν → Chosen hs ν → Goal x
+  disables-on hs near past code f g h ν ran m marks state chosen =
       onward L A c f g h ran m
       (disable-way (S L) b st (space s) c (sound-at L (m .rest) (A .leaf)) hs near (fine-rest L A c past) past
-      (record { marks = marks; chosen = chosen }) code refl)
+      (record { marks = marks; state = state; chosen = chosen }) code refl)
 
   -- a branch is chosen
   chooses-it : (m : ℕ) → Shows L A c (set (s .memory) (space s) (far m)) (upd μ (space s) (far m))
@@ -140,6 +144,9 @@ module _ (L : Loaded) {s : World} {st : State} {μ : Mem} {t : Tree (S L) (root 
 
   kept-choosing : (m : ℕ) → Kept (upd μ (space s) (far m))
   kept-choosing m = own-chan L A c μ (space s) (far m) (base-mine L A c)
+
+  ready-choosing : (m : ℕ) → IsReady μ → IsReady (upd μ (space s) (far m))
+  ready-choosing m h = upd-other μ (space s) (far m) (stateWord (space s)) (λ e. base-state L A c (sym e)) ∙ h
 
   -- DISC of a guard
   module _ (e : Whole) (y z : Site) (g : Stmt) (hs : Guards) {m : ℕ} (near : hi₀ ≤ hi)
@@ -194,17 +201,22 @@ module _ (L : Loaded) {s : World} {st : State} {μ : Mem} {t : Tree (S L) (root 
     base-off : (ν : Mem) → emptied ν (space s) ≡ ν (space s)
     base-off ν = upd-other ν (S L .word y) notProcess (space s) (λ f. chan-off L A c (base-mine L A c) y mine (sym f))
 
+    -- nor the state word
+    state-off : (ν : Mem) → IsReady ν → IsReady (emptied ν)
+    state-off ν h =
+        upd-other ν (S L .word y) notProcess (stateWord (space s)) (λ f. chan-off L A c (state-mine L A c) y mine (sym f)) ∙ h
+
     -- on to the next guard
     disc-on : (a : ℕ) {l : List ℕ} (ν : Mem) → Executes L (operation I.disc) s (disabled a (withMemory l s)) → Shows L A c l ν → Marks hs ν
-        → Chosen hs ν → Goal (operation I.disc)
-    disc-on a ν ran m marks chosen =
-        disables-on hs near (rest-past-input past) code a (cpuOf s .b) (cpuOf s .c) ν ran m marks chosen
+        → IsReady ν → Chosen hs ν → Goal (operation I.disc)
+    disc-on a ν ran m marks state chosen =
+        disables-on hs near (rest-past-input past) code a (cpuOf s .b) (cpuOf s .c) ν ran m marks state chosen
 
     disc-off : cpuOf s .b ≡ 0 → Goal (operation I.disc)
     unfolding functionIn operandIn
     disc-off f =
         let off = false-when (st .store) e (cpuOf s .b) val f in
-        disc-on 0 μ (executes (exec-disc-off s f)) (shown L A c) (marks-kept μ (λ d l. refl) (λ h. never (cc (h, off))))
+        disc-on 0 μ (executes (exec-disc-off s f)) (shown L A c) (marks-kept μ (λ d l. refl) (λ h. never (cc (h, off)))) (n .state)
         (chosen-past μ refl (λ h. never (cc (h, off))))
 
     module _ (on : cpuOf s .b ≢ 0) where
@@ -227,14 +239,15 @@ module _ (L : Loaded) {s : World} {st : State} {μ : Mem} {t : Tree (S L) (root 
             (executes
             (exec-disc-held-first (S L .word y) (far m) (space s) s branch on chan refl held (chan-size L A c y mine)
             (mine-size L A c (base-mine L A c)) (mine-holds L A c (base-mine L A c) f)))
-            (clears (kept-choosing m) free (chooses-it m)) (marks-gone ν (kept-choosing m))
+            (clears (kept-choosing m) free (chooses-it m)) (marks-gone ν (kept-choosing m)) (state-off ν (ready-choosing m (n .state)))
             (chosen-now (emptied ν) (base-off ν ∙ upd-same μ (space s) (far m)) is-on sd)
         disc-held (no f) =
             disc-on 0 (emptied μ)
             (executes
             (exec-disc-held-later (S L .word y) (space s) (μ (space s)) s on chan refl held (chan-size L A c y mine)
             (mine-size L A c (base-mine L A c)) (mine-holds L A c (base-mine L A c) refl) f))
-            (clears (λ d l. refl) free (shown L A c)) (marks-gone μ (λ d l. refl)) (chosen-before (emptied μ) (base-off μ) f)
+            (clears (λ d l. refl) free (shown L A c)) (marks-gone μ (λ d l. refl)) (state-off μ (n .state))
+            (chosen-before (emptied μ) (base-off μ) f)
 
       -- a sender, and no held offer
       module _ (held : isHeld (S L .word y) (s .machine) ≡ false) where
@@ -247,13 +260,14 @@ module _ (L : Loaded) {s : World} {st : State} {μ : Mem} {t : Tree (S L) (root 
             (executes
             (exec-disc-sender-first (S L .word y) (far m) (space s) (μ (S L .word y)) s branch on chan refl held (chan-size L A c y mine)
             (chan-holds L A c y mine refl) some-name not-w (mine-size L A c (base-mine L A c)) (mine-holds L A c (base-mine L A c) f)))
-            (chooses-it m) (marks-kept ν (kept-choosing m) (λ x. no-own)) (chosen-now ν (upd-same μ (space s) (far m)) is-on sd)
+            (chooses-it m) (marks-kept ν (kept-choosing m) (λ x. no-own)) (ready-choosing m (n .state))
+            (chosen-now ν (upd-same μ (space s) (far m)) is-on sd)
         disc-sent some-name not-w no-own sd (no f) =
             disc-on 0 μ
             (executes
             (exec-disc-sender-later (S L .word y) (space s) (μ (S L .word y)) (μ (space s)) s on chan refl held (chan-size L A c y mine)
             (chan-holds L A c y mine refl) some-name not-w (mine-size L A c (base-mine L A c)) (mine-holds L A c (base-mine L A c) refl) f))
-            (shown L A c) (marks-kept μ (λ d l. refl) (λ x. no-own)) (chosen-before μ refl f)
+            (shown L A c) (marks-kept μ (λ d l. refl) (λ x. no-own)) (n .state) (chosen-before μ refl f)
 
         -- by what the channel's word holds
         disc-free : ((l : ℕ) → y ≡ inputOf l → st .offers l ≡ none) → Dec (μ (space s) ≡ noneSelected) → ChannelIs L A c y
@@ -262,14 +276,14 @@ module _ (L : Loaded) {s : World} {st : State} {μ : Mem} {t : Tree (S L) (root 
         disc-free no-offer d (is-empty f) =
             disc-on 0 μ
             (executes (exec-disc-empty (S L .word y) s on chan held (chan-size L A c y mine) (chan-holds L A c y mine f)))
-            (shown L A c) (marks-kept μ (λ d l. refl) (λ h. none-own L A c f))
+            (shown L A c) (marks-kept μ (λ d l. refl) (λ h. none-own L A c f)) (n .state)
             (chosen-past μ refl (λ h. unsent L A c y mine inputs alt-silent no-offer (inl f)))
         disc-free no-offer d (is-ours f) =
             disc-on 0 (emptied μ)
             (executes
             (exec-disc-marked (S L .word y) (space s) s on chan refl held (chan-size L A c y mine) (chan-holds L A c y mine f)
             (w-some L A c)))
-            (clears (λ d l. refl) (free-w L A c f) (shown L A c)) (marks-gone μ (λ d l. refl))
+            (clears (λ d l. refl) (free-w L A c f) (shown L A c)) (marks-gone μ (λ d l. refl)) (state-off μ (n .state))
             (chosen-past (emptied μ) (base-off μ) (λ h. unsent L A c y mine inputs alt-silent no-offer (inr f)))
         disc-free no-offer d (is-sent f h o sd out) = disc-sent f h o sd d
 
@@ -304,15 +318,15 @@ module _ (L : Loaded) {s : World} {st : State} {μ : Mem} {t : Tree (S L) (root 
 
     -- on to the next guard
     diss-on : (a : ℕ) {l : List ℕ} (ν : Mem) → Executes L (operation I.diss) s (unskipped a (withMemory l s)) → Shows L A c l ν → Kept ν
-        → Chosen hs ν → Goal (operation I.diss)
-    diss-on a ν ran m same chosen =
-        disables-on hs near (rest-past-skip past) code a (cpuOf s .c) (cpuOf s .c) ν ran m (skip-marks ν same) chosen
+        → IsReady ν → Chosen hs ν → Goal (operation I.diss)
+    diss-on a ν ran m same state chosen =
+        disables-on hs near (rest-past-skip past) code a (cpuOf s .c) (cpuOf s .c) ν ran m (skip-marks ν same) state chosen
 
     diss-off : cpuOf s .b ≡ 0 → Goal (operation I.diss)
     unfolding functionIn operandIn
     diss-off f =
         let off = false-when (st .store) e (cpuOf s .b) val f in
-        diss-on 0 μ (executes (exec-diss-off s f)) (shown L A c) (λ d l. refl)
+        diss-on 0 μ (executes (exec-diss-off s f)) (shown L A c) (λ d l. refl) (n .state)
         (⊎-elim (λ h. inl h) (λ h. inr (h .0, past-skip-ready (h .1) (λ x. never (cc (x, off))))) (n .chosen))
 
     diss-true : cpuOf s .b ≢ 0 → Dec (μ (space s) ≡ noneSelected) → Goal (operation I.diss)
@@ -321,13 +335,13 @@ module _ (L : Loaded) {s : World} {st : State} {μ : Mem} {t : Tree (S L) (root 
         diss-on 1 (upd μ (space s) (far m))
         (executes
         (exec-diss-first (far m) (space s) s branch on refl (mine-size L A c (base-mine L A c)) (mine-holds L A c (base-mine L A c) f)))
-        (chooses-it m) (kept-choosing m)
+        (chooses-it m) (kept-choosing m) (ready-choosing m (n .state))
         (inl (m, _, rest-picks past (p-skip (true-when (st .store) e (cpuOf s .b) val on)), upd-same μ (space s) (far m)))
     diss-true on (no f) =
         diss-on 0 μ
         (executes
         (exec-diss-later (space s) (μ (space s)) s on refl (mine-size L A c (base-mine L A c)) (mine-holds L A c (base-mine L A c) refl) f))
-        (shown L A c) (λ d l. refl) (⊎-elim (λ h. inl h) (λ h. absurd (f (h .0))) (n .chosen))
+        (shown L A c) (λ d l. refl) (n .state) (⊎-elim (λ h. inl h) (λ h. absurd (f (h .0))) (n .chosen))
 
     pub does-diss : Goal (operation I.diss)
     does-diss = by (ℕ-discrete (cpuOf s .b) 0)

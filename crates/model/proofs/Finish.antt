@@ -34,7 +34,7 @@ module _ (L : Loaded) where
   pub inv-setup : {s : World} {st : State} {n : ℕ} → Inv L s st n → s .machine .setup ≡ setup L
   inv-setup (runs real run leaf rest lines now) = real .setup-kept
   inv-setup (starts B real run leaf rest lines now) = real .setup-kept
-  inv-setup (idle real run rest) = real .setup-kept
+  inv-setup (idle real run operand rest) = real .setup-kept
 
   -- moves were made, with a step among them, and the process has settled
   pub then-settles : {did : World → Type 0} {s u : World} {st st₁ : State} {cs : List Communication} {g : Segment} {m k n n₀ : ℕ}

@@ -218,9 +218,10 @@ module _ (S : Setting) (a : Part) where
       e-skip : {e : Whole} {s : Stmt} {gs : Guards} {i i′ : ℕ} {r : Regs} → At S i (operation I.enbs) → r .a ≡ value σ e
           → Seg (S .xs) (suc i) (codeEnable (S .word) (r .w) gs) i′ → Enables (skipGuard e s gs) i r i′
 
-    -- the guards of an ALT before hs are disabled: no mark of theirs is left; a branch is chosen, or one of the rest is ready
+    -- the guards of an ALT before hs are disabled: no mark of theirs is left; it is Ready; a branch is chosen, or one of the rest is ready
     pub record Disabling (k : List Frame) (gs hs : Guards) (choice : ℕ) (μ : Mem) (w : ℕ) : Type 0 where
       pub marks : Marked hs μ w
+      pub state : μ (stateWord w) ≡ ready
       pub chosen : ((t : ℕ) × (p : Process) × Picks st k gs (choice + 1) t p × (μ w ≡ operandIn (S .off) (distance ldc t choice)))
           ⊎ ((μ w ≡ noneSelected) × Ready st hs)
 

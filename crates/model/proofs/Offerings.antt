@@ -158,4 +158,4 @@ module _ (L : Loaded) where
       → (u : ℕ) × (st .offers k ≡ some u)
   offer-held (runs real run leaf rest lines now) k h e = offer-is e (real .offers k h)
   offer-held (starts B real run leaf rest lines now) k h e = offer-is e (real .offers k h)
-  offer-held (idle real stop rest) k h e = offer-is e (real .offers k h)
+  offer-held (idle real stop operand rest) k h e = offer-is e (real .offers k h)

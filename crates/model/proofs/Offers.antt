@@ -51,7 +51,7 @@ use Rattle.model.proofs.Wakings.{waited-goes, answers-talk, answers-sil
 use Rattle.model.proofs.Offerings.{holding, offer-holds, offer-tells, offer-delivers, withOffer, passedOffer, passed-same}
 use Rattle.model.proofs.Offerings.{more-senders, fewer-senders, offer-sends, same-senders, senders-same, real-offers, real-held}
 use Rattle.model.proofs.Offerings.{unheld}
-use Rattle.model.proofs.Tellings.{ReadyAlt, Stood, stood, told-point}
+use Rattle.model.proofs.Tellings.{Stood, stood, told-point}
 
 module _ (L : Loaded) {s : World} {st : State} {μ : Mem} {t : Tree (S L) (root L) (st .process)} {Out : List ℕ → Type 0} {ws : List ℕ}
     (G : Ground L s st μ t Out ws) (k v : ℕ) (below : k < L .prog .inputs) (small : v < 2 ^ 32)
@@ -202,7 +202,11 @@ module _ (L : Loaded) {s : World} {st : State} {μ : Mem} {t : Tree (S L) (root 
         let lines = after-lined L (lined-out L chooser unqueued (λ y q. ⊎-elim (λ p. inr p) (λ p. inl p) q) (G .lined)) in
         let held : Held (S L) d j st₁ ν true (atAlt gs l) =
         h-woken a (resumes₁ r) (upd-same μ (stateWord (j .w)) ready)
-        (record { marks = marked₁ marks; chosen = inr (base-word ∙ chosen, guarded-ready guarded (offer-sends st k v)) }) in
+        (record {
+          marks = marked₁ marks;
+          state = upd-same μ (stateWord (j .w)) ready;
+          chosen = inr (base-word ∙ chosen, guarded-ready guarded (offer-sends st k v));
+        }) in
         answers-silent L (t-event event t-none) refl
         (λ u e lands. tells state refl u (notify-waiting (j .w) (holding k v s) (rw (size-is L (G .real)) alt-in) ∙ e) lands)
         (goes-on L G same-regs real₁ rest₁ lines chooser₁ strange keeps held)
@@ -215,6 +219,7 @@ module _ (L : Loaded) {s : World} {st : State} {μ : Mem} {t : Tree (S L) (root 
         h-woken a (resumes₁ r) (upd-same μ (stateWord (j .w)) ready)
         (record {
           marks = marked₁ (dis .marks);
+          state = upd-same μ (stateWord (j .w)) ready;
           chosen = ⊎-elim (λ y. let (n, q, g, x) = y in inl (n, q, picks-more (λ y. more-senders st k v) refl g, base-word ∙ x))
               (λ y. inr (base-word ∙ y .0, ready-more (λ y. more-senders st k v) refl (y .1))) (dis .chosen);
         }) in
@@ -416,30 +421,22 @@ module _ (L : Loaded) {s : World} {st : State} {μ : Mem} {t : Tree (S L) (root 
         (⊎-elim (λ e. told e refl (λ z. absurd (omega arith)) lands) (λ e. told e refl (λ z. absurd (omega arith)) lands) (stood .state))
         (t-event (offered (unheld L free (G .real .offers k below))) t-none) (sym (append-nil (s .talk))) inv (omega arith)
 
-  now-alerts : ReadyAlt L b i st μ q → Now L s st μ b i q
-      → Answers L (λ u. offering k v s ≡ done tt u) s st (offers k v Offered) (bytesLeft (S L) t)
-  now-alerts known (now-goes h way settled clean soon) = absurd (clean (inputOf k) m o)
-  now-alerts known (now-alt h way soon) =
-      did-alert (way-holds (S L) (stood L b i st μ (inputOf k) m o known) (λ z. absurd z) way) h way soon
-
--- what the invariant does not say: an ALT that disables its guards is Ready; the operand is 0 while no process runs
-abbrev pub Fit : (L : Loaded) {s : World} {st : State} {n : ℕ} → Inv L s st n → Type 0
-Fit L {s} {st} (runs {μ} {q = q} {b} {i} real run leaf rest lines now) = ReadyAlt L b i st μ q
-Fit L (starts B real run leaf rest lines now) = Unit {0}
-Fit L {s} (idle real stop rest) = cpuOf s .operand ≡ 0
+  now-alerts : Now L s st μ b i q → Answers L (λ u. offering k v s ≡ done tt u) s st (offers k v Offered) (bytesLeft (S L) t)
+  now-alerts (now-goes h way settled clean soon) = absurd (clean (inputOf k) m o)
+  now-alerts (now-alt h way soon) =
+      did-alert (way-holds (S L) (stood L b i st μ (inputOf k) m o) (λ z. absurd z) way) h way soon
 
 -- every offer that is not turned down
-pub offers-does : (L : Loaded) {s : World} {st : State} {n : ℕ} (inv : Inv L s st n) → Fit L inv → (k v : ℕ) → k < L .prog .inputs
-    → v < 2 ^ 32
+pub offers-does : (L : Loaded) {s : World} {st : State} {n : ℕ} → Inv L s st n → (k v : ℕ) → k < L .prog .inputs → v < 2 ^ 32
     → getD (s .machine .held) k false ≡ false → Answers L (λ u. offering k v s ≡ done tt u) s st (offers k v Offered) n
-offers-does L {s} {st} (runs {μ} {t} {path} {q} {b} {i} real run leaf rest lines now) fit k v below small free =
+offers-does L (runs {μ} real run leaf rest lines now) k v below small free =
     let G = runs-ground L real run leaf rest lines now in
     ground-offers L G k v below small free (λ other p d j y e m o.
     now-alerts L G run leaf k v below small free (same-leaf L (λ p d (j : Info). List·Memᴰ (inputOf k) (j .chans)) (sym e) y leaf m)
-    (same-leaf L (λ p d (j : Info). Own d (μ (S L .word (inputOf k)))) (sym e) y leaf o) fit now)
-offers-does L (starts B real run leaf rest lines now) fit k v below small free =
+    (same-leaf L (λ p d (j : Info). Own d (μ (S L .word (inputOf k)))) (sym e) y leaf o) now)
+offers-does L (starts B real run leaf rest lines now) k v below small free =
     let G = starts-ground L real run leaf B rest lines now in
     ground-offers L G k v below small free (λ other p d j y e m o. absurd
     (starts-unmarked L real run leaf B now other p d j y e (inputOf k) m o))
-offers-does L (idle real stop rest) fit k v below small free =
-    ground-offers L (idle-ground L real stop fit rest) k v below small free (λ other p d j y e m o. absurd e)
+offers-does L (idle real stop operand rest) k v below small free =
+    ground-offers L (idle-ground L real stop operand rest) k v below small free (λ other p d j y e m o. absurd e)

@@ -65,7 +65,7 @@ module _ (L : Loaded) where
   inv-lands {s} (runs real run leaf rest lines now) =
       lands s run (omega (arith, now-in now, code-is s (real .setup-kept)))
   inv-lands {s} (starts B real run leaf rest lines now) = lands s run (omega (arith, here-in (now .here), code-is s (real .setup-kept)))
-  inv-lands {s} (idle real run rest) = lands-idle s run
+  inv-lands {s} (idle real run operand rest) = lands-idle s run
 
   -- at the code's end a machine has ended
   at-the-end : {s : World} {st : State} {μ : Mem} {ws : List ℕ} {at : ℕ} → Real L s st μ ws → cpuOf s .running ≡ true → at ≡ length (S L .xs)
@@ -180,4 +180,4 @@ module _ (L : Loaded) where
       by : {k : ℕ} → Here L k (cpuOf s .place) (cpuOf s .operand) → now .at ≡ k → Did L (Byte s) s st (bytesLeft (S L) t)
       by (within e h) is = goes-start real run leaf e h B rest lines now is (turned real run leaf e h)
       by (at-end e h) is = never (cc (no-end, at-the-end real run e h))
-  byte-goes {s} (idle real run rest) no-end busy = never (cc (busy, run))
+  byte-goes {s} (idle real run operand rest) no-end busy = never (cc (busy, run))

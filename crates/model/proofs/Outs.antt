@@ -535,7 +535,11 @@ module _ (L : Loaded) {s : World} {st : State} {μ : Mem} {t : Tree (S L) (root 
         alt-word (j .w) (omega (arith, p .room)) (omega arith) (λ q. absurd (omega (arith, t-low .1))) in
         let held : Held (S L) d j st₁ ν₄ true (atAlt gs l) =
         h-woken a (record { place = resume-word ∙ r .place; soon = r .soon }) (upd-same ν₃ (stateWord (j .w)) ready)
-        (record { marks = alt-marked marks; chosen = inr (base-word ∙ chosen, guarded-ready guarded sends-now) }) in
+        (record {
+          marks = alt-marked marks;
+          state = upd-same ν₃ (stateWord (j .w)) ready;
+          chosen = inr (base-word ∙ chosen, guarded-ready guarded sends-now);
+        }) in
         let woken = wakes L {Out′ = Nobody} (real₄ lines) rest₆ (lined-in L (λ y q. inr q) lines₅) chooser₅ refl held (λ y n q. absurd (n q))
         (λ y q. absurd q) (λ q. q) (A .run) in
         step-lets-go L coming
@@ -564,6 +568,7 @@ module _ (L : Loaded) {s : World} {st : State} {μ : Mem} {t : Tree (S L) (root 
         h-woken a (record { place = resume-word ∙ r .place; soon = r .soon }) (upd-same ν₃ (stateWord (j .w)) ready)
         (record {
           marks = alt-marked (dis .marks);
+          state = upd-same ν₃ (stateWord (j .w)) ready;
           chosen = ⊎-elim (λ y. let (v, q, g, x) = y in inl (v, q, picks-more more refl g, base-word ∙ x))
               (λ y. inr (base-word ∙ y .0, ready-more more refl (y .1))) (dis .chosen);
         }) in

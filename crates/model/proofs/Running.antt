@@ -139,8 +139,8 @@ module _ (L : Loaded) where
     starts : {μ : Mem} {t : Tree (S L) (root L) (st .process)} {path : List ℕ} {q : Process} {b : Part} {i : Info} {ws : List ℕ} (B : Births)
         → Real L s st μ ws → cpuOf s .running ≡ true → LeafAt L st t path q b i → Rest L st μ t (Starting path B) ws
         → Lined L st t (Starting path B) ws → NowStarts s st μ t path q b i B → Inv s st (bytesLeft (S L) t)
-    idle : {μ : Mem} {t : Tree (S L) (root L) (st .process)} → Real L s st μ [] → cpuOf s .running ≡ false → Rest L st μ t Nobody []
-        → Inv s st (bytesLeft (S L) t)
+    idle : {μ : Mem} {t : Tree (S L) (root L) (st .process)} → Real L s st μ [] → cpuOf s .running ≡ false → cpuOf s .operand ≡ 0
+        → Rest L st μ t Nobody [] → Inv s st (bytesLeft (S L) t)
 
   -- what an action comes to: the world after it, the moves that it stands for, and fewer bytes left unless there were steps
   pub data Did (did : World → Type 0) (s : World) (st : State) (n : ℕ) : Type 0 where

@@ -175,7 +175,7 @@ module _ (L : Loaded) where
     lets-go {ws = []} real rest lines =
         let r = M.running false (cpuOf s) in
         let-go (withCpu r s) [] (release-queue-none s (real .queue)) refl t-none
-        (idle (real-queue L r (idle-queue s (real .queue)) real) refl rest)
+        (idle (real-queue L r (idle-queue s (real .queue)) real) refl operand rest)
     lets-go {ws = w ∷ ws} real rest lines = elim (lines .each w (List·Memᴰ·head refl)) [
       | whose {q} {b} {i} leaf e n ↦
           let f : i .w ∷ ws ≡ w ∷ ws = ap (λ z. z ∷ ws) e in

@@ -218,11 +218,12 @@ module _ (S : Setting) (b : Part) (i : Info) (high : b .top < 2 ^ 32) (sits : Si
         (e ∙ g .0, guarded-same b (i .vars) (calm .reads) (S .word) (i .chans) vw f (g .1))
 
     pub disabling-stays : {k : List Frame} {gs hs : Guards} {choice w : ℕ} → FineGuards (S .word) b (i .vars) (i .chans) vw gs
-        → FineGuards (S .word) b (i .vars) (i .chans) vw hs → ν w ≡ μ w → Disabling S b st (i .vars) (i .chans) k gs hs choice μ w
-        → Disabling S b st′ (i .vars) (i .chans) k gs hs choice ν w
-    disabling-stays f g e d =
+        → FineGuards (S .word) b (i .vars) (i .chans) vw hs → ν w ≡ μ w → ν (stateWord w) ≡ μ (stateWord w)
+        → Disabling S b st (i .vars) (i .chans) k gs hs choice μ w → Disabling S b st′ (i .vars) (i .chans) k gs hs choice ν w
+    disabling-stays f g e x d =
         record {
           marks = marked-stays g (d .marks);
+          state = x ∙ d .state;
           chosen = ⊎-elim (λ c. let (t, p, h, z) = c in inl (t, p, picks-stays f h, e ∙ z)) (λ c. inr (e ∙ c .0, ready-stays g (c .1)))
               (d .chosen);
         }
@@ -235,11 +236,12 @@ held-stays S b i high sits calm (h-queued c r h u) =
     (resumes-stays S b i high sits calm (λ e. absurd (omega (arith, sits .placed .room, sits .placed .low))) r) h (unmarked-stays S b i high sits calm u)
 held-stays S b i high sits calm (h-woken c r s d) =
     let low = sits .placed .low in
-    h-woken c (resumes-stays S b i high sits calm (λ e. absurd (omega (arith, sits .placed .room, low))) r)
-    (state-same S b i high sits calm (omega (arith, c .fine .0)) (λ e. absurd (omega (arith, sits .placed .room, c .fine .0, low))) ∙ s)
+    let state =
+    state-same S b i high sits calm (omega (arith, c .fine .0)) (λ e. absurd (omega (arith, sits .placed .room, c .fine .0, low))) in
+    h-woken c (resumes-stays S b i high sits calm (λ e. absurd (omega (arith, sits .placed .room, low))) r) (state ∙ s)
     (disabling-stays S b i high sits calm (i .w + 1) (c .fine .1) (c .fine .1)
     (base-same S b i high sits calm (omega (arith, sits .placed .room)) (omega (arith, cont-low S b (c .after)))
-    (λ e. absurd (omega (arith, sits .placed .room, low)))) d)
+    (λ e. absurd (omega (arith, sits .placed .room, low)))) state d)
 held-stays S b i high sits calm (h-input {c} w t m n) =
     let low = sits .placed .low in
     h-input

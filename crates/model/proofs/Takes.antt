@@ -189,11 +189,10 @@ module _ (L : Loaded) {s : World} {st : State} {μ : Mem} {t : Tree (S L) (root 
       ))
       (λ o. by-holder (holder L (G .rest) (G .known) o refl)) (outside-chan L (G .rest) c (output-named L k below))
 
--- every take, where the operand is 0 while no process runs
-pub takes-does : (L : Loaded) {s : World} {st : State} {n : ℕ} → (cpuOf s .running ≡ false → cpuOf s .operand ≡ 0) → Inv L s st n → (k : ℕ)
-    → k < L .prog .outputs
+-- every take
+pub takes-does : (L : Loaded) {s : World} {st : State} {n : ℕ} → Inv L s st n → (k : ℕ) → k < L .prog .outputs
     → ((taking k s ≡ done none s) × (Sender st (outputOf k) → ⊥))
     ⊎ ((v : ℕ) × Answers L (λ u. taking k s ≡ done (some v) u) s st (takes k (Taken v)) n)
-takes-does L zero-operand (runs real run leaf rest lines now) k h = ground-takes L (runs-ground L real run leaf rest lines now) k h
-takes-does L zero-operand (starts B real run leaf rest lines now) k h = ground-takes L (starts-ground L real run leaf B rest lines now) k h
-takes-does L zero-operand (idle real stop rest) k h = ground-takes L (idle-ground L real stop (zero-operand stop) rest) k h
+takes-does L (runs real run leaf rest lines now) k h = ground-takes L (runs-ground L real run leaf rest lines now) k h
+takes-does L (starts B real run leaf rest lines now) k h = ground-takes L (starts-ground L real run leaf B rest lines now) k h
+takes-does L (idle real stop operand rest) k h = ground-takes L (idle-ground L real stop operand rest) k h

@@ -7,7 +7,7 @@ use mathlib.Core.List.{List, [], List·Memᴰ}
 use Rattle.model.specs.Syntax.{Site, inputOf, Guards}
 use Rattle.model.specs.Machine.{stateWord}
 use Rattle.model.specs.Execute.{enabling, ready}
-use Rattle.model.specs.Occam.{store, Frame, Process, atAlt, State, Sender, offers}
+use Rattle.model.specs.Occam.{store, Frame, Process, State, Sender, offers}
 use Rattle.model.proofs.Ways.{Regs, Mem}
 use Rattle.model.proofs.Conts.{Placed, cont-low, cont-placed}
 use Rattle.model.proofs.Parts.{Part}
@@ -24,12 +24,6 @@ use Rattle.model.proofs.Offerings.{withOffer, more-senders, offer-sends
 
 -- an ALT that has the processor and has marked the channel
 module _ (L : Loaded) (b : Part) (i : Info) (st : State) (μ : Mem) where
-  -- while it disables its guards its state is Ready
-  abbrev pub ReadyAlt : Process → Type 0
-  ReadyAlt q =
-      (gs : Guards) (l : List Frame) → q ≡ atAlt gs l → (y : Site) → List·Memᴰ y (i .chans) → Own b (μ (S L .word y))
-      → μ (stateWord (μ (S L .word y))) ≡ ready
-
   -- its words at and below its name, and its state
   pub record Stood (p : ℕ) : Type 0 where
     pub low : b .bottom + 3 ≤ p
@@ -43,15 +37,12 @@ module _ (L : Loaded) (b : Part) (i : Info) (st : State) (μ : Mem) where
     stood-at w a e f =
         subst Stood (sym e) (record { low = omega (arith, a .fine .0); placed = cont-placed (S L) b (a .after); state = f })
 
-    pub stood : {q : Process} → ReadyAlt q → (up j : ℕ) (r : Regs) → AltPoint (S L) b st (i .vars) (i .chans) q up μ j r
-        → Stood (μ (S L .word c))
-    stood known up j r (pt-enable a l n e) =
+    pub stood : {q : Process} (up j : ℕ) (r : Regs) → AltPoint (S L) b st (i .vars) (i .chans) q up μ j r → Stood (μ (S L .word c))
+    stood up j r (pt-enable a l n e) =
         stood-at (r .w) a (n .marks c m o .0) (⊎-elim (λ z. inl (z .0)) (λ z. inr (z .0)) (n .state))
-    stood known up j r (pt-wait a n) = stood-at (r .w) a (n .marks c m o .0) (⊎-elim (λ z. inl (z .0)) (λ z. inr (z .0)) (n .state))
-    stood known up j r (pt-disable {gs} {k = l} a x t n d) =
-        let e = n .marks c m o .0 in stood-at (r .w) a e (inr (ap (λ z. μ (stateWord z)) (sym e) ∙ known gs l refl c m o))
-    stood known up j r (pt-choose {gs} {k = l} a n) =
-        let e = n .marks c m o .0 in stood-at (r .w) a e (inr (ap (λ z. μ (stateWord z)) (sym e) ∙ known gs l refl c m o))
+    stood up j r (pt-wait a n) = stood-at (r .w) a (n .marks c m o .0) (⊎-elim (λ z. inl (z .0)) (λ z. inr (z .0)) (n .state))
+    stood up j r (pt-disable a l t n d) = stood-at (r .w) a (n .marks c m o .0) (inr (n .state))
+    stood up j r (pt-choose a n) = stood-at (r .w) a (n .marks c m o .0) (inr (n .state))
 
     -- it stays in the ALT, Ready, when its channel gets an offer
     module _ (n v : ℕ) (named : c ≡ inputOf n) where
@@ -99,6 +90,7 @@ module _ (L : Loaded) (b : Part) (i : Info) (st : State) (μ : Mem) where
         disabling-told f =
             record {
               marks = marks-kept (f .marks);
+              state = now-ready;
               chosen = ⊎-elim (λ y. let (z, x, g, h) = y in inl (z, x, picks-more (λ y. more-senders st n v) refl g, base-kept ∙ h))
                   (λ y. inr (base-kept ∙ y .0, ready-more (λ y. more-senders st n v) refl (y .1))) (f .chosen);
             }

@@ -85,7 +85,7 @@ module _ (L : Loaded) where
       now-inside (now-alt h way soon) = here-inside h
   inv-lands {s} (starts B real run leaf rest lines now) =
       lands s (λ e. omega (arith, here-inside (now .here), ap (λ (z : Setup). z .code) (real .setup-kept)))
-  inv-lands {s} (idle real stop rest) = lands s (λ e. never (cc (e, stop)))
+  inv-lands {s} (idle real stop operand rest) = lands s (λ e. never (cc (e, stop)))
 
   -- nothing happens
   pub calm-refl : {b : Part} {i : Info} {skip : ℕ} {st : State} {μ : Mem} → Calm (S L) b i skip st st μ μ
@@ -111,7 +111,7 @@ module _ (L : Loaded) where
           runs (real-talk L l real) run leaf rest lines (now-stays L same (part-high L leaf) (sits-at L leaf) calm-refl now)
       by (starts B real run leaf rest lines now) =
           starts B (real-talk L l real) run leaf rest lines (starts-stays L same leaf (λ path q b i k o. (k, calm-refl)) now)
-      by (idle real stop rest) = idle (real-talk L l real) stop rest
+      by (idle real stop operand rest) = idle (real-talk L l real) stop operand rest
 
   -- what one process does leaves another alone
   module _ {st : State} {t : Tree (S L) (root L) (st .process)} {other here : List ℕ} {r q : Process} {d b : Part} {j i : Info}
