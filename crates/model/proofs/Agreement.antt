@@ -122,12 +122,12 @@ module _ (L : Loaded) where
       → st .store x ≡ getD (s .memory ++ more) (wordOf (L .prog) x) 0
   inv-variables (runs real run at rest lined now) = found-word real rest
   inv-variables (starts B real run at rest lined now) = found-word real rest
-  inv-variables (idle real run rest) = found-word real rest
+  inv-variables (idle real run operand rest) = found-word real rest
 
   pub inv-no-fault : {s : World} {st : State} {n : ℕ} → Inv L s st n → s .machine .fault ≡ Nothing
   inv-no-fault (runs real run at rest lined now) = real .no-fault
   inv-no-fault (starts B real run at rest lined now) = real .no-fault
-  inv-no-fault (idle real run rest) = real .no-fault
+  inv-no-fault (idle real run operand rest) = real .no-fault
 
   -- a machine that has ended stands at a process that has finished, and that is all
   module _ {s : World} {st : State} {μ : Mem} {ws : List ℕ} (real : Real L s st μ ws) (over : ended (s .machine) ≡ true) where
@@ -149,7 +149,7 @@ module _ (L : Loaded) where
   pub inv-ended : {s : World} {st : State} {n : ℕ} → Inv L s st n → ended (s .machine) ≡ true → st .process ≡ finished
   inv-ended (runs real run at rest lined now) e = now-ended real e at now
   inv-ended (starts B real run at rest lined now) e = absurd (way-end (S L) (start-in (S L)) (here-end real e (now .here)) (now .way))
-  inv-ended {s} (idle real run rest) e = never (cc (run, and-left (cpuOf s .running) _ e))
+  inv-ended {s} (idle real run operand rest) e = never (cc (run, and-left (cpuOf s .running) _ e))
 
   -- where no process has the processor and none is queued, none can go on
   module _ {st : State} {μ : Mem} {t : Tree (S L) (root L) (st .process)} (rest : Rest L st μ t Nobody []) where
@@ -192,7 +192,7 @@ module _ (L : Loaded) where
   pub inv-waits : {s : World} {st : State} {n : ℕ} → Inv L s st n → waits (s .machine) ≡ true → Stuck st
   inv-waits (runs real run at rest lined now) z = never (cc (run, z))
   inv-waits (starts B real run at rest lined now) z = never (cc (run, z))
-  inv-waits (idle real run rest) z = idle-stuck rest
+  inv-waits (idle real run operand rest) z = idle-stuck rest
 
   now-active : {s : World} {st : State} {μ : Mem} {b : Part} {i : Info} {q : Process} → Now L s st μ b i q → Active st q
   now-active {q = q} (now-goes h way settled clean soon) = settled-active q settled
@@ -202,7 +202,7 @@ module _ (L : Loaded) where
   inv-stuck (runs {path} real run at rest lined now) h = absurd (stuck-unable h (active-able path (at .found) (now-active now)))
   inv-stuck (starts {path} {b} B real run at rest lined now) h =
       absurd (stuck-unable h (active-able path (at .found) (comes-active (S L) b (now .own))))
-  inv-stuck (idle real run rest) h = rw run
+  inv-stuck (idle real run operand rest) h = rw run
 
   -- what is found in the machine is what the run leaves
   pub inv-agrees : {s : World} {st : State} {n : ℕ} (rest : List ℕ) (now : Moment) → now .machine ≡ s .machine

@@ -73,16 +73,16 @@ module _ (L : Loaded) where
         runs (real-lent (links-in L lines) real) run leaf rest lines (now-stays L same-regs (part-high L leaf) (sits-at L leaf) (calm-refl L) now)
     inv-lent (starts B real run leaf rest lines now) =
         starts B (real-lent (links-in L lines) real) run leaf rest lines (starts-stays L same-regs leaf (λ path q b i k o. (k, calm-refl L)) now)
-    inv-lent (idle real stop rest) = idle (real-lent (λ v m. absurd (List·Memᴰ·not-nil m)) real) stop rest
+    inv-lent (idle real stop operand rest) = idle (real-lent (λ v m. absurd (List·Memᴰ·not-nil m)) real) stop operand rest
 
   -- no more bytes are left than all processes that may be live have
   pub inv-few : {s : World} {st : State} {n : ℕ} → Inv L s st n → most (st .process) ≤ limit → n ≤ limit * whole (S L)
   inv-few {st = st} (runs {t} real run leaf rest lines now) h = tree-few st t h
   inv-few {st = st} (starts {t} B real run leaf rest lines now) h = tree-few st t h
-  inv-few {st = st} (idle {t} real stop rest) h = tree-few st t h
+  inv-few {st = st} (idle {t} real stop operand rest) h = tree-few st t h
 
   -- the memory is long enough
   pub inv-room : {s : World} {st : State} {n : ℕ} → Inv L s st n → size L ≤ length (s .memory)
   inv-room (runs real run leaf rest lines now) = real .room
   inv-room (starts B real run leaf rest lines now) = real .room
-  inv-room (idle real stop rest) = real .room
+  inv-room (idle real stop operand rest) = real .room
