@@ -45,11 +45,11 @@ use Rattle.model.proofs.Runs.{run-behind}
 use Rattle.model.proofs.Chains.{Chain, chain-nil, chain-byte, chain-other, chain-append}
 use Rattle.model.proofs.Lending.{byte-lent, inv-lent, inv-few, inv-room}
 
-or-left : (a c : Bool) → (a || c) ≡ false → a ≡ false
+pub or-left : (a c : Bool) → (a || c) ≡ false → a ≡ false
 or-left true c e = never (cc)
 or-left false c e = refl
 
-or-right : (a c : Bool) → (a || c) ≡ false → c ≡ false
+pub or-right : (a c : Bool) → (a || c) ≡ false → c ≡ false
 or-right true c e = never (cc)
 or-right false c e = e
 
@@ -110,7 +110,7 @@ module _ (L : Loaded) where
       }
 
   -- a run's bytes
-  data Ran (b n₀ : ℕ) (code : List ℕ) (s : World) (st : State) (n : ℕ) (rest : List ℕ) : Type 0 where
+  pub data Ran (b n₀ : ℕ) (code : List ℕ) (s : World) (st : State) (n : ℕ) (rest : List ℕ) : Type 0 where
     ran : {gs : List Segment} {st′ : State} {k : ℕ} (t : World) → Chain (L .prog) bound (bytes b code rest s) st gs st′ n k
         → runFrom b code n₀ s .world .machine ≡ t .machine → runFrom b code n₀ s .world .memory ≡ t .memory → Inv L t st′ k
         → most (st′ .process) ≤ limit → Ran b n₀ code s st n rest
@@ -145,7 +145,7 @@ module _ (L : Loaded) where
               ran u all (ap (λ (r : Finish). r .world .machine) goes ∙ am ∙ em) (ap (λ (r : Finish). r .world .memory) goes ∙ ar ∙ er) inv″ few″
         ]
 
-    run-bytes : (b n₀ : ℕ) (s : World) (st : State) (n : ℕ) → s .talk ≡ [] → Inv L s st n → most (st .process) ≤ limit → Ran b n₀ lent s st n rest
+    pub run-bytes : (b n₀ : ℕ) (s : World) (st : State) (n : ℕ) → s .talk ≡ [] → Inv L s st n → most (st .process) ≤ limit → Ran b n₀ lent s st n rest
     unfolding bytes
     run-bytes zero n₀ s st n z inv few =
         let c : Chain (L .prog) bound (bytes zero lent rest s) st [] st n n = chain-nil in

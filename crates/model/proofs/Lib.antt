@@ -76,4 +76,5 @@ pub mod Runs
 pub mod Chains
 pub mod Lending
 pub mod Histories
+pub mod Calls
 pub mod Examples
