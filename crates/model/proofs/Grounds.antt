@@ -78,7 +78,7 @@ module _ (L : Loaded) where
     an-input : (k : ℕ) → k < L .prog .inputs → c ≡ inputOf k → S L .word c ≡ base (L .prog) + k → OutsideAt c
     an-output : (k : ℕ) → k < L .prog .outputs → c ≡ outputOf k → S L .word c ≡ base (L .prog) + L .prog .inputs + k → OutsideAt c
 
-  outside-at : (c : Site) → List·Memᴰ c (outsideNames (L .prog)) → OutsideAt c
+  pub outside-at : (c : Site) → List·Memᴰ c (outsideNames (L .prog)) → OutsideAt c
   unfolding wordOf
   outside-at c m =
       ⊎-elim (λ m. elim (numbered-in inputOf (L .prog .inputs) c m) [ numbered-one k h e ↦ an-input k h e (rw e) ])

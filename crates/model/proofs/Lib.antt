@@ -77,4 +77,6 @@ pub mod Chains
 pub mod Lending
 pub mod Histories
 pub mod Calls
+pub mod Starting
+pub mod Faith
 pub mod Examples
