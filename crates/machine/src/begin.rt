@@ -6,6 +6,8 @@ ghost use lib.ListN.{length, take, drop, replicate};
 ghost use Rattle.model.specs.Word.{notProcess};
 ghost use Rattle.model.specs.declared.StartAnswer.the-variants.{Started};
 ghost use Rattle.model.specs.Run.{registersAt, fresh as freshFor, blank as blankMachine, start as starting};
+ghost use Rattle.model.specs.Answers.{refusedStart};
+ghost use Rattle.model.specs.Refusals.{startRefusal};
 
 // A start's answer beside the machine.
 pub struct Begun {
@@ -122,6 +124,7 @@ pub fn start(
     ensures machine { λ r. ⌜ r .machine ≡ starting (now (code .entry)) (now (memory .entry)) w inputs outputs slice .machine ⌝ }
     ensures memory { λ r.
         ⌜ now (memory .exit) ≡ starting (now (code .entry)) (now (memory .entry)) w inputs outputs slice .memory ⌝ }
+    ensures refusal { λ r. ⌜ refusedStart (r .answer) ≡ startRefusal (now (code .entry)) (now (memory .entry)) w inputs outputs slice ⌝ }
 {
     if slice == 0 || 65535 < slice {
         return refused(model::StartAnswer::BadSlice);

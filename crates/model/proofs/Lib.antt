@@ -41,4 +41,5 @@ pub mod Calls
 pub mod Sequential
 pub mod Regular
 pub mod Runs
+pub mod Refused
 pub mod Examples

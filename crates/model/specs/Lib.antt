@@ -15,8 +15,9 @@ pub mod Machine
 pub mod Answers
 pub mod Execute
 pub mod Run
-pub mod Laws
 pub mod Outside
+pub mod Refusals
+pub mod Laws
 pub mod Bench
 pub mod History
 pub mod Demand

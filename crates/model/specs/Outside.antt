@@ -71,12 +71,12 @@ taking k = do
   taken k v
 
 -- an offer that would fault keeps the fault; state and memory stay
-abbrev offered : Result (Unit {0}) → Machine → List ℕ → After OfferAnswer
+abbrev pub offered : Result (Unit {0}) → Machine → List ℕ → After OfferAnswer
 offered (done a t) m memory = record { answer = Offered; machine = t .machine; memory = t .memory; talk = t .talk }
 offered (faults k) m memory = record { answer = OfferFault k; machine = keep k (worldOf m memory) .machine; memory = memory; talk = [] }
 
 -- a kept fault is answered again; then 13, 14 and, last, 12. Offers number the inputs from 0
-abbrev offerUnless : Kept → Machine → List ℕ → (k value : ℕ) → After OfferAnswer
+abbrev pub offerUnless : Kept → Machine → List ℕ → (k value : ℕ) → After OfferAnswer
 offerUnless (KeptFault f) m memory k v = unchanged (OfferFault f) m memory
 offerUnless NoFault m memory k v =
     let go = offered (offering k v (worldOf m memory)) m memory in
@@ -96,12 +96,12 @@ valueOrNone none = Nothing
 valueOrNone (some v) = Taken v
 
 -- a take that would fault keeps the fault; state and memory stay
-abbrev took : Result (Option ℕ) → Machine → List ℕ → After TakeAnswer
+abbrev pub took : Result (Option ℕ) → Machine → List ℕ → After TakeAnswer
 took (done v t) m memory = record { answer = valueOrNone v; machine = t .machine; memory = t .memory; talk = t .talk }
 took (faults k) m memory = record { answer = TakeFault k; machine = keep k (worldOf m memory) .machine; memory = memory; talk = [] }
 
 -- a kept fault is answered again; then 13 and, last, 12. Takes number the outputs from 0
-abbrev takeUnless : Kept → Machine → List ℕ → (k : ℕ) → After TakeAnswer
+abbrev pub takeUnless : Kept → Machine → List ℕ → (k : ℕ) → After TakeAnswer
 takeUnless (KeptFault f) m memory k = unchanged (TakeFault f) m memory
 takeUnless NoFault m memory k =
     let go = took (taking k (worldOf m memory)) m memory in

@@ -123,7 +123,7 @@ abbrev pub finished : Finish → After RunAnswer
 finished f = record { answer = Ran (f .outcome); machine = f .world .machine; memory = f .world .memory; talk = f .world .talk }
 
 -- a kept fault is answered again, with 0 instructions
-abbrev keptOrRun : Kept → Machine → List ℕ → Finish → After RunAnswer
+abbrev pub keptOrRun : Kept → Machine → List ℕ → Finish → After RunAnswer
 keptOrRun (KeptFault k) m memory f = unchanged (Ran (RunFault 0 k)) m memory
 keptOrRun Nothing m memory f = finished f
 
