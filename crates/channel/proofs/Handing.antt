@@ -20,7 +20,7 @@ use Rattle.processor.specs.Quiet.{quiet, Hears}
 use Rattle.processor.specs.declared.memory.Step.{Step}
 use Rattle.processor.specs.declared.memory.Peeked.{Peeked}
 use Rattle.processor.specs.declared.memory.Peeked.the-variants.{Value, Fault as Refused}
-use Rattle.processor.proofs.Laws.{value-inside, fault-outside, undid, next-next, first-place, join-behind, join-first}
+use Rattle.processor.proofs.Laws.{value-inside, fault-outside, undid, nothing-after, next-next, first-place, join-behind, join-first}
 use Rattle.processor.proofs.Talking.{lands, hears}
 use Rattle.channel.specs.Channels.{waitTell, hand, outputBehind}
 
@@ -60,11 +60,6 @@ pub puts :
     landing outputWord s ≡ (do poke (r .workspace) (r .a); outputBehind r) s
 unfolding outputWord
 puts s = rw (next-next (poke (s .machine .cpu .workspace) (s .machine .cpu .a) s))
-
--- an action with nothing after it
-nothing-after : (q : Result (Unit {0})) → next q (λ n. return tt) ≡ q
-nothing-after (done n s) = refl
-nothing-after (faults k) = refl
 
 module _ (x : Rest) (u : Setup) where
   -- actions that come to the same after a word is written, beside communications

@@ -1,4 +1,4 @@
--- The answers' numbers are those of specs/Refusals.antt, for every start, run, offer and take.
+-- The answers' numbers are those of specs/Refusals.antt, for every call.
 use Prim.Native.Nat.{ℕ, _+_}
 use mathlib.Core.Path.{_≡_, refl}
 use mathlib.Core.Bool.{Bool, true, false, cond, not, _&&_, _||_}
@@ -7,10 +7,13 @@ use lib.ListN.{length, getD}
 use lib.Dec.{ltb, leb, eqb}
 use borrow.Author.Tests.{ltb-true, ltb-false, leb-true, leb-false, lt-ltb, le-ltb, le-leb, lt-leb, ne-eqb, eq-eqb}
 use native.Mathlib.Omega.{arith}
-use Rattle.model.specs.Answers.{refusal, refusedStart, refusedRun, refusedOffer, refusedTake}
+use Rattle.model.specs.Answers.{refusal, refusedReading, refusedCompiling, refusedStart, refusedRun, refusedOffer, refusedTake}
+use Rattle.model.specs.Reader.{Read, program, refused as unread}
+use Rattle.model.specs.Accept.{answerOf}
+use Rattle.model.specs.Code.{Compilation, compiled, refused, compiledAnswer}
 use Rattle.model.specs.Run.{Finish, shortMemory, worldOf, keptOrRun, start, run}
 use Rattle.model.specs.Outside.{offering, offerUnless, offer, taking, takeUnless, take}
-use Rattle.model.specs.Refusals.{startRefusal, keptOr, ranInto, cameTo, runRefusal, offerRefusal, takeRefusal}
+use Rattle.model.specs.Refusals.{readRefusal, compileRefusal, startRefusal, keptOr, ranInto, cameTo, runRefusal, offerRefusal, takeRefusal}
 use Rattle.model.specs.declared.Machine.{Machine}
 use Rattle.model.specs.declared.Kept.{Kept}
 use Rattle.model.specs.declared.Kept.the-variants.{Nothing, Fault as KeptFault}
@@ -19,6 +22,14 @@ use Rattle.model.specs.declared.Outcome.the-variants.{Ended, Waiting, Sp
 use Rattle.model.specs.declared.RunAnswer.the-variants.{Ran}
 use Rattle.model.proofs.Cases.{by-bool, by-option}
 use Rattle.model.proofs.Runs.{by-result}
+
+pub read-refuses : (r : Read) → refusedReading (answerOf r) ≡ readRefusal r
+read-refuses (program p) = refl
+read-refuses (unread n at) = refl
+
+pub compile-refuses : (r : Compilation) → refusedCompiling (compiledAnswer r) ≡ compileRefusal r
+compile-refuses (compiled p code) = refl
+compile-refuses (refused n at) = refl
 
 -- tests told the other way round
 over : (a b : ℕ) → ltb b a ≡ not (leb a b)

@@ -1,4 +1,4 @@
--- Which refusal a start, run, offer or take gets, in 01's numbers and in 01's order of tests ("When a call is turned down"). The answers'
+-- Which refusal a call gets, in 01's numbers and in 01's order of tests ("When a call is turned down"). The answers'
 -- enums do not come in here: proofs/Refused.antt shows that their numbers (specs/Answers.antt) are these.
 use Prim.Native.Nat.{ℕ, _+_}
 use mathlib.Core.Bool.{false, cond, _||_}
@@ -6,6 +6,8 @@ use mathlib.Core.List.{List, [], _∷_}
 use mathlib.Core.Option.{Option, none}
 use lib.ListN.{length, getD}
 use lib.Dec.{ltb, leb, eqb}
+use Rattle.model.specs.Reader.{Read, program, refused as unread}
+use Rattle.model.specs.Code.{Compilation, compiled, refused}
 use Rattle.model.specs.Machine.{Result, done, faults, memorySize}
 use Rattle.model.specs.Answers.{Refusal, refusal, faultKind, faultNumber}
 use Rattle.model.specs.Run.{worldOf, runFrom}
@@ -16,6 +18,15 @@ use Rattle.model.specs.declared.Kept.{Kept}
 use Rattle.model.specs.declared.Kept.the-variants.{Nothing, Fault as KeptFault}
 use Rattle.model.specs.declared.Outcome.{Outcome}
 use Rattle.model.specs.declared.Outcome.the-variants.{Ended, Waiting, Spent, Fault as RunFault}
+
+-- "1 comes first; reading goes left to right, at one byte 2, 4, 3, 5; then 6; then 7 to 11": reading and compiling find number and place
+abbrev pub readRefusal : Read → Option Refusal
+readRefusal (program p) = none
+readRefusal (unread n at) = refusal n (at ∷ [])
+
+abbrev pub compileRefusal : Compilation → Option Refusal
+compileRefusal (compiled p code) = none
+compileRefusal (refused n r) = refusal n (r ∷ [])
 
 -- "At a start 15 comes first, then 3 for a channel count over 8 and 10, both at place 0, then 11"
 unfoldable pub startRefusal : (code memory : List ℕ) → (w inputs outputs slice : ℕ) → Option Refusal
