@@ -3,3 +3,5 @@ pub mod Lists
 pub mod Refusals
 pub mod Runs
 pub mod Answered
+pub mod Woken
+pub mod Offers
