@@ -2,6 +2,8 @@
 ghost use mathlib.Core.Path.{_≡_};
 ghost use lib.ListN.{length};
 ghost use Rattle.model.specs.Code.{compile as compilation, compiledAnswer, bufferAfter, givenBack, numberOf, returnedOf};
+ghost use Rattle.model.specs.Answers.{refusedCompiling};
+ghost use Rattle.model.specs.Refusals.{compileRefusal};
 ghost use Rattle.emitter.specs.Emits.{at as standing};
 ghost use Rattle.compiler.specs.Codes.{tableInto, sizeOf};
 
@@ -39,6 +41,7 @@ pub fn compile_into(table: &[u8], out: &mut [u8]) -> model::Compiled
     ensures answer { λ r. ⌜ r ≡ compiledAnswer (compilation (now (table .entry)) (length (now (out .entry)))) ⌝ }
     ensures buffer { λ r.
         ⌜ now (out .exit) ≡ bufferAfter (compilation (now (table .entry)) (length (now (out .entry)))) (now (out .entry)) ⌝ }
+    ensures refusal { λ r. ⌜ refusedCompiling r ≡ compileRefusal (compilation (now (table .entry)) (length (now (out .entry)))) ⌝ }
 {
     match table::read(table) {
         model::Reading::Accepted(facts) => {
