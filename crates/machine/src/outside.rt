@@ -12,11 +12,11 @@ ghost use mathlib.Core.Path.{_≡_};
 ghost use mathlib.Core.Bool.{false};
 ghost use Prim.Native.Nat.{_+_, _≤_, _<_};
 ghost use lib.ListN.{length, getD, set};
-ghost use Rattle.model.specs.Machine.{memorySize};
+ghost use Rattle.model.specs.Machine.{memorySize, machineWith};
 ghost use Rattle.model.specs.Answers.{refusedOffer};
 ghost use Rattle.model.specs.Refusals.{offerRefusal};
 ghost use Rattle.model.specs.Outside.{offer as offerOf};
-ghost use Rattle.model.specs.declared.Kept.the-variants.{Nothing};
+ghost use Rattle.model.specs.declared.Kept.the-variants.{Nothing, Fault as KeptFault};
 ghost use Rattle.processor.specs.Seen.{Goes};
 ghost use Rattle.machine.specs.Runs.{Answers};
 ghost use Rattle.machine.specs.Outsides.{emptyWake, handWake, offeredBy, holding};
@@ -78,45 +78,53 @@ fn unchanged(machine: model::Machine, answer: model::OfferAnswer) -> Offered
     }
 }
 
+// The machine with other registers.
+pub fn with_registers(machine: model::Machine, cpu: model::Cpu) -> model::Machine
+    ensures { λ r. ⌜ r ≡ machineWith cpu (machine .offers) (machine .held) (machine .fault) machine ⌝ }
+{
+    let setup = machine.setup;
+    let offers = machine.offers;
+    let held = machine.held;
+    let fault = machine.fault;
+    model::Machine {
+        cpu: cpu,
+        setup: setup,
+        offers: offers,
+        held: held,
+        fault: fault,
+    }
+}
+
+// The machine as it was, which keeps a fault.
+pub fn keep_fault(machine: model::Machine, k: model::FaultKind) -> model::Machine
+    ensures { λ r. ⌜ r ≡ machineWith (machine .cpu) (machine .offers) (machine .held) (KeptFault k) machine ⌝ }
+{
+    let cpu = machine.cpu;
+    let setup = machine.setup;
+    let offers = machine.offers;
+    let held = machine.held;
+    model::Machine {
+        cpu: cpu,
+        setup: setup,
+        offers: offers,
+        held: held,
+        fault: model::Kept::Fault(k),
+    }
+}
+
 // What an offer came to: other registers, or a fault, which the machine as it was keeps.
 fn settle(before: model::Machine, after: model::Machine, step: Step) -> Offered
     ensures { λ r. ⌜ r ≡ offeredBy before after step ⌝ }
 {
     match step {
-        Step::Done(cpu) => {
-            let setup = after.setup;
-            let offers = after.offers;
-            let held = after.held;
-            let fault = after.fault;
-            let machine = model::Machine {
-                cpu: cpu,
-                setup: setup,
-                offers: offers,
-                held: held,
-                fault: fault,
-            };
-            Offered {
-                machine: machine,
-                answer: model::OfferAnswer::Offered,
-            }
-        }
-        Step::Fault(k) => {
-            let cpu = before.cpu;
-            let setup = before.setup;
-            let offers = before.offers;
-            let held = before.held;
-            let machine = model::Machine {
-                cpu: cpu,
-                setup: setup,
-                offers: offers,
-                held: held,
-                fault: model::Kept::Fault(k),
-            };
-            Offered {
-                machine: machine,
-                answer: model::OfferAnswer::Fault(k),
-            }
-        }
+        Step::Done(cpu) => Offered {
+            machine: with_registers(after, cpu),
+            answer: model::OfferAnswer::Offered,
+        },
+        Step::Fault(k) => Offered {
+            machine: keep_fault(before, k),
+            answer: model::OfferAnswer::Fault(k),
+        },
     }
 }
 
