@@ -5,3 +5,4 @@ pub mod Runs
 pub mod Answered
 pub mod Woken
 pub mod Offers
+pub mod Takes

@@ -2,6 +2,7 @@
 mod begin;
 mod budget;
 mod outside;
+mod taking;
 
 pub use begin::Begun;
 pub use begin::start;
@@ -9,3 +10,5 @@ pub use budget::Ran;
 pub use budget::run;
 pub use outside::Offered;
 pub use outside::offer;
+pub use taking::Took;
+pub use taking::take;
