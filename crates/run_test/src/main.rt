@@ -164,110 +164,20 @@ fn load_words(numbers: &[u64], words: &mut [u32]) {
     }
 }
 
-// Writes a number behind its name.
-fn print(name: &[u8], number: u64) {
-    io::write_all(1, name);
-    io::print_hex(1, number, 1);
-}
-
-// Writes a flag.
-fn print_flag(value: bool) {
-    if value {
-        print(b" ", 1);
-    } else {
-        print(b" ", 0);
-    }
-}
-
-// Writes what was at fault.
-fn print_fault(kind: model::FaultKind) {
-    match kind {
-        model::FaultKind::Function(number) => print(b"function ", number as u64),
-        model::FaultKind::Operation(number) => print(b"operation ", number as u64),
-        model::FaultKind::Count(number) => print(b"count ", number as u64),
-        model::FaultKind::Word(number) => print(b"word ", number as u64),
-        model::FaultKind::Place(number) => print(b"place ", number as u64),
-    }
-}
-
-// Writes how a run stood.
-fn print_outcome(outcome: model::Outcome) {
-    match outcome {
-        model::Outcome::Ended(count) => print(b"ended ", count),
-        model::Outcome::Waiting(count) => print(b"waiting ", count),
-        model::Outcome::Spent(count) => print(b"spent ", count),
-        model::Outcome::Fault(count, kind) => {
-            print(b"fault ", count);
-            io::write_all(1, b" ");
-            print_fault(kind);
-        }
-    }
-}
-
-// Writes a run's answer.
-fn print_answer(answer: model::RunAnswer) {
-    match answer {
-        model::RunAnswer::Ran(outcome) => print_outcome(outcome),
-        model::RunAnswer::Short(size) => print(b"11 ", size),
-    }
-}
-
-// Writes the registers.
-fn print_cpu(cpu: model::Cpu) {
-    print(b" / ", cpu.front as u64);
-    print(b" ", cpu.back as u64);
-    print(b" ", cpu.operand as u64);
-    print(b" ", cpu.a as u64);
-    print(b" ", cpu.b as u64);
-    print(b" ", cpu.c as u64);
-    print(b" ", cpu.workspace as u64);
-    print(b" ", cpu.count as u64);
-    print(b" ", cpu.place as u64);
-    print_flag(cpu.running);
-    print_flag(cpu.queued);
-}
-
 // Writes what the start would have fixed.
 fn print_setup(setup: model::Setup) {
-    print(b" / ", setup.code as u64);
-    print(b" ", setup.base as u64);
-    print(b" ", setup.inputs as u64);
-    print(b" ", setup.outputs as u64);
-    print(b" ", setup.slice as u64);
+    report::print(b" / ", setup.code as u64);
+    report::print(b" ", setup.base as u64);
+    report::print(b" ", setup.inputs as u64);
+    report::print(b" ", setup.outputs as u64);
+    report::print(b" ", setup.slice as u64);
     io::write_all(1, b" /");
 }
 
-// Writes a number with its value.
-fn print_value(i: usize, value: u32) {
-    print(b" ", i as u64);
-    print(b"=", value as u64);
-}
-
-// Writes an offer, if it is held.
-fn print_offer(i: usize, held: bool, offer: u32) {
-    if held {
-        print_value(i, offer);
-    }
-}
-
-// Writes the offers that are held.
-fn print_offers(held: &[bool; 8], offers: &[u32; 8]) {
-    let mut i = 0;
-    while i < 8 {
-        print_offer(i, held[i], offers[i]);
-        i += 1;
-    }
-}
-
-// Writes the kept fault.
-fn print_kept(fault: model::Kept) {
+// Writes the kept fault, between its marks.
+fn print_fault(fault: model::Kept) {
     io::write_all(1, b" / ");
-    match fault {
-        model::Kept::Nothing => {
-            io::write_all(1, b"none");
-        }
-        model::Kept::Fault(kind) => print_fault(kind),
-    }
+    report::print_kept(fault);
     io::write_all(1, b" /");
 }
 
@@ -278,16 +188,17 @@ fn print_machine(machine: model::Machine) {
     let offers = machine.offers;
     let held = machine.held;
     let fault = machine.fault;
-    print_cpu(cpu);
+    io::write_all(1, b" / ");
+    report::print_cpu(cpu);
     print_setup(setup);
-    print_offers(&held, &offers);
-    print_kept(fault);
+    report::print_offers(&held, &offers);
+    print_fault(fault);
 }
 
 // Writes a word, if it is no longer what it was.
 fn print_change(i: usize, before: u32, after: u32) {
     if before != after {
-        print_value(i, after);
+        report::print_value(i, after);
     }
 }
 
@@ -305,7 +216,7 @@ fn run(numbers: &[u64], code: &[u8], before: &[u32], memory: &mut [u32]) {
     let ran = machine::run(machine(numbers), code, memory, at(numbers, 34));
     let left = ran.machine;
     let answer = ran.answer;
-    print_answer(answer);
+    report::print_run(answer);
     print_machine(left);
     print_changes(before, memory);
     io::write_all(1, b"\n");
