@@ -3,6 +3,7 @@ ghost use mathlib.Core.Path.{_≡_};
 ghost use Rattle.model.specs.Accept.{accept, answerOf};
 
 mod expr;
+mod kinds;
 mod stmt;
 mod table;
 mod usage;
