@@ -24,7 +24,16 @@ fn generate(table: &[u8], facts: model::Facts, out: &mut [u8]) -> u32
         variables: 0,
         channels: outside,
     };
-    let done = crate::stmt::statement(table, at, 32, scope, &none, &channels, out, 0);
+    let done = crate::stmt::statement(
+        table,
+        at,
+        model::limits::DEPTH,
+        scope,
+        &none,
+        &channels,
+        out,
+        0,
+    );
     done.here
 }
 
@@ -45,11 +54,11 @@ pub fn compile_into(table: &[u8], out: &mut [u8]) -> model::Compiled
 {
     match table::read(table) {
         model::Reading::Accepted(facts) => {
-            if 4096 < facts.words {
+            if model::limits::WORDS < facts.words {
                 return model::Compiled::Refused(10, 0);
             }
             let size = code_size(table, facts) as usize;
-            if 16384 < size {
+            if model::limits::CODE < size {
                 return model::Compiled::Refused(10, 0);
             }
             if out.len() < size {

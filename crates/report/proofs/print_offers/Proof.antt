@@ -1,8 +1,8 @@
--- `run_test::print_offers` is safe and ends; the measure is the offers that are left. Assumes nothing.
+-- `report::print_offers` is safe and ends; the measure is the offers that are left. Assumes nothing.
 use Prim.Native.Nat.{_≤_, _-_}
 use borrow.Author.Needs.{needs}
-use Rattle.run_test.proofs.print_offers.Statement.{statement}
-use Rattle.run_test.proofs.print_offers.Tie as tie
+use Rattle.report.proofs.print_offers.Statement.{statement}
+use Rattle.report.proofs.print_offers.Tie as tie
 
 abbrev Inv-loop : tie.InvT-loop
 Inv-loop held offers i₀ i = i ≤ 8
