@@ -93,7 +93,8 @@ insideInto k d inner sc vs cs s i c =
     (cond (eqb k whileKind) (whileInto d (sc .w) vs (inner sc vs cs) s i c)
     (cond (eqb k seqKind) (seqInto (n .value) (inner sc vs cs) (n .next) c)
     (cond (eqb k parKind) (parInto (n .value) d inner sc vs cs s (n .next) c)
-    (cond (eqb k ifKind) (ifInto (n .value) d (sc .w) vs (inner sc vs cs) s (n .next) c) (altInto (n .value) d inner sc vs cs s (n .next) c)))))
+    (cond (eqb k ifKind) (ifInto (n .value) d (sc .w) vs (inner sc vs cs) s (n .next) c)
+    (altInto (n .value) d inner sc vs cs s (n .next) c)))))
 
 -- a statement, by its kind
 unfoldable pub stmtInto : (depth : ℕ) → Scope → (vs cs : List ℕ) → List ℕ → (at : ℕ) → Code → Wrote

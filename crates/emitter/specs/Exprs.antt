@@ -40,7 +40,8 @@ operatorInto op c =
 unfoldable pub leafInto : (kind w : ℕ) → List ℕ → List ℕ → (at : ℕ) → Code → Wrote
 leafInto k w vs s at c =
     let v = valueAt s at in
-    cond (eqb k constantKind) (written (v .next) (plainInto 0x40 (v .value) c)) (written (v .next) (plainInto 0x70 (localOf vs (v .value) w) c))
+    cond (eqb k constantKind) (written (v .next) (plainInto 0x40 (v .value) c))
+    (written (v .next) (plainInto 0x70 (localOf vs (v .value) w) c))
 
 -- operator, left and right of the table. 01: left, right, then the operation
 abbrev pub sidesInto : (ℕ → Code → Wrote) → List ℕ → (at : ℕ) → Code → Wrote

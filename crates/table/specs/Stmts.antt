@@ -180,7 +180,8 @@ insideAt place k d w inner s n =
 unfoldable pub stmtAt : (depth : ℕ) → Names → List ℕ → (at : ℕ) → StmtRead
 stmtAt zero w s at = withItem NoStmt (deepAt s at) (λ v n. leaf n 2 Nowhere)
 stmtAt (suc d) w s at =
-    withItem NoStmt (betweenAt 0 lastStatement s at) (λ k n. cond (ltb k varKind) (simpleAt k d w s n) (insideAt at k d w (λ v i. stmtAt d v s i) s n))
+    withItem NoStmt (betweenAt 0 lastStatement s at) (λ k n.
+    cond (ltb k varKind) (simpleAt k d w s n) (insideAt at k d w (λ v i. stmtAt d v s i) s n))
 
 -- the same by its parts
 unfoldable pub partIn : (kind depth : ℕ) → Names → List ℕ → (at : ℕ) → StmtRead

@@ -40,4 +40,5 @@ unfoldable pub tableAt : List ℕ → Reading
 tableAt s =
     cond (eqb (length s) 0) (Refused 1 0)
     (cond (ltb tableLimit (length s)) (Refused 1 0)
-    (withItem Refused (betweenAt 0 channelLimit s 0) (λ ins n. withItem Refused (betweenAt 0 channelLimit s n) (λ outs m. bodyAt ins outs s m))))
+    (withItem Refused (betweenAt 0 channelLimit s 0) (λ ins n.
+    withItem Refused (betweenAt 0 channelLimit s n) (λ outs m. bodyAt ins outs s m))))
