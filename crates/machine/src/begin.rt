@@ -126,14 +126,14 @@ pub fn start(
         ⌜ now (memory .exit) ≡ starting (now (code .entry)) (now (memory .entry)) w inputs outputs slice .memory ⌝ }
     ensures refusal { λ r. ⌜ refusedStart (r .answer) ≡ startRefusal (now (code .entry)) (now (memory .entry)) w inputs outputs slice ⌝ }
 {
-    if slice == 0 || 65535 < slice {
+    if slice == 0 || model::limits::SLICE < slice {
         return refused(model::StartAnswer::BadSlice);
     }
-    if 8 < inputs || 8 < outputs {
+    if model::limits::START_CHANNELS < inputs || model::limits::START_CHANNELS < outputs {
         return refused(model::StartAnswer::BadCount);
     }
     let size = w as u64 + inputs as u64 + outputs as u64;
-    if 4096 < size || 16384 < code.len() {
+    if model::limits::WIDE_WORDS < size || model::limits::CODE < code.len() {
         return refused(model::StartAnswer::TooLarge);
     }
     if (memory.len() as u64) < size {

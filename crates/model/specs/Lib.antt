@@ -1,4 +1,5 @@
 pub mod Word
+pub mod Limits
 pub mod Number
 pub mod Syntax
 pub mod Reader

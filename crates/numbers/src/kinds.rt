@@ -1,5 +1,5 @@
-// The numbers of document 01's kinds ("The program table"). Their order is used too: the kinds before VAR have no statements inside, VAR and
-// CHAN declare names, SEQ and PAR have statements alone, IF and WHILE have conditions before them, an ALT has guards.
+// The numbers of document 01's kinds ("The program table"). Their order is used too: the kinds before VAR have no statements inside, VAR
+// and CHAN declare names, SEQ and PAR have statements alone, IF and WHILE have conditions before them, an ALT has guards.
 
 // Statements.
 pub const SKIP: u32 = 0;

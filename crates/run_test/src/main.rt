@@ -166,18 +166,18 @@ fn load_words(numbers: &[u64], words: &mut [u32]) {
 
 // Writes what the start would have fixed.
 fn print_setup(setup: model::Setup) {
-    report::print(b" / ", setup.code as u64);
-    report::print(b" ", setup.base as u64);
-    report::print(b" ", setup.inputs as u64);
-    report::print(b" ", setup.outputs as u64);
-    report::print(b" ", setup.slice as u64);
+    show::print(b" / ", setup.code as u64);
+    show::print(b" ", setup.base as u64);
+    show::print(b" ", setup.inputs as u64);
+    show::print(b" ", setup.outputs as u64);
+    show::print(b" ", setup.slice as u64);
     io::write_all(1, b" /");
 }
 
 // Writes the kept fault, between its marks.
 fn print_fault(fault: model::Kept) {
     io::write_all(1, b" / ");
-    report::print_kept(fault);
+    show::print_kept(fault);
     io::write_all(1, b" /");
 }
 
@@ -189,16 +189,16 @@ fn print_machine(machine: model::Machine) {
     let held = machine.held;
     let fault = machine.fault;
     io::write_all(1, b" / ");
-    report::print_cpu(cpu);
+    show::print_cpu(cpu);
     print_setup(setup);
-    report::print_offers(&held, &offers);
+    show::print_offers(&held, &offers);
     print_fault(fault);
 }
 
 // Writes a word, if it is no longer what it was.
 fn print_change(i: usize, before: u32, after: u32) {
     if before != after {
-        report::print_value(i, after);
+        show::print_value(i, after);
     }
 }
 
@@ -216,7 +216,7 @@ fn run(numbers: &[u64], code: &[u8], before: &[u32], memory: &mut [u32]) {
     let ran = machine::run(machine(numbers), code, memory, at(numbers, 34));
     let left = ran.machine;
     let answer = ran.answer;
-    report::print_run(answer);
+    show::print_run(answer);
     print_machine(left);
     print_changes(before, memory);
     io::write_all(1, b"\n");

@@ -1,8 +1,8 @@
--- `report::print_offers` is safe and ends; the measure is the offers that are left. Assumes nothing.
+-- `show::print_offers` is safe and ends; the measure is the offers that are left. Assumes nothing.
 use Prim.Native.Nat.{_≤_, _-_}
 use borrow.Author.Needs.{needs}
-use Rattle.report.proofs.print_offers.Statement.{statement}
-use Rattle.report.proofs.print_offers.Tie as tie
+use Rattle.show.proofs.print_offers.Statement.{statement}
+use Rattle.show.proofs.print_offers.Tie as tie
 
 abbrev Inv-loop : tie.InvT-loop
 Inv-loop held offers i₀ i = i ≤ 8
