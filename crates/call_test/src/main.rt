@@ -144,7 +144,7 @@ fn print_start(answer: model::StartAnswer) {
         model::StartAnswer::TooLarge => {
             io::write_all(1, b"10 0");
         }
-        model::StartAnswer::Short(size) => report::print(b"11 ", size),
+        model::StartAnswer::Short(size) => show::print(b"11 ", size),
     }
 }
 
@@ -154,10 +154,10 @@ fn print_offer(answer: model::OfferAnswer) {
         model::OfferAnswer::Offered => {
             io::write_all(1, b"offered");
         }
-        model::OfferAnswer::Short(size) => report::print(b"11 ", size),
+        model::OfferAnswer::Short(size) => show::print(b"11 ", size),
         model::OfferAnswer::Fault(kind) => {
             io::write_all(1, b"fault ");
-            report::print_fault(kind);
+            show::print_fault(kind);
         }
         model::OfferAnswer::NoChannel => {
             io::write_all(1, b"13");
@@ -171,14 +171,14 @@ fn print_offer(answer: model::OfferAnswer) {
 // Writes a take's answer.
 fn print_take(answer: model::TakeAnswer) {
     match answer {
-        model::TakeAnswer::Taken(value) => report::print(b"taken ", value as u64),
+        model::TakeAnswer::Taken(value) => show::print(b"taken ", value as u64),
         model::TakeAnswer::Nothing => {
             io::write_all(1, b"none");
         }
-        model::TakeAnswer::Short(size) => report::print(b"11 ", size),
+        model::TakeAnswer::Short(size) => show::print(b"11 ", size),
         model::TakeAnswer::Fault(kind) => {
             io::write_all(1, b"fault ");
-            report::print_fault(kind);
+            show::print_fault(kind);
         }
         model::TakeAnswer::NoChannel => {
             io::write_all(1, b"13");
@@ -207,7 +207,7 @@ fn run(machine: model::Machine, code: &[u8], memory: &mut [u32], budget: u64) ->
     let ran = machine::run(machine, code, memory, budget);
     let left = ran.machine;
     let answer = ran.answer;
-    report::print_run(answer);
+    show::print_run(answer);
     left
 }
 
@@ -322,7 +322,7 @@ fn refused(list: List, number: u32, place: usize, numbers: usize) -> List {
     let machine = list.machine;
     io::write_all(1, b"refused ");
     io::print_decimal(1, number as u64);
-    report::print(b" at ", place as u64);
+    show::print(b" at ", place as u64);
     answered(list, machine, numbers)
 }
 
@@ -440,11 +440,11 @@ fn print_machine(machine: model::Machine) {
     let held = machine.held;
     let fault = machine.fault;
     io::write_all(1, b" / ");
-    report::print_cpu(cpu);
+    show::print_cpu(cpu);
     io::write_all(1, b" /");
-    report::print_offers(&held, &offers);
+    show::print_offers(&held, &offers);
     io::write_all(1, b" / ");
-    report::print_kept(fault);
+    show::print_kept(fault);
 }
 
 // The machine that a refused start gives.
@@ -487,7 +487,7 @@ fn answer(numbers: &[u64]) {
     fill(&mut memory);
     let machine = make_calls(numbers, &mut code, &mut memory);
     print_machine(machine);
-    report::print(b" / ", sum(&memory));
+    show::print(b" / ", sum(&memory));
     io::write_all(1, b"\n");
 }
 
