@@ -1,0 +1,7 @@
+// The bench program's text (document 01, "The bench program"), handed out piece by piece.
+mod piece;
+mod stage;
+
+pub use piece::Piece;
+pub use stage::Report;
+pub use stage::Stage;
