@@ -1,11 +1,11 @@
 -- The bench program's text by its pieces: what each turn gives, and what is still to come.
-use Prim.Native.Nat.{ℕ, suc, _+_, _-_, _≤_}
+use Prim.Native.Nat.{ℕ, suc, _+_, _-_, _*_}
 use mathlib.Core.Path.{_≡_}
 use mathlib.Core.Bool.{Bool, true, false, cond, _||_}
 use mathlib.Core.List.{List, [], _∷_, _++_}
 use lib.ListN.{length, take, drop, getD}
 use lib.Dec.{ltb, eqb}
-use Rattle.model.specs.Run.{After, run}
+use Rattle.model.specs.Run.{run}
 use Rattle.model.specs.Outside.{take as takeFrom}
 use Rattle.model.specs.Word.{signed}
 use Rattle.model.specs.Bench.{ascii, hex, newline, line, codeLine, refusedLine, signedDecimal, tookOne, takes, benchBudget, onTakes, rounds}
@@ -20,6 +20,7 @@ use Rattle.report.specs.declared.piece.Piece.{Piece}
 use Rattle.report.specs.declared.stage.Stage.{Stage}
 use Rattle.report.specs.declared.stage.Stage.the-variants.{Bytes, Words, Head, Code, Running, Taking, Refused, Done}
 use Rattle.report.specs.declared.stage.Report.{Report}
+use Rattle.report.specs.declared.turn.Turn.{Turn}
 
 -- a piece's text
 abbrev pub textIn : Piece → List ℕ
@@ -73,61 +74,65 @@ taking m s r =
       words = r .words;
     }
 
--- what a turn gives: the report after it, its text, and the memory
+-- what a turn gives: the report after it, its text, the memory, and whether there may be more
 pub record Turned : Type 0 where
   pub report : Report
   pub text : List ℕ
   pub memory : List ℕ
+  pub more : Bool
+
+-- a text, and where the report stands after it
+abbrev pub says : Report → List ℕ → (memory : List ℕ) → Turned
+says r t l = record { report = r; text = t; memory = l; more = true }
 
 -- how a run stood: the last line, or the takes come
-abbrev pub ranTurn : Report → After RunAnswer → Turned
-ranTurn r f =
-    elim (f .answer) [
-      | Ran o ↦ elim o [
-        | Ended n ↦ record { report = after (f .machine) n Done r; text = line "ended " (r .total + n); memory = f .memory }
-        | Waiting n ↦ record { report = after (f .machine) n (Taking 0 false) r; text = []; memory = f .memory }
-        | Spent n ↦ record { report = after (f .machine) n Done r; text = line "spent " (r .total + n); memory = f .memory }
-        | Fault n k ↦ record { report = after (f .machine) n Done r; text = line "fault " (r .total + n); memory = f .memory }
-      ]
-      | Short n ↦ record { report = after (f .machine) 0 Done r; text = []; memory = f .memory }
-    ]
+abbrev pub stoodTurn : Report → Machine → (memory : List ℕ) → Outcome → Turned
+stoodTurn r m l (Ended n) = says (after m n Done r) (line "ended " (r .total + n)) l
+stoodTurn r m l (Waiting n) = says (after m n (Taking 0 false) r) [] l
+stoodTurn r m l (Spent n) = says (after m n Done r) (line "spent " (r .total + n)) l
+stoodTurn r m l (Fault n k) = says (after m n Done r) (line "fault " (r .total + n)) l
 
--- a take gave a value
-abbrev pub gave : TakeAnswer → Bool
-gave (Taken v) = true
-gave Nothing = false
-gave (TakeShort n) = false
-gave (TakeFault f) = false
-gave NoChannel = false
+abbrev pub ranTurn : Report → Machine → (memory : List ℕ) → RunAnswer → Turned
+ranTurn r m l (Ran o) = stoodTurn r m l o
+ranTurn r m l (Short n) = says (after m 0 Done r) [] l
+
+-- whether a take gave a value, or one before it did
+abbrev pub gave : Bool → TakeAnswer → Bool
+gave any (Taken v) = true
+gave any Nothing = any
+gave any (TakeShort n) = any
+gave any (TakeFault f) = any
+gave any NoChannel = any
 
 -- a take: its line, if it had a sender
-abbrev pub tookTurn : Report → ℕ → Bool → After TakeAnswer → Turned
-tookTurn r k any f =
-    record {
-      report = taking (f .machine) (Taking (suc k) (any || gave (f .answer))) r;
-      text = tookOne k (f .answer);
-      memory = f .memory;
-    }
-
--- the report stands elsewhere, after a text
-abbrev said : Report → List ℕ → (memory : List ℕ) → Stage → Turned
-said r t l s = record { report = at s r; text = t; memory = l }
+abbrev pub tookTurn : Report → ℕ → Bool → Machine → (memory : List ℕ) → TakeAnswer → Turned
+tookTurn r k any m l a = says (taking m (Taking (suc k) (gave any a)) r) (tookOne k a) l
 
 -- a turn over the code and the machine's memory
 unfoldable pub turnOf : (prog : List ℕ) → Report → (memory : List ℕ) → Turned
 turnOf prog r l =
+    let f = run (r .machine) prog l (benchBudget - r .total) in
     elim (r .stage) [
-      | Bytes ↦ said r (line "bytes " (length prog)) l Words
-      | Words ↦ said r (line "words " (r .words)) l Head
-      | Head ↦ said r (ascii "code") l (Code 0)
-      | Code i ↦ cond (ltb i (length prog)) (said r (hex (getD prog i 0 ∷ [])) l (Code (suc i))) (said r newline l Running)
-      | Running ↦ cond (eqb (r .left) 0) (said r [] l Done) (ranTurn r (run (r .machine) prog l (benchBudget - r .total)))
+      | Bytes ↦ says (at Words r) (line "bytes " (length prog)) l
+      | Words ↦ says (at Head r) (line "words " (r .words)) l
+      | Head ↦ says (at (Code 0) r) (ascii "code") l
+      | Code i ↦ cond (ltb i (length prog)) (says (at (Code (suc i)) r) (hex (getD prog i 0 ∷ [])) l) (says (at Running r) newline l)
+      | Running ↦ cond (eqb (r .left) 0) (says (at Done r) [] l) (ranTurn r (f .machine) (f .memory) (f .answer))
       | Taking k any ↦
-          cond (ltb k (r .outputs)) (tookTurn r k any (takeFrom (r .machine) l k))
-          (cond any (said r [] l Running) (said r (line "waiting " (r .total)) l Done))
-      | Refused n p ↦ said r (refusedLine n p) l Done
-      | Done ↦ said r [] l Done
+          let t = takeFrom (r .machine) l k in
+          cond (ltb k (r .outputs)) (tookTurn r k any (t .machine) (t .memory) (t .answer))
+          (cond any (says (at Running r) [] l) (says (at Done r) (line "waiting " (r .total)) l))
+      | Refused n p ↦ says (at Done r) (refusedLine n p) l
+      | Done ↦ record { report = r; text = []; memory = l; more = false }
     ]
+
+-- a turn over lent buffers, of which the report uses the front; nothing is done where they are too short
+unfoldable pub nextOf : (code : List ℕ) → Report → (memory : List ℕ) → Turned
+nextOf code r l =
+    let t = turnOf (take (r .size) code) r (take (r .words) l) in
+    cond (ltb (length code) (r .size) || ltb (length l) (r .words))
+    (record { report = r; text = []; memory = l; more = false })
+    (record { report = t .report; text = t .text; memory = t .memory ++ drop (r .words) l; more = t .more })
 
 -- the rounds that are still to come
 abbrev pub roundsOf : (prog : List ℕ) → Report → Machine → (memory : List ℕ) → List ℕ
@@ -148,3 +153,32 @@ textFrom prog r l =
       | Refused n p ↦ refusedLine n p
       | Done ↦ []
     ]
+
+-- the same over lent buffers
+abbrev pub textOf : (code : List ℕ) → Report → (memory : List ℕ) → List ℕ
+textOf code r l = textFrom (take (r .size) code) r (take (r .words) l)
+
+-- turns that so many rounds can take, each with a run and a take from every output
+abbrev pub roundTurns : (left outputs : ℕ) → ℕ
+roundTurns left o = left * (o + 3)
+
+-- turns that there may be until the end
+abbrev pub turnsLeft : Report → ℕ
+turnsLeft r =
+    elim (r .stage) [
+      | Bytes ↦ 5 + r .size + roundTurns (r .left) (r .outputs)
+      | Words ↦ 4 + r .size + roundTurns (r .left) (r .outputs)
+      | Head ↦ 3 + r .size + roundTurns (r .left) (r .outputs)
+      | Code i ↦ 2 + (r .size - i) + roundTurns (r .left) (r .outputs)
+      | Running ↦ 1 + roundTurns (r .left) (r .outputs)
+      | Taking k any ↦ 2 + (r .outputs - k) + roundTurns (r .left) (r .outputs)
+      | Refused n p ↦ 1
+      | Done ↦ 0
+    ]
+
+-- a turn is as defined
+pub record Gives (t : Turned) (r : Turn) (l : List ℕ) : Type 0 where
+  pub report : r .report ≡ t .report
+  pub text : textIn (r .piece) ≡ t .text
+  pub memory : l ≡ t .memory
+  pub more : r .more ≡ t .more
