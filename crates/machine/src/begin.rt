@@ -48,7 +48,7 @@ fn fresh(setup: model::Setup) -> model::Machine
 }
 
 // The machine with nothing in it.
-fn blank() -> model::Machine
+pub fn blank() -> model::Machine
     ensures { λ r. ⌜ r ≡ blankMachine ⌝ }
 {
     let setup = model::Setup {

@@ -5,6 +5,7 @@ mod outside;
 mod taking;
 
 pub use begin::Begun;
+pub use begin::blank;
 pub use begin::start;
 pub use budget::Ran;
 pub use budget::run;
