@@ -1,19 +1,18 @@
 -- Each turn's text is the front of what was to come, and fewer turns are left after it.
-use Prim.Native.Nat.{ℕ, zero, suc, _+_, _-_, _*_, _≤_, _<_}
+use Prim.Native.Nat.{ℕ, zero, suc, _+_, _-_, _≤_, _<_}
 use native.Mathlib.Omega.{arith}
 use native.Mathlib.Nat.{suc-mul, sub-zero}
-use mathlib.Core.Path.{_≡_, refl, ap, sym, _∙_}
+use mathlib.Core.Path.{_≡_, refl, sym, _∙_}
 use mathlib.Core.Bool.{Bool, true, false, cond, _||_}
 use mathlib.Core.List.{List, [], _∷_, _++_, append-assoc, append-nil}
-use lib.ListN.{length, take, drop, getD}
+use lib.ListN.{length, take, drop}
 use lib.Seq.{drop-cons, take-at, length-take-le}
 use lib.Dec.{ltb, eqb}
-use borrow.Author.Tests.{ltb-true, ltb-false, eqb-true, eqb-false, lt-ltb, le-ltb, eq-eqb, ne-eqb}
+use borrow.Author.Tests.{ltb-true, ltb-false, lt-ltb, le-ltb, ne-eqb}
 use Rattle.model.specs.Run.{After, run}
 use Rattle.model.specs.Outside.{take as takeFrom}
-use Rattle.model.specs.Bench.{ascii, hex, newline, line, codeLine, refusedLine, tookOne, andTakes, takes, benchBudget, onTakes, onRun, rounds}
+use Rattle.model.specs.Bench.{ascii, hex, tookOne, andTakes, takes, benchBudget, onTakes, onRun, rounds}
 use Rattle.model.specs.declared.Machine.{Machine}
-use Rattle.model.specs.declared.Outcome.{Outcome}
 use Rattle.model.specs.declared.Outcome.the-variants.{Ended, Waiting, Spent, Fault}
 use Rattle.model.specs.declared.RunAnswer.{RunAnswer}
 use Rattle.model.specs.declared.RunAnswer.the-variants.{Ran, Short}
@@ -21,7 +20,7 @@ use Rattle.model.specs.declared.TakeAnswer.{TakeAnswer}
 use Rattle.model.specs.declared.TakeAnswer.the-variants.{Taken, Nothing, Short as TakeShort, Fault as TakeFault, NoChannel}
 use Rattle.model.proofs.Cases.{by-bool, of-cond, never}
 use Rattle.model.proofs.Runs.{run-keeps-beyond, take-keeps-beyond}
-use Rattle.report.specs.Texts.{Turned, at, after, taking, says, stoodTurn, ranTurn, gave, tookTurn, turnOf, nextOf, roundsOf}
+use Rattle.report.specs.Texts.{Turned, at, ranTurn, tookTurn, turnOf, nextOf, roundsOf}
 use Rattle.report.specs.Texts.{textFrom, textOf, roundTurns, turnsLeft}
 use Rattle.report.specs.declared.stage.Stage.{Stage}
 use Rattle.report.specs.declared.stage.Stage.the-variants.{Bytes, Words, Head, Code, Running, Taking, Refused, Done}
@@ -179,7 +178,7 @@ module _ (prog : List ℕ) (r : Report) (l : List ℕ) where
   turn-kept Done e = rw e (refl, refl, refl)
 
 -- neither buffer is too short
-both-false : (x y : Bool) → x || y ≡ false → (x ≡ false) × (y ≡ false)
+pub both-false : (x y : Bool) → x || y ≡ false → (x ≡ false) × (y ≡ false)
 both-false true y e = never (cc)
 both-false false y e = (refl, e)
 

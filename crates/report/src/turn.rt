@@ -88,7 +88,7 @@ fn stand(report: Report, machine: model::Machine, outcome: model::Outcome) -> Tu
 
 // The instructions that are left of 65,536.
 fn budget(total: u64) -> u64
-    ensures { λ r. ⌜ r ≡ benchBudget - total ⌝ }
+    ensures { λ r. ⌜ (r ≡ benchBudget - total) × (total + r < 18446744073709551616) ⌝ }
 {
     if total < 65536 {
         return 65536 - total;
