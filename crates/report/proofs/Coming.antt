@@ -34,6 +34,13 @@ Front prog r l t = textFrom prog r l ≡ t .text ++ textFrom prog (t .report) (t
 regroup : (a b c : List ℕ) → a ++ b ++ c ≡ a ++ (b ++ c)
 regroup a b c = append-assoc a b c
 
+-- past a list's end nothing is left
+pub past : (p : List ℕ) (n : ℕ) → length p ≤ n → drop n p ≡ []
+past [] zero h = refl
+past [] (suc n) h = refl
+past (x ∷ xs) zero h = absurd (omega arith)
+past (x ∷ xs) (suc n) h = past xs n (omega arith)
+
 module _ (prog : List ℕ) (r : Report) (l : List ℕ) where
   front-bytes : r .stage ≡ Bytes → Front prog r l (turnOf prog r l)
   unfolding textFrom turnOf
@@ -54,12 +61,6 @@ module _ (prog : List ℕ) (r : Report) (l : List ℕ) where
       by-bool (ltb i (length prog))
       (λ t. rw (e, t, drop-cons prog i 0 (ltb-true i (length prog) t)))
       (λ t. rw (e, t, past prog i (ltb-false i (length prog) t)))
-    where
-      past : (p : List ℕ) (n : ℕ) → length p ≤ n → drop n p ≡ []
-      past [] zero h = refl
-      past [] (suc n) h = refl
-      past (x ∷ xs) zero h = absurd (omega arith)
-      past (x ∷ xs) (suc n) h = past xs n (omega arith)
 
   front-refused : (n p : ℕ) → r .stage ≡ Refused n p → Front prog r l (turnOf prog r l)
   unfolding textFrom turnOf
