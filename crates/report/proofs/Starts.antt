@@ -57,8 +57,15 @@ module _ (table code l : List ℕ) (h : 16384 ≤ length code) (k : 4096 ≤ len
       let q = start-same bytes (base p) (p .inputs) (p .outputs) (well .0) (well .1) (a .2) (a .3) (take n l) (replicate n 0) t
       (length-replicate n 0) in
       let g = start-long bytes (base p) (p .inputs) (p .outputs) (well .0) (well .1) (a .2) (a .3) (take n l) t in
-      rw (le-ltb _ _ h, le-ltb _ _ k, e, b, front-code bytes (drop (length bytes) (take 16384 code)) (drop 16384 code),
-      take-at (s .memory) (drop n l) n g, q)
+      rw (
+        le-ltb _ _ h,
+        le-ltb _ _ k,
+        e,
+        b,
+        front-code bytes (drop (length bytes) (take 16384 code)) (drop 16384 code),
+        take-at (s .memory) (drop n l) n g,
+        q,
+      )
 
   -- what was opened tells the bench program's text
   pub told : {r : Report} {c m : List ℕ} → Opens (openOf table code l) r c m → textOf c r m ≡ bench table
@@ -125,3 +132,11 @@ open-short table code l h = rw (lt-ltb _ _ h) (record { report = refl; code = re
 pub open-small : (table code l : List ℕ) → 16384 ≤ length code → length l < 4096 → Opens (openOf table code l) (refusing 11 4096) code l
 unfolding openOf
 open-small table code l h k = rw (le-ltb _ _ h, lt-ltb _ _ k) (record { report = refl; code = refl; memory = refl })
+
+-- the code is inside its buffer
+pub size-fits :
+    {n : ℕ} {c : List ℕ} (l k : List ℕ) (x : Compilation) → compiledAnswer x ≡ Code n → c ≡ bufferAfter x l ++ k → n ≤ length c
+size-fits l k (refused j r) q d = never (cc)
+size-fits {n} l k (compiled p bytes) q d =
+    let z : length bytes ≡ n = cc in
+    rw d (simp length-append (omega arith))
