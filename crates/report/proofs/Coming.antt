@@ -248,3 +248,36 @@ shorter code r l =
     (λ b.
     let c : r .size ≤ length code = ltb-false _ _ (both-false (ltb (length code) (r .size)) (ltb (length l) (r .words)) b .0) in
     rw b (turn-fewer (take (r .size) code) r (take (r .words) l) (length-take-le (r .size) code c) (r .stage) refl))
+
+-- every run's turn says that there may be more
+ran-more : (r : Report) (m : Machine) (k : List ℕ) (a : RunAnswer) → ranTurn r m k a .more ≡ true
+ran-more r m k (Ran (Ended n)) = refl
+ran-more r m k (Ran (Waiting n)) = refl
+ran-more r m k (Ran (Spent n)) = refl
+ran-more r m k (Ran (Fault n j)) = refl
+ran-more r m k (Short n) = refl
+
+module _ (prog : List ℕ) (r : Report) (l : List ℕ) where
+  turn-last : (s : Stage) → r .stage ≡ s → turnOf prog r l .more ≡ false → textFrom prog r l ≡ []
+  unfolding turnOf textFrom
+  turn-last Bytes e m = never (cc (rw e at m))
+  turn-last Words e m = never (cc (rw e at m))
+  turn-last Head e m = never (cc (rw e at m))
+  turn-last (Code i) e m = by-bool (ltb i (length prog)) (λ b. never (cc (rw (e, b) at m))) (λ b. never (cc (rw (e, b) at m)))
+  turn-last Running e m =
+      let g = run (r .machine) prog l (benchBudget - r .total) in
+      by-bool (eqb (r .left) 0) (λ b. never (cc (rw (e, b) at m)))
+      (λ b. never (cc (rw (e, b) at m, ran-more (at Running r) (g .machine) (g .memory) (g .answer))))
+  turn-last (Taking k any) e m =
+      by-bool (ltb k (r .outputs)) (λ b. never (cc (rw (e, b) at m)))
+      (λ b. by-bool any (λ c. never (cc (rw (e, b, c) at m))) (λ c. never (cc (rw (e, b, c) at m))))
+  turn-last (Refused n p) e m = never (cc (rw e at m))
+  turn-last Done e m = rw e
+
+-- where there is no more and the buffers are long enough, nothing was to come
+pub last :
+    (code : List ℕ) (r : Report) (l : List ℕ) → nextOf code r l .more ≡ false → r .size ≤ length code → r .words ≤ length l
+    → textOf code r l ≡ []
+unfolding nextOf
+last code r l m h k =
+    turn-last (take (r .size) code) r (take (r .words) l) (r .stage) refl (rw (le-ltb _ _ h, le-ltb _ _ k) at m)

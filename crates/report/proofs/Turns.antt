@@ -28,7 +28,7 @@ use Rattle.report.specs.Texts.{textIn, Turned, at, taking, says, ranTurn
 use Rattle.report.specs.declared.stage.Stage.the-variants.{Bytes, Words, Head, Code, Running, Taking, Refused, Done}
 use Rattle.report.specs.declared.stage.Report.{Report}
 use Rattle.report.specs.declared.turn.Turn.{Turn}
-use Rattle.report.proofs.Coming.{both-false, coming, shorter}
+use Rattle.report.proofs.Coming.{both-false, coming, shorter, last}
 
 -- a turn that says a text
 pub said :
@@ -154,6 +154,13 @@ module _ (code : List ℕ) (r : Report) (l : List ℕ) where
   pub promised :
       {x : Turn} {k : List ℕ} → Gives (nextOf code r l) x k
       → Gives (nextOf code r l) x k
-      × ((textOf code r l ≡ textIn (x .piece) ++ textOf code (x .report) k) × (x .more ≡ true → turnsLeft (x .report) < turnsLeft r))
-  promised g =
-      (g, (rw (g .report, g .text, g .memory) (coming code r l), λ i. rw (g .report) (shorter code r l (sym (g .more) ∙ i))))
+      × ((textOf code r l ≡ textIn (x .piece) ++ textOf code (x .report) k)
+      × ((x .more ≡ true → turnsLeft (x .report) < turnsLeft r)
+      × (x .more ≡ false → r .size ≤ length code → r .words ≤ length l → textOf code r l ≡ [])))
+  promised g = (
+    g,
+    (
+      rw (g .report, g .text, g .memory) (coming code r l),
+      (λ i. rw (g .report) (shorter code r l (sym (g .more) ∙ i)), λ i. last code r l (sym (g .more) ∙ i)),
+    ),
+  )

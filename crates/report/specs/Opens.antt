@@ -5,8 +5,8 @@ use mathlib.Core.Bool.{cond}
 use mathlib.Core.List.{List, _++_}
 use lib.ListN.{length, take, drop}
 use lib.Dec.{ltb}
-use Rattle.model.specs.Reader.{Read, program, refused as unread}
-use Rattle.model.specs.Accept.{accept, answerOf}
+use Rattle.model.specs.Reader.{Read, program}
+use Rattle.model.specs.Accept.{answerOf}
 use Rattle.model.specs.Code.{Compilation, compiled, refused, compile, bufferAfter}
 use Rattle.model.specs.Run.{start, blank}
 use Rattle.model.specs.Bench.{benchBudget, benchSlice}

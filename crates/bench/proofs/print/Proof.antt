@@ -22,7 +22,7 @@ same-length c = c .before .before .before .memory .given ∙ c .before .before .
 loop-less : tie.Need-loop-less Inv-loop μ-loop
 loop-less c =
     let t = c .before .before .before .before .before .before .before .next in
-    t .ensures .1 .1 (not-false _ (c .before .before .before .if1 .left))
+    t .ensures .1 .1 .0 (not-false _ (c .before .before .before .if1 .left))
 
 loop-again : tie.Need-loop-again Inv-loop μ-loop
 loop-again c =
