@@ -30,10 +30,6 @@ use Rattle.report.specs.declared.stage.Report.{Report}
 abbrev Front : (prog : List ℕ) → Report → (memory : List ℕ) → Turned → Type 0
 Front prog r l t = textFrom prog r l ≡ t .text ++ textFrom prog (t .report) (t .memory)
 
--- texts one behind the other, put together from the right
-regroup : (a b c : List ℕ) → a ++ b ++ c ≡ a ++ (b ++ c)
-regroup a b c = append-assoc a b c
-
 -- past a list's end nothing is left
 pub past : (p : List ℕ) (n : ℕ) → length p ≤ n → drop n p ≡ []
 past [] zero h = refl
@@ -145,7 +141,8 @@ module _ (prog : List ℕ) (r : Report) (l : List ℕ) where
   front (Code i) e = front-code prog r l i e
   front Running e = front-running (r .left) refl e
   front (Taking k any) e =
-      by-bool (ltb k (r .outputs)) (λ t. front-taking prog r l k any e (ltb-true _ _ t)) (λ t. front-past prog r l k any e (ltb-false _ _ t))
+      by-bool (ltb k (r .outputs)) (λ t. front-taking prog r l k any e (ltb-true _ _ t))
+      (λ t. front-past prog r l k any e (ltb-false _ _ t))
   front (Refused n p) e = front-refused prog r l n p e
   front Done e = front-done prog r l e
 

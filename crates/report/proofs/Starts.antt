@@ -43,7 +43,8 @@ front-code : (bytes code : List ℕ) (c : List ℕ) → take (length bytes) ((by
 front-code bytes code c = rw append-assoc (take-at bytes (code ++ c) (length bytes) refl)
 
 module _ (table code l : List ℕ) (h : 16384 ≤ length code) (k : 4096 ≤ length l) where
-  opened : (x : Compilation) → compile table 16384 ≡ x → let o = openOf table code l in textOf (o .code) (o .report) (o .memory) ≡ bench table
+  opened :
+      (x : Compilation) → compile table 16384 ≡ x → let o = openOf table code l in textOf (o .code) (o .report) (o .memory) ≡ bench table
   unfolding openOf bench textFrom
   opened (refused n r) e = rw (le-ltb _ _ h, le-ltb _ _ k, e)
   opened (compiled p bytes) e =

@@ -43,12 +43,12 @@ begunBy f bytes l =
     }
 
 -- by what reading answered
-abbrev pub read : Reading → (bytes memory : List ℕ) → Begun
-read (Accepted f) bytes l = begunBy f bytes l
-read (NotRead n p) bytes l = record { report = refusing n p; memory = l }
+abbrev pub begunOn : Reading → (bytes memory : List ℕ) → Begun
+begunOn (Accepted f) bytes l = begunBy f bytes l
+begunOn (NotRead n p) bytes l = record { report = refusing n p; memory = l }
 
 abbrev pub loaded : Read → (bytes memory : List ℕ) → Begun
-loaded r bytes l = read (answerOf r) bytes l
+loaded r bytes l = begunOn (answerOf r) bytes l
 
 -- a report is as defined
 pub record Begins (b : Begun) (r : Report) (l : List ℕ) : Type 0 where

@@ -41,7 +41,8 @@ returns-7 c =
 returns-8 : tie.Need-returns-8
 returns-8 c =
     let args = c .before .before .before .before .before .args in
-    rw (turn-done (args .code .now) (args .report) (args .memory .now) (c .before .enum-told5 .given .1)) (record { report = refl; text = c .nothing2 .ensures .0; memory = refl; more = refl })
+    rw (turn-done (args .code .now) (args .report) (args .memory .now) (c .before .enum-told5 .given .1))
+    (record { report = refl; text = c .nothing2 .ensures .0; memory = refl; more = refl })
 
 pub advance-spec : {M : Type 1} → statement M
 advance-spec =

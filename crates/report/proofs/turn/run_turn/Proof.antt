@@ -27,7 +27,8 @@ returns-2 c =
     let budget = c .before .before .before .before .before .before .before .before .budget in
     let run = c .before .before .before .before .before .before .before .run in
     let f = run .ensures in
-    ran _ _ _ pre (if1 .left) (budget .ensures .0) (f .0) (f .1 .0) (f .1 .1 .0) (rw (c .before .before .answer .given .1) (c .stand .ensures _))
+    ran _ _ _ pre (if1 .left) (budget .ensures .0) (f .0) (f .1 .0) (f .1 .1 .0)
+    (rw (c .before .before .answer .given .1) (c .stand .ensures _))
 
 returns-3 : tie.Need-returns-3
 returns-3 c =

@@ -14,13 +14,15 @@ returns c prog =
     let if1 = c .before .before .before .before .before .before .before .before .before .if1 in
     let take = c .before .before .before .before .before .before .take in
     let f = take .ensures in
-    took _ _ _ pre (if1 .taken) (f .0) (f .1 .0) (f .1 .1 .0) (c .before .after-take .ensures ∙ rw (c .before .before .gives .ensures)) (c .take-piece .ensures) refl
+    took _ _ _ pre (if1 .taken) (f .0) (f .1 .0) (f .1 .1 .0)
+    (c .before .after-take .ensures ∙ rw (c .before .before .gives .ensures)) (c .take-piece .ensures) refl
 
 returns-2 : tie.Need-returns-2
 returns-2 c prog =
     let pre = c .before .before .before .before .before .before .pre in
     let if1 = c .before .before .before .if1 in
-    said (turn-again _ _ _ pre (omega (arith, if1 .left)) (c .before .before .if2 .taken)) (c .before .nothing .ensures .0) (c .say .ensures _)
+    said (turn-again _ _ _ pre (omega (arith, if1 .left)) (c .before .before .if2 .taken))
+    (c .before .nothing .ensures .0) (c .say .ensures _)
 
 returns-3 : tie.Need-returns-3
 unfolding ascii
