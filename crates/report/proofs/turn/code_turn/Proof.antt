@@ -19,7 +19,8 @@ returns-2 : tie.Need-returns-2
 returns-2 c l =
     let pre = c .before .before .before .before .before .pre in
     let if1 = c .before .before .before .if1 in
-    said (turn-newline _ _ l pre (if1 .left)) (c .before .push .ensures .text ∙ ap (λ t. t ++ 10 ∷ []) (c .before .before .nothing .ensures .0))
+    said (turn-newline _ _ l pre (if1 .left))
+    (c .before .push .ensures .text ∙ ap (λ t. t ++ 10 ∷ []) (c .before .before .nothing .ensures .0))
     (c .say2 .ensures l)
 
 pub code-turn-spec : {M : Type 1} → statement M
