@@ -125,7 +125,8 @@ module _ (m : Machine) (memory : List ℕ) (k v : ℕ) where
 
           module _ {p : ℕ} (a : getD memory (m .setup .base + k) 0 ≡ p) where
             -- no process is at the channel's word
-            pub offer-held : p ≡ notProcess → offer m memory k v ≡ record { answer = Offered; machine = holding m k v; memory = memory; talk = [] }
+            pub offer-held :
+                p ≡ notProcess → offer m memory k v ≡ record { answer = Offered; machine = holding m k v; memory = memory; talk = [] }
             offer-held n = rw (came, offering-held m memory k v i a n)
 
             module _ (n : p ≡ notProcess → ⊥) where

@@ -37,7 +37,8 @@ wakes-quiet :
     (c v : ℕ) (q : Result (Unit {0})) (t : Bool)
     → quiet (next (next q (λ n. communicate c v)) (λ n. cond t (return tt) land)) ≡ quiet (next q (λ n. cond t (return tt) land))
 wakes-quiet c v (done n s) true = refl
-wakes-quiet c v (done n s) false = land-quiet c v s (s .machine .cpu .running) (leb (s .machine .cpu .place) (s .machine .setup .code)) refl refl
+wakes-quiet c v (done n s) false =
+    land-quiet c v s (s .machine .cpu .running) (leb (s .machine .cpu .place) (s .machine .setup .code)) refl refl
 wakes-quiet c v (faults k) t = refl
 
 module _ (x : Rest) (u : Setup) (r : Cpu) where
@@ -55,7 +56,8 @@ module _ (x : Rest) (u : Setup) (r : Cpu) where
       go false m = refl
 
   -- an action that leaves the registers
-  pub wakes-done : (y : Rest) (l : List ℕ) (act : Act (Unit {0})) (t : Bool) → r .running ≡ t → act (world x u r l) ≡ done tt (world y u r l)
+  pub wakes-done :
+      (y : Rest) (l : List ℕ) (act : Act (Unit {0})) (t : Bool) → r .running ≡ t → act (world x u r l) ≡ done tt (world y u r l)
       → waking act (world x u r l) ≡ done tt (world y u r l)
   unfolding waking land
   wakes-done y l act true e d = rw (d, e)

@@ -92,7 +92,8 @@ fn run_machine(
 ) -> Ran
     requires { ⌜ (size ≤ length (now memory)) × (memorySize (machine .setup) ≡ size) × (machine .setup .code ≤ length (now code)) ⌝ }
     requires { ⌜ machine .fault ≡ Nothing ⌝ }
-    ensures { λ r. ⌜ Answers (running machine (now (code .entry)) (now (memory .entry)) budget) (r .answer) (r .machine) (now (memory .exit)) ⌝ }
+    ensures { λ r.
+        ⌜ Answers (running machine (now (code .entry)) (now (memory .entry)) budget) (r .answer) (r .machine) (now (memory .exit)) ⌝ }
 {
     let cpu = machine.cpu;
     let setup = machine.setup;

@@ -1,19 +1,18 @@
 -- Each turn's text is the front of what was to come, and fewer turns are left after it.
-use Prim.Native.Nat.{ℕ, zero, suc, _+_, _-_, _*_, _≤_, _<_}
+use Prim.Native.Nat.{ℕ, zero, suc, _+_, _-_, _≤_, _<_}
 use native.Mathlib.Omega.{arith}
 use native.Mathlib.Nat.{suc-mul, sub-zero}
-use mathlib.Core.Path.{_≡_, refl, ap, sym, _∙_}
+use mathlib.Core.Path.{_≡_, refl, sym, _∙_}
 use mathlib.Core.Bool.{Bool, true, false, cond, _||_}
 use mathlib.Core.List.{List, [], _∷_, _++_, append-assoc, append-nil}
-use lib.ListN.{length, take, drop, getD}
+use lib.ListN.{length, take, drop}
 use lib.Seq.{drop-cons, take-at, length-take-le}
 use lib.Dec.{ltb, eqb}
-use borrow.Author.Tests.{ltb-true, ltb-false, eqb-true, eqb-false, lt-ltb, le-ltb, eq-eqb, ne-eqb}
+use borrow.Author.Tests.{ltb-true, ltb-false, lt-ltb, le-ltb, ne-eqb}
 use Rattle.model.specs.Run.{After, run}
 use Rattle.model.specs.Outside.{take as takeFrom}
-use Rattle.model.specs.Bench.{ascii, hex, newline, line, codeLine, refusedLine, tookOne, andTakes, takes, benchBudget, onTakes, onRun, rounds}
+use Rattle.model.specs.Bench.{ascii, hex, tookOne, andTakes, takes, benchBudget, onTakes, onRun, rounds}
 use Rattle.model.specs.declared.Machine.{Machine}
-use Rattle.model.specs.declared.Outcome.{Outcome}
 use Rattle.model.specs.declared.Outcome.the-variants.{Ended, Waiting, Spent, Fault}
 use Rattle.model.specs.declared.RunAnswer.{RunAnswer}
 use Rattle.model.specs.declared.RunAnswer.the-variants.{Ran, Short}
@@ -21,7 +20,7 @@ use Rattle.model.specs.declared.TakeAnswer.{TakeAnswer}
 use Rattle.model.specs.declared.TakeAnswer.the-variants.{Taken, Nothing, Short as TakeShort, Fault as TakeFault, NoChannel}
 use Rattle.model.proofs.Cases.{by-bool, of-cond, never}
 use Rattle.model.proofs.Runs.{run-keeps-beyond, take-keeps-beyond}
-use Rattle.report.specs.Texts.{Turned, at, after, taking, says, stoodTurn, ranTurn, gave, tookTurn, turnOf, nextOf, roundsOf}
+use Rattle.report.specs.Texts.{Turned, at, ranTurn, tookTurn, turnOf, nextOf, roundsOf}
 use Rattle.report.specs.Texts.{textFrom, textOf, roundTurns, turnsLeft}
 use Rattle.report.specs.declared.stage.Stage.{Stage}
 use Rattle.report.specs.declared.stage.Stage.the-variants.{Bytes, Words, Head, Code, Running, Taking, Refused, Done}
@@ -31,9 +30,12 @@ use Rattle.report.specs.declared.stage.Report.{Report}
 abbrev Front : (prog : List ℕ) → Report → (memory : List ℕ) → Turned → Type 0
 Front prog r l t = textFrom prog r l ≡ t .text ++ textFrom prog (t .report) (t .memory)
 
--- texts one behind the other, put together from the right
-regroup : (a b c : List ℕ) → a ++ b ++ c ≡ a ++ (b ++ c)
-regroup a b c = append-assoc a b c
+-- past a list's end nothing is left
+pub past : (p : List ℕ) (n : ℕ) → length p ≤ n → drop n p ≡ []
+past [] zero h = refl
+past [] (suc n) h = refl
+past (x ∷ xs) zero h = absurd (omega arith)
+past (x ∷ xs) (suc n) h = past xs n (omega arith)
 
 module _ (prog : List ℕ) (r : Report) (l : List ℕ) where
   front-bytes : r .stage ≡ Bytes → Front prog r l (turnOf prog r l)
@@ -55,12 +57,6 @@ module _ (prog : List ℕ) (r : Report) (l : List ℕ) where
       by-bool (ltb i (length prog))
       (λ t. rw (e, t, drop-cons prog i 0 (ltb-true i (length prog) t)))
       (λ t. rw (e, t, past prog i (ltb-false i (length prog) t)))
-    where
-      past : (p : List ℕ) (n : ℕ) → length p ≤ n → drop n p ≡ []
-      past [] zero h = refl
-      past [] (suc n) h = refl
-      past (x ∷ xs) zero h = absurd (omega arith)
-      past (x ∷ xs) (suc n) h = past xs n (omega arith)
 
   front-refused : (n p : ℕ) → r .stage ≡ Refused n p → Front prog r l (turnOf prog r l)
   unfolding textFrom turnOf
@@ -145,7 +141,8 @@ module _ (prog : List ℕ) (r : Report) (l : List ℕ) where
   front (Code i) e = front-code prog r l i e
   front Running e = front-running (r .left) refl e
   front (Taking k any) e =
-      by-bool (ltb k (r .outputs)) (λ t. front-taking prog r l k any e (ltb-true _ _ t)) (λ t. front-past prog r l k any e (ltb-false _ _ t))
+      by-bool (ltb k (r .outputs)) (λ t. front-taking prog r l k any e (ltb-true _ _ t))
+      (λ t. front-past prog r l k any e (ltb-false _ _ t))
   front (Refused n p) e = front-refused prog r l n p e
   front Done e = front-done prog r l e
 
@@ -179,7 +176,7 @@ module _ (prog : List ℕ) (r : Report) (l : List ℕ) where
   turn-kept Done e = rw e (refl, refl, refl)
 
 -- neither buffer is too short
-both-false : (x y : Bool) → x || y ≡ false → (x ≡ false) × (y ≡ false)
+pub both-false : (x y : Bool) → x || y ≡ false → (x ≡ false) × (y ≡ false)
 both-false true y e = never (cc)
 both-false false y e = (refl, e)
 
@@ -248,3 +245,36 @@ shorter code r l =
     (λ b.
     let c : r .size ≤ length code = ltb-false _ _ (both-false (ltb (length code) (r .size)) (ltb (length l) (r .words)) b .0) in
     rw b (turn-fewer (take (r .size) code) r (take (r .words) l) (length-take-le (r .size) code c) (r .stage) refl))
+
+-- every run's turn says that there may be more
+ran-more : (r : Report) (m : Machine) (k : List ℕ) (a : RunAnswer) → ranTurn r m k a .more ≡ true
+ran-more r m k (Ran (Ended n)) = refl
+ran-more r m k (Ran (Waiting n)) = refl
+ran-more r m k (Ran (Spent n)) = refl
+ran-more r m k (Ran (Fault n j)) = refl
+ran-more r m k (Short n) = refl
+
+module _ (prog : List ℕ) (r : Report) (l : List ℕ) where
+  turn-last : (s : Stage) → r .stage ≡ s → turnOf prog r l .more ≡ false → textFrom prog r l ≡ []
+  unfolding turnOf textFrom
+  turn-last Bytes e m = never (cc (rw e at m))
+  turn-last Words e m = never (cc (rw e at m))
+  turn-last Head e m = never (cc (rw e at m))
+  turn-last (Code i) e m = by-bool (ltb i (length prog)) (λ b. never (cc (rw (e, b) at m))) (λ b. never (cc (rw (e, b) at m)))
+  turn-last Running e m =
+      let g = run (r .machine) prog l (benchBudget - r .total) in
+      by-bool (eqb (r .left) 0) (λ b. never (cc (rw (e, b) at m)))
+      (λ b. never (cc (rw (e, b) at m, ran-more (at Running r) (g .machine) (g .memory) (g .answer))))
+  turn-last (Taking k any) e m =
+      by-bool (ltb k (r .outputs)) (λ b. never (cc (rw (e, b) at m)))
+      (λ b. by-bool any (λ c. never (cc (rw (e, b, c) at m))) (λ c. never (cc (rw (e, b, c) at m))))
+  turn-last (Refused n p) e m = never (cc (rw e at m))
+  turn-last Done e m = rw e
+
+-- where there is no more and the buffers are long enough, nothing was to come
+pub last :
+    (code : List ℕ) (r : Report) (l : List ℕ) → nextOf code r l .more ≡ false → r .size ≤ length code → r .words ≤ length l
+    → textOf code r l ≡ []
+unfolding nextOf
+last code r l m h k =
+    turn-last (take (r .size) code) r (take (r .words) l) (r .stage) refl (rw (le-ltb _ _ h, le-ltb _ _ k) at m)

@@ -11,8 +11,8 @@ use crate::stage::Report;
 use crate::stage::Stage;
 use crate::stage::at;
 ghost use mathlib.Core.Path.{_≡_};
-ghost use mathlib.Core.Bool.{true};
-ghost use mathlib.Core.List.{List, _++_};
+ghost use mathlib.Core.Bool.{true, false};
+ghost use mathlib.Core.List.{List, [], _++_};
 ghost use Prim.Native.Nat.{ℕ, _+_, _-_, _≤_, _<_};
 ghost use lib.ListN.{length};
 ghost use Rattle.model.specs.Answers.{instructionsOf};
@@ -88,7 +88,7 @@ fn stand(report: Report, machine: model::Machine, outcome: model::Outcome) -> Tu
 
 // The instructions that are left of 65,536.
 fn budget(total: u64) -> u64
-    ensures { λ r. ⌜ r ≡ benchBudget - total ⌝ }
+    ensures { λ r. ⌜ (r ≡ benchBudget - total) × (total + r < 18446744073709551616) ⌝ }
 {
     if total < 65536 {
         return 65536 - total;
@@ -221,6 +221,9 @@ pub fn next(report: Report, code: &[u8], memory: &mut [u32]) -> Turn
         ⌜ textOf (now (code .entry)) report (now (memory .entry))
         ≡ textIn (r .piece) ++ textOf (now (code .entry)) (r .report) (now (memory .exit)) ⌝ }
     ensures shorter { λ r. ⌜ (r .more ≡ true → turnsLeft (r .report) < turnsLeft report) ⌝ }
+    ensures last { λ r.
+        ⌜ (r .more ≡ false → report .size ≤ length (now (code .entry)) → report .words ≤ length (now (memory .entry))
+        → textOf (now (code .entry)) report (now (memory .entry)) ≡ []) ⌝ }
 {
     let size = report.size;
     let words = report.words;

@@ -36,7 +36,8 @@ returns-3 c =
     let e = s .code-size .ensures in
     let small = rw e at (c .before .if2 .left) in
     let long = rw e at (c .if3 .taken) in
-    rw (room-refused _ _ (λ y. k .shared-slice-known .given y .fits) _ (q .0) (q .1) (q .2) (i .if1 .left) small long, ← e) (refl, (refl, refl))
+    rw (room-refused _ _ (λ y. k .shared-slice-known .given y .fits) _ (q .0) (q .1) (q .2) (i .if1 .left) small long, ← e)
+    (refl, (refl, refl))
 
 returns-4 : tie.Need-returns-4
 returns-4 c =
@@ -50,7 +51,8 @@ returns-4 c =
     let e = s .code-size .ensures in
     let small = rw e at (j .before .if2 .left) in
     let room = rw e at (j .if3 .left) in
-    let a = ap Code e ∙ sym (code-answered _ _ (λ y. k .shared-slice-known .given y .fits) _ (q .0) (q .1) (q .2) (i .if1 .left) small room) in
+    let d = code-answered _ _ (λ y. k .shared-slice-known .given y .fits) _ (q .0) (q .1) (q .2) (i .if1 .left) small room in
+    let a = ap Code e ∙ sym d in
     let b = code-written _ _ (λ y. k .shared-slice-known .given y .fits) _ (q .0) (q .1) (q .2) (i .if1 .left) small room _ refl in
     (a, (ap (λ x. x .out) (g .generate .ensures) ∙ b, ap refusedCompiling a ∙ compile-refuses (compile _ _)))
 

@@ -22,7 +22,8 @@ returns-2 c =
     let args = c .before .before .before .before .before .before .before .before .before .before .args in
     let u = c .unchanged2 .ensures in
     with-number refusedRun (run _ _ _ _) (run-refuses _ _ _ _)
-    (rw (short-memory (args .machine) (args .code .now) (args .memory .now) (args .budget) (omega arith) (omega arith)) (u .0, (u .1, refl)))
+    (rw (short-memory (args .machine) (args .code .now) (args .memory .now) (args .budget) (omega arith) (omega arith))
+    (u .0, (u .1, refl)))
 
 returns-3 : tie.Need-returns-3
 returns-3 c =

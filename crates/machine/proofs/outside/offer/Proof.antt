@@ -24,7 +24,8 @@ returns-2 c =
     let a = args in
     let u = c .unchanged2 .ensures in
     with-number refusedOffer (offer _ _ _ _) (offer-refuses _ _ _ _)
-    (rw (offer-kept (a .machine) (a .memory .now) (a .k) (a .value) (omega arith) (c .before .before .fault .given .1)) (u .0, (u .1, refl)))
+    (rw (offer-kept (a .machine) (a .memory .now) (a .k) (a .value) (omega arith) (c .before .before .fault .given .1))
+    (u .0, (u .1, refl)))
 
 returns-3 : tie.Need-returns-3
 returns-3 c =

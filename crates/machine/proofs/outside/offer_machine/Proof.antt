@@ -35,7 +35,8 @@ returns-2 c =
     let g : memorySize (a .machine .setup) ≤ length (a .memory .now) = omega (arith, h .0, h .1) in
     let i : a .k < a .machine .setup .inputs = omega (arith, if1 .left) in
     let j : a .k < 8 = omega (arith, leb-false 8 (a .k) (if2 .left)) in
-    rw (offer-again (a .machine) (a .memory .now) (a .k) (a .value) g (h .2) i j (c .before .if3 .taken)) (record { answer = u .0; machine = u .1; memory = refl })
+    rw (offer-again (a .machine) (a .memory .now) (a .k) (a .value) g (h .2) i j (c .before .if3 .taken))
+    (record { answer = u .0; machine = u .1; memory = refl })
 
 returns-3 : tie.Need-returns-3
 returns-3 c =

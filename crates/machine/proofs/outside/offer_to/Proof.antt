@@ -55,7 +55,8 @@ returns-3 c =
     let w = pre .1 .1 in
     let d = peek .ensures (args .machine .setup) (h .1) (restOf (args .machine)) (args .machine .cpu) in
     rw (c .settle3 .ensures)
-    (offer-fault _ _ _ _ (omega (arith, h .0, h .1)) (h .2) (i .0) (i .1) (i .2) (w .0) (w .1) (rw (less .ensures, c .before .before .f .given .1) at d))
+    (offer-fault _ _ _ _ (omega (arith, h .0, h .1)) (h .2) (i .0) (i .1) (i .2) (w .0) (w .1)
+    (rw (less .ensures, c .before .before .f .given .1) at d))
 
 pub offer-to-spec : {M : Type 1} → statement M
 offer-to-spec =

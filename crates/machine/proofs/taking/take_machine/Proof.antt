@@ -17,7 +17,8 @@ returns c =
     let h = pre in
     let u = c .same .ensures in
     let g : memorySize (a .machine .setup) ≤ length (a .memory .now) = omega (arith, h .0, h .1) in
-    rw (take-nowhere (a .machine) (a .memory .now) (a .k) g (h .2) (c .before .if1 .taken)) (record { answer = u .0; machine = u .1; memory = refl })
+    rw (take-nowhere (a .machine) (a .memory .now) (a .k) g (h .2) (c .before .if1 .taken))
+    (record { answer = u .0; machine = u .1; memory = refl })
 
 returns-2 : tie.Need-returns-2
 returns-2 c =

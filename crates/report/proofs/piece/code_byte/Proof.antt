@@ -9,7 +9,15 @@ returns c =
     let nothing = c .before .before .before .before .before .nothing in
     let push = c .before .before .before .before .push in
     let hex-digit = c .before .before .before .hex-digit in
-    rw (c .push3 .ensures .text, c .before .before .push2 .ensures .text, push .ensures .text, nothing .ensures .0, hex-digit .ensures, c .before .hex-digit2 .ensures)
+    let push2 = c .before .before .push2 in
+    rw (
+      c .push3 .ensures .text,
+      push2 .ensures .text,
+      push .ensures .text,
+      nothing .ensures .0,
+      hex-digit .ensures,
+      c .before .hex-digit2 .ensures,
+    )
 
 pub code-byte-spec : {M : Type 1} → statement M
 code-byte-spec =

@@ -15,8 +15,10 @@ returns-2 : tie.Need-returns-2
 returns-2 c =
     let args = c .before .before .before .args in
     let p = c .push-digits2 .ensures in
-    let q = c .before .push .ensures in
-    (rw (p .0, q .text, signed-high (args .v) (c .before .before .if1 .left) (omega arith)) (simp append-assoc), omega (arith, p .1, q .long))
+    let q = c .before .push .ensures in (
+      rw (p .0, q .text, signed-high (args .v) (c .before .before .if1 .left) (omega arith)) (simp append-assoc),
+      omega (arith, p .1, q .long),
+    )
 
 pub push-signed-spec : {M : Type 1} → statement M
 push-signed-spec =
