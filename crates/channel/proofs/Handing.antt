@@ -6,7 +6,7 @@ use mathlib.Core.List.{List}
 use lib.ListN.{getD, set}
 use lib.Dec.{ltb, eqb}
 use Rattle.model.specs.Word.{notProcess}
-use Rattle.model.specs.Machine.{World, Act, Result, done, faults, next, _>>_, return, memorySize, poke, release, join, communicate}
+use Rattle.model.specs.Machine.{World, Act, done, faults, _>>_, return, memorySize, poke, release, join, communicate}
 use Rattle.model.specs.Machine.{linkWord, resumeWord, stateWord, queueing}
 use Rattle.model.specs.Execute.{waitAt, outputWord, received, notify, waiting, ready}
 use Rattle.model.specs.Run.{land}
@@ -20,8 +20,8 @@ use Rattle.processor.specs.Quiet.{quiet, Hears}
 use Rattle.processor.specs.declared.memory.Step.{Step}
 use Rattle.processor.specs.declared.memory.Peeked.{Peeked}
 use Rattle.processor.specs.declared.memory.Peeked.the-variants.{Value, Fault as Refused}
-use Rattle.processor.proofs.Laws.{value-inside, fault-outside, undid, next-next, first-place, join-behind, join-first}
-use Rattle.processor.proofs.Talking.{lands, hears}
+use Rattle.processor.proofs.Laws.{value-inside, fault-outside, undid, nothing-after, next-next, first-place, join-behind, join-first}
+use Rattle.processor.proofs.Talking.{lands, hears, after-set, after-poke}
 use Rattle.channel.specs.Channels.{waitTell, hand, outputBehind}
 
 -- a process waits where no other is told
@@ -61,26 +61,7 @@ pub puts :
 unfolding outputWord
 puts s = rw (next-next (poke (s .machine .cpu .workspace) (s .machine .cpu .a) s))
 
--- an action with nothing after it
-nothing-after : (q : Result (Unit {0})) → next q (λ n. return tt) ≡ q
-nothing-after (done n s) = refl
-nothing-after (faults k) = refl
-
 module _ (x : Rest) (u : Setup) where
-  -- actions that come to the same after a word is written, beside communications
-  poked :
-      (f g : Act (Unit {0})) (a v : ℕ) (r : Cpu) (l : List ℕ) → quiet (f (world x u r (set l a v))) ≡ quiet (g (world x u r (set l a v)))
-      → quiet ((do poke a v; f) (world x u r l)) ≡ quiet ((do poke a v; g) (world x u r l))
-  unfolding poke
-  poked f g a v r l e = go (ltb a (memorySize u)) (set l a v) e
-    where
-      go :
-          (t : Bool) (m : List ℕ) → quiet (f (world x u r m)) ≡ quiet (g (world x u r m))
-          → quiet (next (cond t (done (tt {0}) (world x u r m)) (faults (Word a))) (λ n. f))
-          ≡ quiet (next (cond t (done (tt {0}) (world x u r m)) (faults (Word a))) (λ n. g))
-      go true m e = e
-      go false m e = refl
-
   module _ (c v : ℕ) (r : Cpu) (e : r .running ≡ true) (g : r .place ≤ u .code) where
     -- a process is woken and the communication is made
     joined :
@@ -90,7 +71,7 @@ module _ (x : Rest) (u : Setup) where
         let a = linkWord (r .back) in
         let n = queueing (r .front) p true r in
         rw (join-behind x u r l p e q)
-        (poked (do communicate c v; land) (return tt) a p n l (ap quiet (lands _ e g))
+        (after-poke quiet x u (do communicate c v; land) (return tt) a p n l (λ m. ap quiet (lands _ e g))
         ∙ ap quiet (nothing-after (poke a p (world x u n l))))
     joined false l p q = rw (join-first x u r l p e q) (ap quiet (lands _ e g))
 
@@ -100,8 +81,8 @@ module _ (x : Rest) (u : Setup) where
     unfolding received
     handed m p l =
         simp next-next
-        (poked (do poke c notProcess; join p; communicate c v; land) (do poke c notProcess; join p) m v r l
-        (poked (do join p; communicate c v; land) (join p) c notProcess r _ (joined (r .queued) _ p refl)))
+        (after-poke quiet x u (do poke c notProcess; join p; communicate c v; land) (do poke c notProcess; join p) m v r l
+        (λ n. after-poke quiet x u (do join p; communicate c v; land) (join p) c notProcess r n (λ o. joined (r .queued) o p refl)))
 
 module _ (u : Setup) (r : Cpu) {size : ℕ} (a v : ℕ) (l : List ℕ) {m : List ℕ} {p : Peeked} (h : memorySize u ≡ size)
     (e : (p ≡ looked size a l) × (m ≡ written p a v l)) where
@@ -114,7 +95,7 @@ module _ (u : Setup) (r : Cpu) {size : ℕ} (a v : ℕ) (l : List ℕ) {m : List
       let other : Act (Unit {0}) =
       λ w. told (record { offers = w .machine .offers; held = w .machine .held; fault = w .machine .fault; talk = w .talk }) u s n in
       hears (undid a v other h s e g (record { said = λ x. refl; keeps = d .keeps }) i)
-      (λ x. poked x u act other a v r l (rw (← k) (d .said x)))
+      (λ x. after-set quiet x u act other a v r l (rw (← k) (d .said x)))
 
   -- a held offer's value is written
   pub took :

@@ -4,4 +4,5 @@ mod sender;
 mod wait;
 
 pub use receiver::input;
+pub use receiver::receive;
 pub use sender::output;

@@ -19,7 +19,7 @@ ghost use Rattle.processor.specs.Quiet.{Talks, Takes};
 ghost use Rattle.channel.specs.Channels.{insideInput};
 
 // The value of the sender that waits at a channel's word.
-fn receive(memory: &[u32], size: u64, p: u32) -> Peeked
+pub fn receive(memory: &[u32], size: u64, p: u32) -> Peeked
     requires { ⌜ size ≤ length (now memory) ⌝ }
     ensures { λ r. ⌜ Finds size (receiveOf p) (now (memory .entry)) r ⌝ }
 {

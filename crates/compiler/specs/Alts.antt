@@ -13,6 +13,7 @@ use Rattle.compiler.specs.Stmts.{Inner, declarationInto, bodyInto, seqIn
 use Rattle.compiler.specs.declared.stmt.Scope.{Scope}
 use Rattle.compiler.specs.declared.alt.Guard.{Guard}
 use Rattle.compiler.specs.declared.alt.Enabled.{Enabled}
+use Rattle.numbers.specs.Kinds.{varKind, seqKind, parKind, ifKind, whileKind, inputGuardKind}
 
 -- a guard's code so far, and the buffer
 pub record Guarded : Type 0 where
@@ -29,7 +30,7 @@ guardInto d w vs cs s i c =
     let k = valueAt s i in
     let t = exprInto d w vs s (k .next) c in
     let r = operationInto 0 (plainInto 0x10 (localOf cs (valueAt s (t .next) .value) w) (codeOf t)) in
-    cond (eqb (k .value) 0) (guarded (record { next = t .next; here = r .here; waits = true }) (r .out))
+    cond (eqb (k .value) inputGuardKind) (guarded (record { next = t .next; here = r .here; waits = true }) (r .out))
     (guarded (record { next = t .next; here = t .here; waits = false }) (t .out))
 
 -- the place of a guard's statement
@@ -84,22 +85,23 @@ altInto n d inner sc vs cs s i c =
     let end = operationInto 69 (at (low (wt .here + e .enabled .disabling)) (wt .out)) in
     choicesInto n d inner sc vs cs s i (wt .here) (end .here) end
 
--- what follows the kinds 5 to 11, with a generator of the statements inside, which have `depth` left
+-- what follows the kinds from VAR on, with a generator of the statements inside, which have `depth` left
 abbrev pub insideInto : (kind depth : ℕ) → Inner → Scope → (vs cs : List ℕ) → List ℕ → (at : ℕ) → Code → Wrote
 insideInto k d inner sc vs cs s i c =
     let n = valueAt s i in
-    cond (ltb k 7) (declarationInto k inner sc vs cs s i c)
-    (cond (eqb k 10) (whileInto d (sc .w) vs (inner sc vs cs) s i c)
-    (cond (eqb k 7) (seqInto (n .value) (inner sc vs cs) (n .next) c)
-    (cond (eqb k 8) (parInto (n .value) d inner sc vs cs s (n .next) c)
-    (cond (eqb k 9) (ifInto (n .value) d (sc .w) vs (inner sc vs cs) s (n .next) c) (altInto (n .value) d inner sc vs cs s (n .next) c)))))
+    cond (ltb k seqKind) (declarationInto k inner sc vs cs s i c)
+    (cond (eqb k whileKind) (whileInto d (sc .w) vs (inner sc vs cs) s i c)
+    (cond (eqb k seqKind) (seqInto (n .value) (inner sc vs cs) (n .next) c)
+    (cond (eqb k parKind) (parInto (n .value) d inner sc vs cs s (n .next) c)
+    (cond (eqb k ifKind) (ifInto (n .value) d (sc .w) vs (inner sc vs cs) s (n .next) c)
+    (altInto (n .value) d inner sc vs cs s (n .next) c)))))
 
 -- a statement, by its kind
 unfoldable pub stmtInto : (depth : ℕ) → Scope → (vs cs : List ℕ) → List ℕ → (at : ℕ) → Code → Wrote
 stmtInto zero sc vs cs s i c = written i c
 stmtInto (suc d) sc vs cs s i c =
     let k = valueAt s i in
-    cond (ltb (k .value) 5) (simpleInto (k .value) d (sc .w) vs cs s (k .next) c)
+    cond (ltb (k .value) varKind) (simpleInto (k .value) d (sc .w) vs cs s (k .next) c)
     (insideInto (k .value) d (λ sc vs cs j e. stmtInto d sc vs cs s j e) sc vs cs s (k .next) c)
 
 -- the generator of the statements inside, which have `depth` left; below, each part of a statement over it
@@ -150,6 +152,6 @@ choicesAt n d sc vs cs s i dis base c = choicesInto n d (innerAt d s) sc vs cs s
 unfoldable pub altAt : (count depth : ℕ) → Scope → (vs cs : List ℕ) → List ℕ → (at : ℕ) → Code → Wrote
 altAt n d sc vs cs s i c = altInto n d (innerAt d s) sc vs cs s i c
 
--- what follows the kinds 5 to 11
+-- what follows the kinds from VAR on
 unfoldable pub insideAt : (kind depth : ℕ) → Scope → (vs cs : List ℕ) → List ℕ → (at : ℕ) → Code → Wrote
 insideAt k d sc vs cs s i c = insideInto k d (innerAt d s) sc vs cs s i c

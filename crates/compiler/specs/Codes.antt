@@ -9,6 +9,7 @@ use Rattle.emitter.specs.Exprs.{codeOf}
 use Rattle.emitter.specs.Extents.{nextOf}
 use Rattle.compiler.specs.Stmts.{scoped}
 use Rattle.compiler.specs.Alts.{stmtInto}
+use Rattle.model.specs.Limits.{depthLimit}
 
 -- the code into a buffer, and its size. 01: W = the need; outside channel k is word W + k
 unfoldable pub tableInto : List ℕ → Facts → (out : List ℕ) → Code
@@ -16,7 +17,7 @@ tableInto s f o =
     let outside = low (f .inputs + f .outputs) in
     let w = less (f .words) outside in
     let none : List ℕ = replicate 1024 0 in
-    codeOf (stmtInto 32 (scoped w 0 outside) none (declaredWords outside 0 w none) s (nextOf s (nextOf s 0)) (at 0 o))
+    codeOf (stmtInto depthLimit (scoped w 0 outside) none (declaredWords outside 0 w none) s (nextOf s (nextOf s 0)) (at 0 o))
 
 -- the code's size, as the place after it in any buffer
 unfoldable pub sizeOf : List ℕ → Facts → ℕ

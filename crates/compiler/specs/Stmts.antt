@@ -10,10 +10,11 @@ use Rattle.emitter.specs.Emits.{Code, at, plainInto, distanceInto, operationInt
 use Rattle.emitter.specs.Exprs.{Wrote, written, codeOf, exprInto}
 use Rattle.emitter.specs.Extents.{extentAt}
 use Rattle.compiler.specs.declared.stmt.Scope.{Scope}
+use Rattle.numbers.specs.Kinds.{varKind}
 
 -- what a declared word starts as. 01: VAR LDC 0, CHAN the same with MINT
 unfoldable pub firstInto : (kind : ℕ) → Code → Code
-firstInto k c = cond (eqb k 5) (plainInto 0x40 0 c) (operationInto 66 c)
+firstInto k c = cond (eqb k varKind) (plainInto 0x40 0 c) (operationInto 66 c)
 
 -- so many words from the j-th on. 01: then STL j
 unfoldable pub initialInto : (left kind j : ℕ) → Code → Code
@@ -36,7 +37,7 @@ lowered n sc = scoped (sc .w - n) (sc .variables) (sc .channels)
 abbrev pub bodyInto : (kind n : ℕ) → Inner → Scope → (vs cs : List ℕ) → (at : ℕ) → Code → Wrote
 bodyInto k n inner sc vs cs at c =
     let w = sc .w - n in
-    cond (eqb k 5) (inner (scoped w (low (sc .variables + n)) (sc .channels)) (declaredWords n (sc .variables) w vs) cs at c)
+    cond (eqb k varKind) (inner (scoped w (low (sc .variables + n)) (sc .channels)) (declaredWords n (sc .variables) w vs) cs at c)
     (inner (scoped w (sc .variables) (low (sc .channels + n))) vs (declaredWords n (sc .channels) w cs) at c)
 
 -- 01, VAR and CHAN: AJW -n, the words, body, AJW n

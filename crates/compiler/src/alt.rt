@@ -36,7 +36,7 @@ pub fn gen_guard(
 {
     let kind = numbers::value_at(table, at);
     let test = emitter::gen_expr(table, kind.next, depth, w, vars, out, here);
-    if kind.value == 0 {
+    if kind.value == numbers::kinds::INPUT_GUARD {
         let channel = numbers::value_at(table, test.next);
         let word = emitter::local(chans, channel.value, w);
         let second = emitter::plain(out, test.here, instruction::codes::LDLP, word);

@@ -2,6 +2,8 @@
 ghost use mathlib.Core.Path.{_≡_};
 ghost use lib.ListN.{length};
 ghost use Rattle.model.specs.Code.{compile as compilation, compiledAnswer, bufferAfter, givenBack, numberOf, returnedOf};
+ghost use Rattle.model.specs.Answers.{refusedCompiling};
+ghost use Rattle.model.specs.Refusals.{compileRefusal};
 ghost use Rattle.emitter.specs.Emits.{at as standing};
 ghost use Rattle.compiler.specs.Codes.{tableInto, sizeOf};
 
@@ -22,7 +24,16 @@ fn generate(table: &[u8], facts: model::Facts, out: &mut [u8]) -> u32
         variables: 0,
         channels: outside,
     };
-    let done = crate::stmt::statement(table, at, 32, scope, &none, &channels, out, 0);
+    let done = crate::stmt::statement(
+        table,
+        at,
+        model::limits::DEPTH,
+        scope,
+        &none,
+        &channels,
+        out,
+        0,
+    );
     done.here
 }
 
@@ -39,14 +50,15 @@ pub fn compile_into(table: &[u8], out: &mut [u8]) -> model::Compiled
     ensures answer { λ r. ⌜ r ≡ compiledAnswer (compilation (now (table .entry)) (length (now (out .entry)))) ⌝ }
     ensures buffer { λ r.
         ⌜ now (out .exit) ≡ bufferAfter (compilation (now (table .entry)) (length (now (out .entry)))) (now (out .entry)) ⌝ }
+    ensures refusal { λ r. ⌜ refusedCompiling r ≡ compileRefusal (compilation (now (table .entry)) (length (now (out .entry)))) ⌝ }
 {
     match table::read(table) {
         model::Reading::Accepted(facts) => {
-            if 4096 < facts.words {
+            if model::limits::WORDS < facts.words {
                 return model::Compiled::Refused(10, 0);
             }
             let size = code_size(table, facts) as usize;
-            if 16384 < size {
+            if model::limits::CODE < size {
                 return model::Compiled::Refused(10, 0);
             }
             if out.len() < size {

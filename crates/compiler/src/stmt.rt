@@ -20,7 +20,7 @@ pub struct Scope {
 fn put_first(out: &mut [u8], here: u32, kind: u32) -> u32
     ensures { λ r. ⌜ standing r (now (out .exit)) ≡ firstInto kind (standing here (now (out .entry))) ⌝ }
 {
-    if kind == 5 {
+    if kind == numbers::kinds::VAR {
         return emitter::plain(out, here, instruction::codes::LDC, 0);
     }
     emitter::operation(out, here, instruction::codes::MINT)
@@ -57,7 +57,7 @@ fn body(
         (standing here (now (out .entry))) ⌝ }
 {
     let w = emitter::below(scope.w, n);
-    if kind == 5 {
+    if kind == numbers::kinds::VAR {
         let more = emitter::declared(vars, scope.variables, n, w);
         let inner = Scope {
             w: w,
@@ -514,7 +514,7 @@ fn alt(
     )
 }
 
-// What follows the kinds 5 to 11; the statements inside have `depth` left.
+// What follows the kinds from VAR on; the statements inside have `depth` left.
 fn inside(
     table: &[u8],
     at: usize,
@@ -531,22 +531,22 @@ fn inside(
         ≡ insideAt kind depth scope (now (vars .entry)) (now (chans .entry)) (now (table .entry)) at
         (standing here (now (out .entry))) ⌝ }
 {
-    if kind < 7 {
+    if kind < numbers::kinds::SEQ {
         return declaration(table, at, kind, depth, scope, vars, chans, out, here);
     }
-    if kind == 10 {
+    if kind == numbers::kinds::WHILE {
         return repetition(table, at, depth, scope, vars, chans, out, here);
     }
     let count = numbers::value_at(table, at);
     let next = count.next;
     let n = count.value;
-    if kind == 7 {
+    if kind == numbers::kinds::SEQ {
         return seq(table, next, n, depth, scope, vars, chans, out, here);
     }
-    if kind == 8 {
+    if kind == numbers::kinds::PAR {
         return par(table, next, n, depth, scope, vars, chans, out, here);
     }
-    if kind == 9 {
+    if kind == numbers::kinds::IF {
         return pairs(table, next, n, depth, scope, vars, chans, out, here);
     }
     alt(table, next, n, depth, scope, vars, chans, out, here)
@@ -575,7 +575,7 @@ pub fn statement(
         };
     }
     let kind = numbers::value_at(table, at);
-    if kind.value < 5 {
+    if kind.value < numbers::kinds::VAR {
         return emitter::gen_simple(
             table,
             kind.next,

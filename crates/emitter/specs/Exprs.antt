@@ -7,6 +7,7 @@ use lib.Dec.{ltb, eqb}
 use Rattle.numbers.specs.Items.{valueAt}
 use Rattle.emitter.specs.Emits.{Code, at, plainInto, operationInto, localOf}
 use Rattle.emitter.specs.declared.expr.Done.{Done}
+use Rattle.numbers.specs.Kinds.{constantKind, notKind, eqOperator}
 
 -- the place after what was compiled, the place after its code, and the buffer
 pub record Wrote : Type 0 where
@@ -33,13 +34,14 @@ operationFor op = getD (82 ∷ 4 ∷ 8 ∷ 9 ∷ 4 ∷ 70 ∷ 75 ∷ []) op 51
 -- 01: EQ is DIFF, EQC 0
 unfoldable pub operatorInto : ℕ → Code → Code
 operatorInto op c =
-    cond (eqb op 4) (plainInto 0xc0 0 (operationInto (operationFor op) c)) (operationInto (operationFor op) c)
+    cond (eqb op eqOperator) (plainInto 0xc0 0 (operationInto (operationFor op) c)) (operationInto (operationFor op) c)
 
--- 01: LDC a constant (kind 0), LDL a variable (kind 1)
+-- 01: LDC a constant, LDL a variable
 unfoldable pub leafInto : (kind w : ℕ) → List ℕ → List ℕ → (at : ℕ) → Code → Wrote
 leafInto k w vs s at c =
     let v = valueAt s at in
-    cond (eqb k 0) (written (v .next) (plainInto 0x40 (v .value) c)) (written (v .next) (plainInto 0x70 (localOf vs (v .value) w) c))
+    cond (eqb k constantKind) (written (v .next) (plainInto 0x40 (v .value) c))
+    (written (v .next) (plainInto 0x70 (localOf vs (v .value) w) c))
 
 -- operator, left and right of the table. 01: left, right, then the operation
 abbrev pub sidesInto : (ℕ → Code → Wrote) → List ℕ → (at : ℕ) → Code → Wrote
@@ -53,13 +55,13 @@ sidesInto inner s at c =
 abbrev pub notInto : Wrote → Wrote
 notInto r = written (r .next) (plainInto 0xc0 0 (codeOf r))
 
--- an expression by its kind: constant or variable, NOT (2), operator (3)
+-- an expression by its kind: constant or variable, NOT, operator
 unfoldable pub exprInto : (depth w : ℕ) → List ℕ → List ℕ → (at : ℕ) → Code → Wrote
 exprInto zero w vs s at c = written at c
 exprInto (suc d) w vs s at c =
     let k = valueAt s at in
-    cond (ltb (k .value) 2) (leafInto (k .value) w vs s (k .next) c)
-    (cond (eqb (k .value) 2) (notInto (exprInto d w vs s (k .next) c)) (sidesInto (λ i e. exprInto d w vs s i e) s (k .next) c))
+    cond (ltb (k .value) notKind) (leafInto (k .value) w vs s (k .next) c)
+    (cond (eqb (k .value) notKind) (notInto (exprInto d w vs s (k .next) c)) (sidesInto (λ i e. exprInto d w vs s i e) s (k .next) c))
 
 -- an operator with expressions inside, which have `depth` left
 unfoldable pub binaryInto : (depth w : ℕ) → List ℕ → List ℕ → (at : ℕ) → Code → Wrote

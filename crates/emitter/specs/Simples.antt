@@ -7,6 +7,7 @@ use Rattle.model.specs.Word.{minus}
 use Rattle.numbers.specs.Items.{valueAt}
 use Rattle.emitter.specs.Emits.{Code, plainInto, operationInto, localOf}
 use Rattle.emitter.specs.Exprs.{Wrote, written, codeOf, exprInto}
+use Rattle.numbers.specs.Kinds.{skipKind, stopKind, assignKind, inputKind}
 
 -- 01, input: LDLP variable, LDLP channel, LDC 4, IN
 unfoldable pub inputInto : (channel variable : ℕ) → Code → Code
@@ -37,10 +38,10 @@ outInto d w vs cs s at c =
     let e = exprInto d w vs s (ch .next) c in
     written (e .next) (outputInto (localOf cs (ch .value) w) (codeOf e))
 
--- kinds 0 to 4: SKIP has no code. 01: STOP is STOPP
+-- the kinds before VAR: SKIP has no code. 01: STOP is STOPP
 unfoldable pub simpleInto : (kind depth w : ℕ) → (vs cs : List ℕ) → List ℕ → (at : ℕ) → Code → Wrote
 simpleInto k d w vs cs s at c =
-    cond (eqb k 0) (written at c)
-    (cond (eqb k 1) (written at (operationInto 21 c))
-    (cond (eqb k 2) (assignInto d w vs s at c)
-    (cond (eqb k 3) (inInto w vs cs s at c) (outInto d w vs cs s at c))))
+    cond (eqb k skipKind) (written at c)
+    (cond (eqb k stopKind) (written at (operationInto 21 c))
+    (cond (eqb k assignKind) (assignInto d w vs s at c)
+    (cond (eqb k inputKind) (inInto w vs cs s at c) (outInto d w vs cs s at c))))

@@ -14,13 +14,13 @@ fn operation_of(operator: u32) -> u32
     ensures { λ r. ⌜ r ≡ operationFor operator ⌝ }
 {
     match operator {
-        0 => instruction::codes::SUM,
-        1 => instruction::codes::DIFF,
-        2 => instruction::codes::PROD,
-        3 => instruction::codes::GT,
-        4 => instruction::codes::DIFF,
-        5 => instruction::codes::AND,
-        6 => instruction::codes::OR,
+        numbers::kinds::PLUS => instruction::codes::SUM,
+        numbers::kinds::MINUS => instruction::codes::DIFF,
+        numbers::kinds::TIMES => instruction::codes::PROD,
+        numbers::kinds::GT => instruction::codes::GT,
+        numbers::kinds::EQ => instruction::codes::DIFF,
+        numbers::kinds::AND => instruction::codes::AND,
+        numbers::kinds::OR => instruction::codes::OR,
         _ => instruction::codes::XOR,
     }
 }
@@ -30,13 +30,13 @@ fn gen_operator(operator: u32, out: &mut [u8], here: u32) -> u32
     ensures { λ r. ⌜ standing r (now (out .exit)) ≡ operatorInto operator (standing here (now (out .entry))) ⌝ }
 {
     let next = crate::emit::operation(out, here, operation_of(operator));
-    if operator == 4 {
+    if operator == numbers::kinds::EQ {
         return crate::emit::plain(out, next, instruction::codes::EQC, 0);
     }
     next
 }
 
-// A constant (kind 0) or a variable (kind 1).
+// A constant or a variable.
 fn gen_leaf(
     table: &[u8],
     at: usize,
@@ -51,7 +51,7 @@ fn gen_leaf(
         ≡ leafInto kind w (now (variables .entry)) (now (table .entry)) at (standing here (now (out .entry))) ⌝ }
 {
     let leaf = numbers::value_at(table, at);
-    if kind == 0 {
+    if kind == numbers::kinds::CONSTANT {
         let end = crate::emit::plain(out, here, instruction::codes::LDC, leaf.value);
         return Done {
             next: leaf.next,
@@ -111,10 +111,10 @@ pub fn gen_expr(
         };
     }
     let kind = numbers::value_at(table, at);
-    if kind.value < 2 {
+    if kind.value < numbers::kinds::NOT {
         return gen_leaf(table, kind.next, kind.value, w, variables, out, here);
     }
-    if kind.value == 2 {
+    if kind.value == numbers::kinds::NOT {
         let inner = gen_expr(table, kind.next, depth - 1, w, variables, out, here);
         let end = crate::emit::plain(out, inner.here, instruction::codes::EQC, 0);
         return Done {

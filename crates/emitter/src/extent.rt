@@ -23,10 +23,10 @@ pub fn skip_expr(table: &[u8], at: usize, depth: u64) -> usize
         return at;
     }
     let kind = numbers::value_at(table, at);
-    if kind.value < 2 {
+    if kind.value < numbers::kinds::NOT {
         return numbers::skip(table, kind.next);
     }
-    if kind.value == 2 {
+    if kind.value == numbers::kinds::NOT {
         return skip_expr(table, kind.next, depth - 1);
     }
     let left = numbers::skip(table, kind.next);
@@ -34,15 +34,15 @@ pub fn skip_expr(table: &[u8], at: usize, depth: u64) -> usize
     skip_expr(table, right, depth - 1)
 }
 
-// What follows the kinds 0 to 4.
+// What follows the kinds before VAR.
 fn simple_extent(table: &[u8], at: usize, kind: u32, depth: u64) -> Extent
     ensures { λ r. ⌜ r ≡ simpleExtent kind depth (now (table .entry)) at ⌝ }
 {
-    if kind < 2 {
+    if kind < numbers::kinds::ASSIGN {
         return Extent { next: at, need: 2 };
     }
     let second = numbers::skip(table, at);
-    if kind == 3 {
+    if kind == numbers::kinds::INPUT {
         let third = numbers::skip(table, second);
         return Extent {
             next: third,
@@ -50,7 +50,7 @@ fn simple_extent(table: &[u8], at: usize, kind: u32, depth: u64) -> Extent
         };
     }
     let next = skip_expr(table, second, depth);
-    if kind == 2 {
+    if kind == numbers::kinds::ASSIGN {
         return Extent {
             next: next,
             need: 2,
@@ -68,21 +68,22 @@ fn skip_guard(table: &[u8], at: usize, depth: u64) -> usize
 {
     let kind = numbers::value_at(table, at);
     let channel = skip_expr(table, kind.next, depth);
-    if kind.value == 0 {
+    if kind.value == numbers::kinds::INPUT_GUARD {
         let variable = numbers::skip(table, channel);
         return numbers::skip(table, variable);
     }
     channel
 }
 
-// The place after what stands before the statement of a part: nothing (7, 8), a condition (9, 10), a guard (11).
+// The place after what stands before the statement of a part: nothing (SEQ, PAR), a condition (IF, WHILE),
+// a guard (ALT).
 fn skip_head(table: &[u8], at: usize, kind: u32, depth: u64) -> usize
     ensures { λ r. ⌜ r ≡ skipHead kind depth (now (table .entry)) at ⌝ }
 {
-    if kind < 9 {
+    if kind < numbers::kinds::IF {
         return at;
     }
-    if kind < 11 {
+    if kind < numbers::kinds::ALT {
         return skip_expr(table, at, depth);
     }
     skip_guard(table, at, depth)
@@ -92,7 +93,7 @@ fn skip_head(table: &[u8], at: usize, kind: u32, depth: u64) -> usize
 fn joined(kind: u32, before: u32, part: u32) -> u32
     ensures { λ r. ⌜ r ≡ needed kind before part ⌝ }
 {
-    if kind == 8 {
+    if kind == numbers::kinds::PAR {
         return word::plus(before, part);
     }
     larger(before, part)
@@ -114,15 +115,15 @@ fn parts_extent(table: &[u8], at: usize, kind: u32, left: u32, depth: u64, need:
     parts_extent(table, part.next, kind, left - 1, depth, more)
 }
 
-// What follows the kinds 5 to 11.
+// What follows the kinds from VAR on.
 fn inside_extent(table: &[u8], at: usize, kind: u32, depth: u64) -> Extent
     ensures { λ r. ⌜ r ≡ insideExtent kind depth (now (table .entry)) at ⌝ }
 {
-    if kind == 10 {
+    if kind == numbers::kinds::WHILE {
         return parts_extent(table, at, kind, 1, depth, 2);
     }
     let count = numbers::value_at(table, at);
-    if kind < 7 {
+    if kind < numbers::kinds::SEQ {
         let body = measure(table, count.next, depth);
         let need = word::plus(count.value, body.need);
         return Extent {
@@ -130,7 +131,7 @@ fn inside_extent(table: &[u8], at: usize, kind: u32, depth: u64) -> Extent
             need: need,
         };
     }
-    if kind == 11 {
+    if kind == numbers::kinds::ALT {
         return parts_extent(table, count.next, kind, count.value, depth, 4);
     }
     parts_extent(table, count.next, kind, count.value, depth, 2)
@@ -144,7 +145,7 @@ pub fn measure(table: &[u8], at: usize, depth: u64) -> Extent
         return Extent { next: at, need: 2 };
     }
     let kind = numbers::value_at(table, at);
-    if kind.value < 5 {
+    if kind.value < numbers::kinds::VAR {
         return simple_extent(table, kind.next, kind.value, depth - 1);
     }
     inside_extent(table, kind.next, kind.value, depth - 1)

@@ -100,7 +100,7 @@ fn gen_output(
     }
 }
 
-// Kinds 0 to 4.
+// The kinds before VAR.
 pub fn gen_simple(
     table: &[u8],
     at: usize,
@@ -117,23 +117,23 @@ pub fn gen_simple(
         ≡ simpleInto kind depth w (now (variables .entry)) (now (channels .entry)) (now (table .entry)) at
         (standing here (now (out .entry))) ⌝ }
 {
-    if kind == 0 {
+    if kind == numbers::kinds::SKIP {
         return Done {
             next: at,
             here: here,
         };
     }
-    if kind == 1 {
+    if kind == numbers::kinds::STOP {
         let end = crate::emit::operation(out, here, instruction::codes::STOPP);
         return Done {
             next: at,
             here: end,
         };
     }
-    if kind == 2 {
+    if kind == numbers::kinds::ASSIGN {
         return gen_assign(table, at, depth, w, variables, out, here);
     }
-    if kind == 3 {
+    if kind == numbers::kinds::INPUT {
         return gen_input(table, at, w, variables, channels, out, here);
     }
     gen_output(table, at, depth, w, variables, channels, out, here)

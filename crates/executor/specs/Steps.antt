@@ -3,6 +3,7 @@ use Prim.Native.Nat.{ℕ, suc, min}
 use mathlib.Core.Path.{_≡_}
 use mathlib.Core.List.{List, [], _∷_}
 use mathlib.Core.Option.{Option, none, some}
+use Rattle.model.specs.Limits.{sliceLimit}
 use Rattle.model.specs.Instruction.{Function, functionOf}
 use Rattle.model.specs.Word.{low}
 use Rattle.model.specs.Machine.{Act, fault, goto, gathering, counting}
@@ -38,4 +39,4 @@ onAlts = 73 ∷ 72 ∷ 69 ∷ 68 ∷ 67 ∷ 48 ∷ 47 ∷ []
 
 -- the byte counts towards the slice, the next one is behind it, and the operand is given
 abbrev pub advancedTo : (operand : ℕ) → Cpu → Cpu
-advancedTo o r = gathering o (counting (min (suc (r .count)) 65535) (goto (low (suc (r .place))) r))
+advancedTo o r = gathering o (counting (min (suc (r .count)) sliceLimit) (goto (low (suc (r .place))) r))

@@ -6,6 +6,7 @@ ghost use mathlib.Core.Path.{_≡_};
 ghost use mathlib.Core.Bool.{true};
 ghost use Prim.Native.Nat.{suc, min, _≤_, _<_};
 ghost use lib.ListN.{length};
+ghost use Rattle.model.specs.Limits.{sliceLimit};
 ghost use Rattle.model.specs.Machine.{memorySize};
 ghost use Rattle.model.specs.Run.{act as actOf, byte as byteOf};
 ghost use Rattle.processor.specs.Pieces.{landing};
@@ -14,12 +15,12 @@ ghost use Rattle.executor.specs.Steps.{advancedTo};
 
 // One more instruction towards the slice; the count stays at its largest.
 fn counted(count: u32) -> u32
-    ensures { λ r. ⌜ r ≡ min (suc count) 65535 ⌝ }
+    ensures { λ r. ⌜ r ≡ min (suc count) sliceLimit ⌝ }
 {
-    if count < 65535 {
+    if count < model::limits::SLICE {
         return count + 1;
     }
-    65535
+    model::limits::SLICE
 }
 
 // The byte counts towards the slice, the next one is behind it, and the operand is given.

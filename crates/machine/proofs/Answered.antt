@@ -62,15 +62,13 @@ module _ (m : Machine) (code memory : List ℕ) (budget : ℕ) where
           {f : Finished} {l : List ℕ} → m .fault ≡ Nothing
           → Finishes (m .setup) code budget (m .offers) (m .cpu) (m .held) memory f l
           → Answers (run m code memory budget)
+          (Ran (f .outcome))
           (record {
-            machine = record {
-              cpu = f .cpu;
-              setup = m .setup;
-              offers = m .offers;
-              held = f .held;
-              fault = keptAfter (f .outcome);
-            };
-            answer = Ran (f .outcome);
+            cpu = f .cpu;
+            setup = m .setup;
+            offers = m .offers;
+            held = f .held;
+            fault = keptAfter (f .outcome);
           })
           l
       unfolding run

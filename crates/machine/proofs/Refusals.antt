@@ -13,7 +13,7 @@ use Rattle.model.specs.declared.StartAnswer.the-variants.{Started, BadSlice, Ba
 use Rattle.model.specs.Run.{After, unchanged, fresh, blank, cleared, start}
 
 -- one of two flags is false
-one-false : (x y : Bool) → (x ≡ true → y ≡ true → ⊥) → x && y ≡ false
+pub one-false : (x y : Bool) → (x ≡ true → y ≡ true → ⊥) → x && y ≡ false
 one-false false y h = refl
 one-false true false h = refl
 one-false true true h = absurd (h refl refl)

@@ -29,7 +29,7 @@ memoryIn l (done n s) = s .memory
 memoryIn l (faults k) = l
 
 -- a result is known but for its communications
-heard :
+pub heard :
     (s : Result (Unit {0})) (y : Rest) (u : Setup) (r : Cpu) (m : List ℕ) → quiet s ≡ quiet (done tt (world y u r m))
     → (t : List Talk) × (s ≡ done tt (world (saying t y) u r m))
 heard (done n s) y u r m e =
@@ -40,7 +40,7 @@ heard (done n s) y u r m e =
 heard (faults k) y u r m e = ([], cc)
 
 -- a fault is known
-heard-fault : (s : Result (Unit {0})) (k : FaultKind) → quiet s ≡ faults k → s ≡ faults k
+pub heard-fault : (s : Result (Unit {0})) (k : FaultKind) → quiet s ≡ faults k → s ≡ faults k
 heard-fault (done n s) k e = cc
 heard-fault (faults j) k e = e
 

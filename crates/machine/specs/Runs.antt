@@ -7,15 +7,14 @@ use Rattle.model.specs.Machine.{World, Talk}
 use Rattle.model.specs.Run.{After, keep, runFrom}
 use Rattle.model.specs.declared.Cpu.{Cpu}
 use Rattle.model.specs.declared.Setup.{Setup}
+use Rattle.model.specs.declared.Machine.{Machine}
 use Rattle.model.specs.declared.Kept.{Kept}
 use Rattle.model.specs.declared.Kept.the-variants.{Nothing, Fault as KeptFault}
 use Rattle.model.specs.declared.Outcome.{Outcome}
 use Rattle.model.specs.declared.Outcome.the-variants.{Ended, Waiting, Spent, Fault}
 use Rattle.processor.specs.Seen.{Rest, world}
 use Rattle.processor.specs.Quiet.{offering}
-use Rattle.model.specs.declared.RunAnswer.{RunAnswer}
 use Rattle.machine.specs.declared.budget.Finished.{Finished}
-use Rattle.machine.specs.declared.budget.Ran.{Ran}
 
 -- the rest of a machine after these communications
 abbrev pub saying : List Talk → Rest → Rest
@@ -50,8 +49,8 @@ pub record Finishes (u : Setup) (code : List ℕ) (budget : ℕ) (o : List ℕ) 
       × (runFrom budget code 0 (world (offering o b x) u r l)
       ≡ record { outcome = f .outcome; world = keeping (f .outcome) (world (saying t (offering o (f .held) x)) u (f .cpu) m) })
 
--- a run's answer, machine and memory are those of the definition
-pub record Answers (a : After RunAnswer) (r : Ran) (m : List ℕ) : Type 0 where
-  pub answer : r .answer ≡ a .answer
-  pub machine : r .machine ≡ a .machine
-  pub memory : m ≡ a .memory
+-- a call's answer, machine and memory are those of the definition
+pub record Answers {Answer : Type 0} (f : After Answer) (a : Answer) (m : Machine) (l : List ℕ) : Type 0 where
+  pub answer : a ≡ f .answer
+  pub machine : m ≡ f .machine
+  pub memory : l ≡ f .memory

@@ -6,6 +6,8 @@ ghost use lib.ListN.{length, take, drop, replicate};
 ghost use Rattle.model.specs.Word.{notProcess};
 ghost use Rattle.model.specs.declared.StartAnswer.the-variants.{Started};
 ghost use Rattle.model.specs.Run.{registersAt, fresh as freshFor, blank as blankMachine, start as starting};
+ghost use Rattle.model.specs.Answers.{refusedStart};
+ghost use Rattle.model.specs.Refusals.{startRefusal};
 
 // A start's answer beside the machine.
 pub struct Begun {
@@ -46,7 +48,7 @@ fn fresh(setup: model::Setup) -> model::Machine
 }
 
 // The machine with nothing in it.
-fn blank() -> model::Machine
+pub fn blank() -> model::Machine
     ensures { λ r. ⌜ r ≡ blankMachine ⌝ }
 {
     let setup = model::Setup {
@@ -122,15 +124,16 @@ pub fn start(
     ensures machine { λ r. ⌜ r .machine ≡ starting (now (code .entry)) (now (memory .entry)) w inputs outputs slice .machine ⌝ }
     ensures memory { λ r.
         ⌜ now (memory .exit) ≡ starting (now (code .entry)) (now (memory .entry)) w inputs outputs slice .memory ⌝ }
+    ensures refusal { λ r. ⌜ refusedStart (r .answer) ≡ startRefusal (now (code .entry)) (now (memory .entry)) w inputs outputs slice ⌝ }
 {
-    if slice == 0 || 65535 < slice {
+    if slice == 0 || model::limits::SLICE < slice {
         return refused(model::StartAnswer::BadSlice);
     }
-    if 8 < inputs || 8 < outputs {
+    if model::limits::START_CHANNELS < inputs || model::limits::START_CHANNELS < outputs {
         return refused(model::StartAnswer::BadCount);
     }
     let size = w as u64 + inputs as u64 + outputs as u64;
-    if 4096 < size || 16384 < code.len() {
+    if model::limits::WIDE_WORDS < size || model::limits::CODE < code.len() {
         return refused(model::StartAnswer::TooLarge);
     }
     if (memory.len() as u64) < size {

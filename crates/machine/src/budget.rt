@@ -6,6 +6,8 @@ ghost use Prim.Native.Nat.{_≤_};
 ghost use lib.ListN.{length};
 ghost use Rattle.model.specs.Machine.{memorySize};
 ghost use Rattle.model.specs.Run.{run as running};
+ghost use Rattle.model.specs.Answers.{refusedRun};
+ghost use Rattle.model.specs.Refusals.{runRefusal};
 ghost use Rattle.model.specs.declared.Kept.the-variants.{Nothing};
 ghost use Rattle.machine.specs.Runs.{Finishes, keptAfter, Answers};
 
@@ -90,7 +92,8 @@ fn run_machine(
 ) -> Ran
     requires { ⌜ (size ≤ length (now memory)) × (memorySize (machine .setup) ≡ size) × (machine .setup .code ≤ length (now code)) ⌝ }
     requires { ⌜ machine .fault ≡ Nothing ⌝ }
-    ensures { λ r. ⌜ Answers (running machine (now (code .entry)) (now (memory .entry)) budget) r (now (memory .exit)) ⌝ }
+    ensures { λ r.
+        ⌜ Answers (running machine (now (code .entry)) (now (memory .entry)) budget) (r .answer) (r .machine) (now (memory .exit)) ⌝ }
 {
     let cpu = machine.cpu;
     let setup = machine.setup;
@@ -128,6 +131,7 @@ pub fn run(machine: model::Machine, code: &[u8], memory: &mut [u32], budget: u64
     ensures answer { λ r. ⌜ r .answer ≡ running machine (now (code .entry)) (now (memory .entry)) budget .answer ⌝ }
     ensures machine { λ r. ⌜ r .machine ≡ running machine (now (code .entry)) (now (memory .entry)) budget .machine ⌝ }
     ensures memory { λ r. ⌜ now (memory .exit) ≡ running machine (now (code .entry)) (now (memory .entry)) budget .memory ⌝ }
+    ensures refusal { λ r. ⌜ refusedRun (r .answer) ≡ runRefusal machine (now (code .entry)) (now (memory .entry)) budget ⌝ }
 {
     let setup = machine.setup;
     if code.len() < setup.code as usize {

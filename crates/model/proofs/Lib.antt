@@ -79,4 +79,5 @@ pub mod Histories
 pub mod Calls
 pub mod Starting
 pub mod Faith
+pub mod Refused
 pub mod Examples

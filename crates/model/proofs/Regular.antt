@@ -1,8 +1,9 @@
--- A byte keeps the setup, the kept fault and the words beyond the machine's memory, and it only adds to the communications.
+-- A byte, an offer and a take keep the setup, the kept fault and the words beyond the machine's memory, and only add to the communications.
 use Prim.Native.Nat.{ℕ, _/_, _<_}
 use mathlib.Core.Path.{_≡_, refl, _∙_}
 use mathlib.Core.Bool.{Bool, cond}
 use mathlib.Core.List.{List, _++_, append-assoc}
+use mathlib.Core.Option.{none, some}
 use lib.ListN.{length, set, drop, length-set}
 use lib.Seq.{drop-set-lt}
 use lib.Dec.{ltb, leb}
@@ -18,6 +19,7 @@ use Rattle.model.specs.Execute.{dropOffer, receive, received, heldAt, in
 use Rattle.model.specs.Execute.{setReady, enableReady, enableChannel, enableSkip, waitAlt, select, disableReady, disableChannel}
 use Rattle.model.specs.Execute.{disableSkip, endAlt, operate, execute}
 use Rattle.model.specs.Run.{fetch, act, land, byte}
+use Rattle.model.specs.Outside.{hold, waking, offering, outputWordOf, looking, taking}
 use Rattle.model.specs.declared.Cpu.{Cpu}
 use Rattle.model.specs.declared.FaultKind.{FaultKind}
 use Rattle.model.proofs.Cases.{by-bool, of-cond, by-option}
@@ -216,3 +218,37 @@ of-act b = by-option (functionOf (b / 16)) (λ e. rw e (search parts depth 10)) 
 pub of-byte : (code : List ℕ) → Regular (byte code)
 unfolding byte fetch land
 of-byte code = search (parts, of-act) depth 10
+
+of-hold : (k v : ℕ) → Regular (hold k v)
+of-hold k v = record { from = λ t s. both-done tt same-rest }
+
+of-land : Regular land
+unfolding land
+of-land = search parts
+
+of-waking : {act : Act (Unit {0})} → Regular act → Regular (waking act)
+unfolding waking
+of-waking h = bind of-registers (λ r. seq h (picks (r .running) (returns tt) of-land))
+
+pub of-offering : (k v : ℕ) → Regular (offering k v)
+unfolding offering notify deliver received
+of-offering k v = of-waking (search (acts, of-hold) depth 20)
+
+of-outputWordOf : (k : ℕ) → Regular (outputWordOf k)
+of-outputWordOf k = record { from = λ t s. both-done _ same-rest }
+
+of-looking : (k : ℕ) → Regular (looking k)
+unfolding looking receive
+of-looking k = search (parts, of-outputWordOf) depth 10
+
+of-received : (c p v : ℕ) → Regular (received c p v)
+unfolding received
+of-received c p v = search acts
+
+pub of-taking : (k : ℕ) → Regular (taking k)
+unfolding taking
+of-taking k =
+    bind (of-looking k)
+    (λ v. by-option v (λ e. rw e (returns none))
+    (λ w e. rw e
+    (bind (of-outputWordOf k) (λ c. bind (of-peek c) (λ p. seq (of-waking (of-received c p w)) (returns (some w)))))))

@@ -3,13 +3,15 @@ use Prim.Native.Nat.{ℕ, zero, suc, _+_}
 use native.Mathlib.Omega.{arith}
 use native.Mathlib.Nat.{zero-add, suc-add, add-suc, add-zero}
 use mathlib.Core.Path.{_≡_, refl, ap, _∙_}
-use mathlib.Core.Bool.{false}
+use mathlib.Core.Bool.{false, _&&_}
 use mathlib.Core.List.{List, [], append-nil}
-use lib.ListN.{length, drop}
+use lib.ListN.{length, getD, drop}
 use lib.Dec.{ltb}
 use Rattle.model.specs.Machine.{Talk, World, Result, done, faults, memorySize}
 use Rattle.model.specs.Run.{byte, ended, waits, Finish, runFrom, shortMemory, unchanged, worldOf, finished, run}
-use Rattle.model.specs.Laws.{counted, andThen, Splits, KeepsBeyond, bytes, Took, CountsSteps}
+use Rattle.model.specs.Outside.{offering, offered, offerUnless, offer, taking, took as tookBy, takeUnless, take}
+use Rattle.model.specs.Laws.{counted, andThen, Splits, Beyond, KeepsBeyond, OfferKeepsBeyond, TakeKeepsBeyond, bytes, Took}
+use Rattle.model.specs.Laws.{CountsSteps}
 use Rattle.model.specs.declared.Machine.{Machine}
 use Rattle.model.specs.declared.FaultKind.{FaultKind}
 use Rattle.model.specs.declared.Kept.{Kept}
@@ -17,10 +19,10 @@ use Rattle.model.specs.declared.Kept.the-variants.{Nothing, Fault as Kep
 use Rattle.model.specs.declared.Outcome.{Outcome}
 use Rattle.model.specs.declared.Outcome.the-variants.{Ended, Waiting, Spent, Fault as RunFault}
 use Rattle.model.specs.declared.RunAnswer.the-variants.{Ran, Short as RunShort}
-use Rattle.model.proofs.Cases.{by-bool, never}
-use Rattle.model.proofs.Regular.{behind, Same, Regular, by-alike, seq, returns, of-byte}
+use Rattle.model.proofs.Cases.{by-bool, of-cond, never}
+use Rattle.model.proofs.Regular.{behind, Same, Regular, by-alike, seq, returns, of-byte, of-offering, of-taking}
 
-by-result : {A R : Type 0} (r : Result A) → ((a : A) (s : World) → r ≡ done a s → R) → ((k : FaultKind) → r ≡ faults k → R) → R
+pub by-result : {A R : Type 0} (r : Result A) → ((a : A) (s : World) → r ≡ done a s → R) → ((k : FaultKind) → r ≡ faults k → R) → R
 by-result (done a s) d f = d a s refl
 by-result (faults k) d f = f k refl
 
@@ -173,3 +175,31 @@ run-counts m code memory b o n e =
     let s = worldOf m memory in
     let is : o ≡ runFrom b code 0 s .outcome = cc (run-goes g b) in
     rw (run-goes g b, is) (took code b s))
+
+-- an offer or take that came to a result
+offer-beyond : (k v : ℕ) (m : Machine) (memory : List ℕ) → Beyond m memory (offered (offering k v (worldOf m memory)) m memory)
+offer-beyond k v m memory =
+    by-alike (of-offering k v .from [] (worldOf m memory)) (λ a s p q h. rw p (h .length-same, h .beyond-same)) (λ j p q. rw p (refl, refl))
+
+take-beyond : (k : ℕ) (m : Machine) (memory : List ℕ) → Beyond m memory (tookBy (taking k (worldOf m memory)) m memory)
+take-beyond k m memory =
+    by-alike (of-taking k .from [] (worldOf m memory)) (λ a s p q h. rw p (h .length-same, h .beyond-same)) (λ j p q. rw p (refl, refl))
+
+module _ (m : Machine) (memory : List ℕ) (k : ℕ) where
+  offer-unless : (e : Kept) (v : ℕ) → Beyond m memory (offerUnless e m memory k v)
+  offer-unless (KeptFault j) v = (refl, refl)
+  offer-unless Nothing v =
+      of-cond (Beyond m memory) (ltb k (m .setup .inputs) && ltb k 8)
+      (of-cond (Beyond m memory) (getD (m .held) k false) (refl, refl) (offer-beyond k v m memory)) (refl, refl)
+
+  take-unless : (e : Kept) → Beyond m memory (takeUnless e m memory k)
+  take-unless (KeptFault j) = (refl, refl)
+  take-unless Nothing = of-cond (Beyond m memory) (ltb k (m .setup .outputs)) (take-beyond k m memory) (refl, refl)
+
+pub offer-keeps-beyond : OfferKeepsBeyond
+unfolding offer
+offer-keeps-beyond m memory k v = of-cond (Beyond m memory) (shortMemory m memory) (refl, refl) (offer-unless m memory k (m .fault) v)
+
+pub take-keeps-beyond : TakeKeepsBeyond
+unfolding take
+take-keeps-beyond m memory k = of-cond (Beyond m memory) (shortMemory m memory) (refl, refl) (take-unless m memory k (m .fault))

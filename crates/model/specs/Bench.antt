@@ -51,23 +51,23 @@ hex [] = []
 hex (b ∷ bytes) = 32 ∷ hexDigit (b / 16) ∷ hexDigit (b % 16) ∷ hex bytes
 
 -- the end of a line
-abbrev newline : List ℕ
+abbrev pub newline : List ℕ
 newline = 10 ∷ []
 
 -- a word and a number, on a line of its own: "bytes N", "words N", "ended N", "waiting N", "spent N", "fault N"
-abbrev line : String → ℕ → List ℕ
+abbrev pub line : String → ℕ → List ℕ
 line s n = ascii s ++ decimal n ++ newline
 
 -- "code" and the bytes; no code prints "code" alone
-abbrev codeLine : List ℕ → List ℕ
+abbrev pub codeLine : List ℕ → List ℕ
 codeLine l = ascii "code" ++ hex l ++ newline
 
 -- a refused table prints one line, as "refused 7 at 4"
-abbrev refusedLine : ℕ → ℕ → List ℕ
+abbrev pub refusedLine : ℕ → ℕ → List ℕ
 refusedLine n p = ascii "refused " ++ decimal n ++ ascii " at " ++ decimal p ++ newline
 
 -- "out", the output's number and the signed value
-abbrev outLine : ℕ → ℕ → List ℕ
+abbrev pub outLine : ℕ → ℕ → List ℕ
 outLine k v = ascii "out " ++ decimal k ++ ascii " " ++ signedDecimal (signed v) ++ newline
 
 -- what takes gave: the lines, and the machine and memory after them
@@ -77,7 +77,7 @@ pub record Takes : Type 0 where
   pub memory : List ℕ
 
 -- the line of a take, if it had a sender
-abbrev tookOne : ℕ → TakeAnswer → List ℕ
+abbrev pub tookOne : ℕ → TakeAnswer → List ℕ
 tookOne k (Taken v) = outLine k v
 tookOne k Nothing = []
 tookOne k (TakeShort n) = []
@@ -85,7 +85,7 @@ tookOne k (TakeFault f) = []
 tookOne k NoChannel = []
 
 -- one take, and the ones after it
-abbrev andTakes : ℕ → After TakeAnswer → (Machine → List ℕ → Takes) → Takes
+abbrev pub andTakes : ℕ → After TakeAnswer → (Machine → List ℕ → Takes) → Takes
 andTakes k t more =
     let rest = more (t .machine) (t .memory) in
     record { lines = tookOne k (t .answer) ++ rest .lines; machine = rest .machine; memory = rest .memory }
@@ -104,13 +104,13 @@ abbrev pub benchSlice : ℕ
 benchSlice = 32
 
 -- where none has a sender the bench program stops; else it goes on
-abbrev onTakes : Takes → ℕ → (Machine → List ℕ → List ℕ) → List ℕ
+abbrev pub onTakes : Takes → ℕ → (Machine → List ℕ → List ℕ) → List ℕ
 onTakes t total more =
     let rest = more (t .machine) (t .memory) in
     elim (t .lines) [ [] ↦ line "waiting " total | x ∷ xs ↦ t .lines ++ rest ]
 
 -- how a run stood, with all instructions so far; where the machine waits, the takes come first
-abbrev onRun : After RunAnswer → (outputs total : ℕ) → (ℕ → Machine → List ℕ → List ℕ) → List ℕ
+abbrev pub onRun : After RunAnswer → (outputs total : ℕ) → (ℕ → Machine → List ℕ → List ℕ) → List ℕ
 onRun r outs total more =
     elim (r .answer) [
       | Ran o ↦ elim o [
@@ -130,14 +130,14 @@ rounds (suc f) prog outs total m memory =
     onRun (run m prog memory (benchBudget - total)) outs total (λ n m2 memory2. rounds f prog outs n m2 memory2)
 
 -- code length, memory words with channels, the code, then the outputs and how it stood
-abbrev ofStart : Program → List ℕ → List ℕ
+abbrev pub ofStart : Program → List ℕ → List ℕ
 ofStart p bytes =
     let s = start bytes (replicate (memoryWords p) 0) (base p) (p .inputs) (p .outputs) benchSlice in
     line "bytes " (length bytes) ++ line "words " (memoryWords p) ++ codeLine bytes
     ++ rounds (2 + benchBudget) bytes (p .outputs) 0 (s .machine) (s .memory)
 
 -- an accepted table is started, a refused one prints its refusal
-abbrev ofCompilation : Compilation → List ℕ
+abbrev pub ofCompilation : Compilation → List ℕ
 ofCompilation (compiled p bytes) = ofStart p bytes
 ofCompilation (refused n r) = refusedLine n r
 

@@ -8,6 +8,7 @@ use lib.ListN.{length, take, drop, getElem?}
 use lib.Seq.{slice}
 use lib.Dec.{leb}
 use Rattle.model.specs.Word.{less}
+use Rattle.model.specs.Limits.{codeLimit, wordLimit}
 use Rattle.model.specs.Syntax.{Program}
 use Rattle.model.specs.Reader.{Read, program, refused as unread}
 use Rattle.model.specs.Accept.{accept, memoryWords}
@@ -67,7 +68,7 @@ pub data Compilation : Type 0 where
 -- over 4,096 words with outside channels, or over 16,384 code bytes: 10 at place 0; then the buffer too short: 11 with the size needed
 unfoldable pub fitting : (room : ℕ) → Program → List ℕ → Compilation
 fitting room p code =
-    cond (leb (memoryWords p) 4096 && leb (length code) 16384)
+    cond (leb (memoryWords p) wordLimit && leb (length code) codeLimit)
     (cond (leb (length code) room) (compiled p code) (refused 11 (length code)))
     (refused 10 0)
 

@@ -3,6 +3,7 @@ use Prim.Native.Nat.{ℕ, _+_, max}
 use mathlib.Core.Bool.{cond}
 use mathlib.Core.Option.{Option, none, some}
 use lib.Dec.{leb}
+use Rattle.model.specs.Limits.{registerLimit}
 use Rattle.model.specs.Syntax.{Expr, constant, variable, NOT, binary, Whole, Stmt, SKIP, STOP, assign, input, output}
 use Rattle.model.specs.Syntax.{VAR, CHAN, SEQ, PAR, IF, WHILE, ALT, Stmts, noStmt, stmt, Pairs, noPair, pair, Guards, noGuard}
 use Rattle.model.specs.Syntax.{inputGuard, skipGuard}
@@ -17,7 +18,7 @@ registers (binary op l r) = max (registers l) (1 + registers r)
 
 -- refusal 8: an expression needing over 3 registers, by its place
 abbrev over3 : Whole → Option ℕ
-over3 e = cond (leb (registers (e .expr)) 3) none (some (e .place))
+over3 e = cond (leb (registers (e .expr)) registerLimit) none (some (e .place))
 
 -- refusal 8: the place of the first outermost expression that needs over 3 registers
 unfoldable mutual

@@ -1,10 +1,12 @@
--- Three laws of `run`, for every machine, code, memory and budget. They are proved in proofs/Runs.antt.
+-- Three laws of `run`, for every machine, code, memory and budget, the second also of `offer` and `take`. They are proved in
+-- proofs/Runs.antt.
 use Prim.Native.Nat.{ℕ, zero, suc, _+_, _≤_, _<_}
 use mathlib.Core.Path.{_≡_}
 use mathlib.Core.List.{List, _++_}
 use lib.ListN.{length, drop}
 use Rattle.model.specs.Machine.{World, done, faults, Act, _>>_, return, memorySize}
 use Rattle.model.specs.Run.{byte, keep, After, worldOf, run}
+use Rattle.model.specs.Outside.{offer, take}
 use Rattle.model.specs.declared.Machine.{Machine}
 use Rattle.model.specs.declared.Kept.the-variants.{Nothing}
 use Rattle.model.specs.declared.Outcome.{Outcome}
@@ -43,11 +45,20 @@ Splits = (m : Machine) (code memory : List ℕ) (a b : ℕ)
     → let f = run m code memory a in
     run m code memory (a + b) ≡ andThen f (run (f .machine) code (f .memory) b)
 
--- law 2: the words at and beyond the machine's memory are never touched, and no word comes or goes
-abbrev pub KeepsBeyond : Type 0
-KeepsBeyond = (m : Machine) (code memory : List ℕ) (budget : ℕ)
-    → let f = run m code memory budget in
+-- the words at and beyond the machine's memory are as they were, and no word came or went
+abbrev pub Beyond : {Answer : Type 0} → Machine → List ℕ → After Answer → Type 0
+Beyond m memory f =
     (length (f .memory) ≡ length memory) × (drop (memorySize (m .setup)) (f .memory) ≡ drop (memorySize (m .setup)) memory)
+
+-- law 2: a run never touches them, an offer does not, and a take does not
+abbrev pub KeepsBeyond : Type 0
+KeepsBeyond = (m : Machine) (code memory : List ℕ) (budget : ℕ) → Beyond m memory (run m code memory budget)
+
+abbrev pub OfferKeepsBeyond : Type 0
+OfferKeepsBeyond = (m : Machine) (memory : List ℕ) (k value : ℕ) → Beyond m memory (offer m memory k value)
+
+abbrev pub TakeKeepsBeyond : Type 0
+TakeKeepsBeyond = (m : Machine) (memory : List ℕ) (k : ℕ) → Beyond m memory (take m memory k)
 
 -- n bytes, one after the other
 unfoldable pub bytes : ℕ → List ℕ → Act (Unit {0})

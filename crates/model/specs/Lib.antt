@@ -1,4 +1,5 @@
 pub mod Word
+pub mod Limits
 pub mod Number
 pub mod Syntax
 pub mod Reader
@@ -15,8 +16,9 @@ pub mod Machine
 pub mod Answers
 pub mod Execute
 pub mod Run
-pub mod Laws
 pub mod Outside
+pub mod Refusals
+pub mod Laws
 pub mod Bench
 pub mod History
 pub mod Demand

@@ -7,6 +7,7 @@ use mathlib.Core.Option.{Option, none, some}
 use lib.ListN.{length, drop, getElem?}
 use lib.Dec.{leb}
 use Rattle.model.specs.Number.{Number, number}
+use Rattle.model.specs.Limits.{tableLimit, depthLimit, channelLimit, nameLimit, partLimit, branchLimit}
 use Rattle.model.specs.Syntax.{Site, inputOf, outputOf, declared, Operator, PLUS, MINUS, TIMES, GT, EQ, AND, OR, XOR, Expr, constant}
 use Rattle.model.specs.Syntax.{variable, NOT, binary, Whole, Stmt, SKIP, STOP, assign, input, output, VAR, CHAN, SEQ, PAR, IF, WHILE}
 use Rattle.model.specs.Syntax.{ALT, noStmt, stmt, Pairs, noPair, pair, Guards, noGuard, inputGuard, skipGuard, Program}
@@ -241,13 +242,13 @@ stmtOf p scope inner isStop = pure STOP
 stmtOf p scope inner isAssign = do x ← readVariable scope; e ← inner .expr; pure (assign x e)
 stmtOf p scope inner isInput = do c ← readInput scope; x ← readVariable scope; pure (input c x)
 stmtOf p scope inner isOutput = do c ← readOutput scope; e ← inner .expr; pure (output c e)
-stmtOf p scope inner isVar = do n ← readCount 1 32; s ← inner .stmt (withVariables p n scope); pure (VAR p n s)
-stmtOf p scope inner isChan = do n ← readCount 1 32; s ← inner .stmt (withChannels p n scope); pure (CHAN p n s)
-stmtOf p scope inner isSeq = do n ← readCount 0 32; ss ← readMany noStmt stmt (inner .stmt scope) n; pure (SEQ ss)
-stmtOf p scope inner isPar = do n ← readCount 0 16; ss ← readMany noStmt stmt (inner .stmt scope) n; pure (PAR p ss)
-stmtOf p scope inner isIf = do n ← readCount 0 32; ps ← readMany noPair applied (readPair scope inner) n; pure (IF ps)
+stmtOf p scope inner isVar = do n ← readCount 1 nameLimit; s ← inner .stmt (withVariables p n scope); pure (VAR p n s)
+stmtOf p scope inner isChan = do n ← readCount 1 nameLimit; s ← inner .stmt (withChannels p n scope); pure (CHAN p n s)
+stmtOf p scope inner isSeq = do n ← readCount 0 partLimit; ss ← readMany noStmt stmt (inner .stmt scope) n; pure (SEQ ss)
+stmtOf p scope inner isPar = do n ← readCount 0 branchLimit; ss ← readMany noStmt stmt (inner .stmt scope) n; pure (PAR p ss)
+stmtOf p scope inner isIf = do n ← readCount 0 partLimit; ps ← readMany noPair applied (readPair scope inner) n; pure (IF ps)
 stmtOf p scope inner isWhile = do e ← inner .expr; s ← inner .stmt scope; pure (WHILE e s)
-stmtOf p scope inner isAlt = do n ← readCount 0 32; gs ← readMany noGuard applied (readGuard scope inner) n; pure (ALT gs)
+stmtOf p scope inner isAlt = do n ← readCount 0 partLimit; gs ← readMany noGuard applied (readGuard scope inner) n; pure (ALT gs)
 
 -- a statement, with the depths left from it on; each statement or expression inside it is one deeper
 unfoldable pub readStmt : ℕ → Scope → Reader Stmt
@@ -260,9 +261,9 @@ readStmt (suc d) scope = do
 -- 01: first two numbers, 0 to 8 each: outside inputs, then outside outputs, numbered so. Then one statement, at depth 1; 32 is the deepest
 unfoldable pub readProgram : Reader Program
 readProgram = do
-  ins ← readCount 0 8
-  outs ← readCount 0 8
-  s ← readStmt 32 (record { variables = []; channels = numbered inputOf ins ++ numbered outputOf outs })
+  ins ← readCount 0 channelLimit
+  outs ← readCount 0 channelLimit
+  s ← readStmt depthLimit (record { variables = []; channels = numbered inputOf ins ++ numbered outputOf outs })
   pure (record { inputs = ins; outputs = outs; body = s })
 
 -- a program, or a refusal's number and place
@@ -278,4 +279,4 @@ whole (fails n at) = refused n at
 
 -- reading a table. Refusal 1 comes first: a table of 0 or over 16,384 bytes, at place 0
 unfoldable pub readTable : List ℕ → Read
-readTable table = let r = whole (readProgram 0 table) in cond (leb 1 (length table) && leb (length table) 16384) r (refused 1 0)
+readTable table = let r = whole (readProgram 0 table) in cond (leb 1 (length table) && leb (length table) tableLimit) r (refused 1 0)

@@ -6,6 +6,7 @@ use mathlib.Core.Option.{Option, none, some}
 use lib.ListN.{length, getD, drop, replicate}
 use lib.Dec.{ltb, leb, eqb}
 use Rattle.model.specs.Word.{low, notProcess}
+use Rattle.model.specs.Limits.{codeLimit, wordLimit, channelLimit, sliceLimit}
 use Rattle.model.specs.Instruction.{Function, pfixCode, nfixCode, functionOf}
 use Rattle.model.specs.Prefix.{gathered, pfixed, nfixed}
 use Rattle.model.specs.Machine.{machineWith, Talk, World, Result, done, faults, Act, _>>=_, _>>_, return, fault, registers}
@@ -46,7 +47,7 @@ functionOr12 (some f) n o = do
 unfoldable pub act : (byte : ℕ) → Act (Unit {0})
 act b = do
   r ← registers
-  setRegisters (counting (min (suc (r .count)) 65535) (goto (low (suc (r .place))) r))
+  setRegisters (counting (min (suc (r .count)) sliceLimit) (goto (low (suc (r .place))) r))
   q ← registers
   cond (eqb (b / 16) pfixCode) (setRegisters (gathering (pfixed (gathered (r .operand) b)) q))
       (cond (eqb (b / 16) nfixCode) (setRegisters (gathering (nfixed (gathered (r .operand) b)) q))
@@ -123,7 +124,7 @@ abbrev pub finished : Finish → After RunAnswer
 finished f = record { answer = Ran (f .outcome); machine = f .world .machine; memory = f .world .memory; talk = f .world .talk }
 
 -- a kept fault is answered again, with 0 instructions
-abbrev keptOrRun : Kept → Machine → List ℕ → Finish → After RunAnswer
+abbrev pub keptOrRun : Kept → Machine → List ℕ → Finish → After RunAnswer
 keptOrRun (KeptFault k) m memory f = unchanged (Ran (RunFault 0 k)) m memory
 keptOrRun Nothing m memory f = finished f
 
@@ -179,9 +180,9 @@ cleared u memory = replicate (u .base) 0 ++ replicate (u .inputs + u .outputs) n
 unfoldable pub start : (code memory : List ℕ) → (w inputs outputs slice : ℕ) → After StartAnswer
 start code memory w i o q =
     let u : Setup = record { code = length code; base = w; inputs = i; outputs = o; slice = q } in
-    cond (leb 1 q && leb q 65535)
-    (cond (leb i 8 && leb o 8)
-    (cond (leb (w + i + o) 4096 && leb (length code) 16384)
+    cond (leb 1 q && leb q sliceLimit)
+    (cond (leb i channelLimit && leb o channelLimit)
+    (cond (leb (w + i + o) wordLimit && leb (length code) codeLimit)
     (cond (leb (w + i + o) (length memory))
     (record { answer = Started; machine = fresh u; memory = cleared u memory; talk = [] })
     (unchanged (StartShort (w + i + o)) blank memory))

@@ -3,6 +3,8 @@ ghost use mathlib.Core.Path.{_≡_};
 ghost use Prim.Native.Nat.{_+_, _<_};
 ghost use Rattle.numbers.specs.Items.{groupsAt, betweenAt, nameAt, deepAt, valueAt};
 
+pub mod kinds;
+
 // A number and the place after it; Bad: cut short, too long or too large.
 pub enum NumberRead {
     Number(u64, usize),

@@ -7,11 +7,12 @@ use lib.ListN.{length, getD, set}
 use native.Mathlib.Omega.{arith}
 use lib.Seq.{set-set, set-getD}
 use lib.Dec.{ltb, leb·zero}
-use Rattle.model.specs.Machine.{World, Act, Result, done, faults, next, _>>_, setRegisters, running, queueing}
-use Rattle.model.specs.Machine.{memorySize, poke, testPlace, linkWord, takeFront, release, join}
+use Rattle.model.specs.Machine.{World, Act, Result, done, faults, next, _>>_, return, setRegisters, running, queueing}
+use Rattle.model.specs.Machine.{memorySize, poke, testPlace, linkWord, resume, takeFront, release, join}
 use Rattle.model.specs.Word.{low}
 use Rattle.model.specs.Execute.{jump}
 use Rattle.model.specs.Run.{land}
+use Rattle.model.specs.Outside.{waking}
 use Rattle.model.specs.declared.Cpu.{Cpu}
 use Rattle.model.specs.declared.Setup.{Setup}
 use Rattle.model.specs.declared.FaultKind.{FaultKind}
@@ -100,6 +101,11 @@ pub pick-false : {A : Type 0} (t : Bool) (a b : A) → t ≡ false → cond t a 
 pick-false true a b e = cc
 pick-false false a b e = refl
 
+-- an action with nothing after it
+pub nothing-after : (q : Result (Unit {0})) → next q (λ n. return tt) ≡ q
+nothing-after (done n s) = refl
+nothing-after (faults k) = refl
+
 -- at a world, an action that is picked
 at : (x : Rest) (u : Setup) (r : Cpu) (l : List ℕ) {f g : Act (Unit {0})} → f ≡ g → f (world x u r l) ≡ g (world x u r l)
 at x u r l e = ap (λ f. f (world x u r l)) e
@@ -129,6 +135,23 @@ module _ (x : Rest) (u : Setup) (r : Cpu) (l : List ℕ) where
       (w : ℕ) → r .running ≡ true → r .queued ≡ false → join w (world x u r l) ≡ done tt (world x u (queueing w w true r) l)
   unfolding join
   join-first w t q = at x u r l (pick-true (r .running) _ _ t ∙ pick-false (r .queued) _ _ q)
+
+  -- a free processor takes a process at once
+  pub join-free :
+      (w : ℕ) → r .running ≡ false → join w (world x u r l) ≡ resume w (world x u (queueing w w false r) l)
+  unfolding join
+  join-free w t = at x u r l (pick-false (r .running) _ _ t)
+
+  -- an action from outside while a process has the processor
+  pub wakes-running : (act : Act (Unit {0})) → r .running ≡ true → waking act (world x u r l) ≡ act (world x u r l)
+  unfolding waking
+  wakes-running act t =
+      ap (λ (f : Act (Unit {0})). next (act (world x u r l)) (λ n. f)) (pick-true (r .running) _ _ t) ∙ nothing-after _
+
+  -- and while none has
+  pub wakes-free : (act : Act (Unit {0})) → r .running ≡ false → waking act (world x u r l) ≡ landing act (world x u r l)
+  unfolding waking
+  wakes-free act t = ap (λ (f : Act (Unit {0})). next (act (world x u r l)) (λ n. f)) (pick-false (r .running) _ _ t)
 
 -- actions one after the other, put together from the right
 pub next-next :

@@ -6,7 +6,7 @@ use lib.ListN.{set}
 use lib.Dec.{ltb}
 use mathlib.Core.List.{List}
 use borrow.Author.Tests.{le-leb}
-use Rattle.model.specs.Machine.{World, Act, done, faults, next, testPlace, memorySize, poke, join, queueing, linkWord}
+use Rattle.model.specs.Machine.{World, Act, Result, done, faults, next, _>>_, testPlace, memorySize, poke, join, queueing, linkWord}
 use Rattle.model.specs.Run.{land}
 use Rattle.model.specs.declared.Cpu.{Cpu}
 use Rattle.model.specs.declared.Setup.{Setup}
@@ -65,6 +65,26 @@ module _ (x : Rest) (u : Setup) (r : Cpu) (l : List ℕ) (t : r .running ≡ tru
           → next (cond b (done (tt {0}) (world x u r m)) (faults k)) (λ n. land) ≡ cond b (done (tt {0}) (world x u r m)) (faults k)
       go true m k = lands (world x u r m) t p
       go false m k = refl
+
+-- actions that come to the same after a word is written, as far as it is looked at
+module _ {B : Type 0} (q : Result (Unit {0}) → B) (x : Rest) (u : Setup) (f g : Act (Unit {0})) (a v : ℕ) (r : Cpu) (l : List ℕ) where
+  pub after-set :
+      q (f (world x u r (set l a v))) ≡ q (g (world x u r (set l a v)))
+      → q ((do poke a v; f) (world x u r l)) ≡ q ((do poke a v; g) (world x u r l))
+  unfolding poke
+  after-set e = go (ltb a (memorySize u)) (set l a v) e
+    where
+      go :
+          (t : Bool) (m : List ℕ) → q (f (world x u r m)) ≡ q (g (world x u r m))
+          → q (next (cond t (done (tt {0}) (world x u r m)) (faults (Word a))) (λ n. f))
+          ≡ q (next (cond t (done (tt {0}) (world x u r m)) (faults (Word a))) (λ n. g))
+      go true m e = e
+      go false m e = refl
+
+  pub after-poke :
+      ((m : List ℕ) → q (f (world x u r m)) ≡ q (g (world x u r m)))
+      → q ((do poke a v; f) (world x u r l)) ≡ q ((do poke a v; g) (world x u r l))
+  after-poke e = after-set (e (set l a v))
 
 -- a process is queued by one that goes on where it is
 pub join-lands :

@@ -3,10 +3,10 @@ use Prim.Native.Nat.{ℕ}
 use mathlib.Core.Bool.{cond}
 use lib.Dec.{eqb}
 use Rattle.model.specs.Machine.{Act, _>>=_, _>>_, registers, setRegisters, goto, work, peek, poke, testPlace, resumeWord, stateWord}
-use Rattle.model.specs.Machine.{release}
-use Rattle.model.specs.Machine.{join}
+use Rattle.model.specs.Machine.{release, join, return}
 use Rattle.model.specs.Execute.{isAltState, ready, waiting}
 use Rattle.model.specs.Run.{land}
+use Rattle.model.specs.Outside.{waking}
 
 -- what an instruction does, and the test of the place where the processor goes
 abbrev pub landing : Act (Unit {0}) → Act (Unit {0})
@@ -83,3 +83,17 @@ abbrev pub poke2Tell : (a v b w p state : ℕ) → Act (Unit {0})
 poke2Tell a v b w p s = do
   poke a v
   pokeTell b w p s
+
+-- a process is woken from outside; where a free processor takes it, its place is tested
+abbrev pub wakeJoin : (w : ℕ) → Act (Unit {0})
+wakeJoin w = waking (join w)
+
+-- an ALT was made Ready from outside: its process is woken if it was Waiting
+abbrev pub wakeWaiting : (p state : ℕ) → Act (Unit {0})
+wakeWaiting p s = cond (eqb s waiting) (wakeJoin p) (return tt)
+
+-- a process in an ALT is told from outside
+abbrev pub notifyWake : (p state : ℕ) → Act (Unit {0})
+notifyWake p s = do
+  poke (stateWord p) ready
+  wakeWaiting p s

@@ -1,6 +1,7 @@
 // The processor: the machine's words, its registers, processes, the queue, and held offers (document 01, "The machine").
 mod memory;
 mod offer;
+mod outside;
 mod process;
 mod registers;
 mod wait;
@@ -12,6 +13,8 @@ pub use memory::poke;
 pub use memory::swap;
 pub use memory::undo;
 pub use offer::held_at;
+pub use outside::notify_wake;
+pub use outside::wake;
 pub use process::end_process;
 pub use process::jump;
 pub use process::land;

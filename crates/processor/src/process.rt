@@ -32,7 +32,7 @@ pub fn land(cpu: model::Cpu, code: u32) -> Step
 }
 
 // A process gets the processor at its resume place, and its count towards the slice starts again.
-fn resume(memory: &[u32], size: u64, cpu: model::Cpu, w: u32) -> Step
+pub fn resume(memory: &[u32], size: u64, cpu: model::Cpu, w: u32) -> Step
     requires { ⌜ size ≤ length (now memory) ⌝ }
     ensures { λ r. ⌜ Works size (resumeOf w) cpu (now (memory .entry)) r (now (memory .entry)) ⌝ }
 {

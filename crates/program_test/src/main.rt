@@ -8,24 +8,12 @@
 // a sum over the lent memory (in hexadecimal). A refused table has the refusal's number and place. Every program is run twice: by runs of
 // 1, 2, 4, 8 and so on instructions until one is not spent, and by a single run. The two must agree, another run must execute nothing,
 // and words beyond the machine's memory must be kept. If not, `wrong` says what.
+ghost use Prim.Native.Nat.{_≤_};
 ghost use mathlib.Core.Path.{_≡_};
 ghost use lib.ListN.{length};
 
 // The instructions after which a program is left.
 const LIMIT: u64 = 65536;
-
-// A line so far: whether it stands in a comment, the bytes of its table, and the first digit of the next byte (16: not yet there).
-struct Line {
-    comment: bool,
-    length: usize,
-    high: u8,
-}
-
-// The line that the text has come to, and whether the text goes on.
-struct Text {
-    line: Line,
-    goes_on: bool,
-}
 
 // How far a program has come: its machine, the kind of the last run's answer, and the instructions of all runs.
 struct Course {
@@ -290,130 +278,34 @@ fn answer(table: &[u8]) {
     write(b"\n");
 }
 
-// A line of which nothing is read.
-fn new_line() -> Line {
-    Line {
-        comment: false,
-        length: 0,
-        high: 16,
+// Answers a line's table, if it has one.
+fn answer_line(line: lines::Line, numbers: &[u64], table: &mut [u8])
+    requires { ⌜ line .count ≤ length (now numbers) ⌝ }
+{
+    let count = line.count;
+    if !line.there || count == 0 {
+        return;
+    }
+    lines::to_bytes(&numbers[0..count], table);
+    if count <= table.len() {
+        answer(&table[0..count]);
     }
 }
 
-// The value of a hexadecimal digit, and 16 for any other character.
-fn digit(character: u8) -> u8 {
-    match character {
-        b'0'..=b'9' => character - b'0',
-        b'A'..=b'F' => character - b'A' + 10,
-        b'a'..=b'f' => character - b'a' + 10,
-        _ => 16,
-    }
-}
-
-// The end of a line: answers its table, if it has one.
-fn end_line(table: &[u8], line: Line) -> Line {
-    let length = line.length;
-    if length > 0 && length <= table.len() {
-        answer(&table[0..length]);
-    }
-    new_line()
-}
-
-// A '#': the rest of the line is comment.
-fn begin_comment(line: Line) -> Line {
-    Line {
-        comment: true,
-        length: line.length,
-        high: 16,
-    }
-}
-
-// The second digit of a byte. Bytes for which there is no room are dropped.
-fn put_byte(table: &mut [u8], length: usize, high: u8, low: u8) -> Line {
-    if length < table.len() {
-        table[length] = (high << 4) | low;
-        return Line {
-            comment: false,
-            length: length + 1,
-            high: 16,
-        };
-    }
-    Line {
-        comment: false,
-        length: length,
-        high: 16,
-    }
-}
-
-// A character of the table, by its value as a digit.
-fn take_digit(table: &mut [u8], line: Line, value: u8) -> Line {
-    if value == 16 {
-        return line;
-    }
-    if line.high == 16 {
-        return Line {
-            comment: false,
-            length: line.length,
-            high: value,
-        };
-    }
-    put_byte(table, line.length, line.high, value)
-}
-
-// One character.
-fn take_character(table: &mut [u8], line: Line, character: u8) -> Line {
-    if character == b'\n' {
-        end_line(table, line)
-    } else if line.comment {
-        line
-    } else if character == b'#' {
-        begin_comment(line)
-    } else {
-        take_digit(table, line, digit(character))
-    }
-}
-
-// The characters of a part of the text, one after the other.
-fn take_characters(table: &mut [u8], first: Line, characters: &[u8]) -> Line {
-    let mut line = first;
-    let mut i = 0;
-    while i < characters.len() {
-        line = take_character(table, line, characters[i]);
-        i += 1;
-    }
-    line
-}
-
-// The next part of the text, as long as one read gives.
-fn read_part(table: &mut [u8], line: Line) -> Text {
-    let mut characters = io::large_buffer();
-    let got = libc::read(0, &mut characters);
-    let n = io::count(got, &characters);
-    if n == 0 {
-        return Text {
-            line: line,
-            goes_on: false,
-        };
-    }
-    Text {
-        line: take_characters(table, line, &characters[..n]),
-        goes_on: true,
-    }
-}
-
-// The text to its end. Nothing says that the input ends, so the loop counts its turns down, from a number that no run uses up.
-fn read_text(table: &mut [u8]) {
-    let mut text = Text {
-        line: new_line(),
-        goes_on: true,
-    };
+// Answers the text's lines. Nothing says that the input ends, so the loop counts its turns down, from a number that no run uses up.
+fn answer_text(characters: &mut [u8], numbers: &mut [u64], table: &mut [u8]) {
+    let mut line = lines::begin();
     let mut turns = u64::MAX;
-    while turns > 0 && text.goes_on {
-        text = read_part(table, text.line);
+    while turns > 0 && line.there {
+        line = lines::next_line(characters, line, 2, numbers);
+        answer_line(line, numbers, table);
         turns -= 1;
     }
 }
 
 fn main() {
+    let mut characters = io::large_buffer();
+    let mut numbers = [0u64; 32768];
     let mut table = [0u8; 32768];
-    read_text(&mut table);
+    answer_text(&mut characters, &mut numbers, &mut table);
 }

@@ -9,32 +9,9 @@
 //
 // A line of the output has the answer (11 with the size needed), the registers and the setup in the order of the input, the held offers
 // as input=value, the kept fault, and as address=value the words lent that are no longer what they were. Numbers are hexadecimal.
+ghost use Prim.Native.Nat.{_≤_};
 ghost use mathlib.Core.Path.{_≡_};
 ghost use lib.ListN.{length};
-
-// A line so far: whether it stands in a comment, how many numbers it has, and the number that is being read, if any.
-struct Line {
-    comment: bool,
-    count: usize,
-    open: bool,
-    value: u64,
-}
-
-// The line that the text has come to, and whether the text goes on.
-struct Text {
-    line: Line,
-    goes_on: bool,
-}
-
-// The value of a hexadecimal digit, and 16 for any other character.
-fn digit(character: u8) -> u64 {
-    match character {
-        b'0'..=b'9' => (character - b'0') as u64,
-        b'A'..=b'F' => (character - b'A') as u64 + 10,
-        b'a'..=b'f' => (character - b'a') as u64 + 10,
-        _ => 16,
-    }
-}
 
 // A number of a case, or 0 where the line has no more.
 fn at(numbers: &[u64], i: usize) -> u64 {
@@ -152,15 +129,6 @@ fn some_memory() -> [u32; 4200]
     [0; 4200]
 }
 
-// The code of a case, from the numbers that are its bytes.
-fn load_code(numbers: &[u64], bytes: &mut [u8]) {
-    let mut i = 0;
-    while i < numbers.len() && i < bytes.len() {
-        bytes[i] = (numbers[i] % 256) as u8;
-        i += 1;
-    }
-}
-
 // What words hold if a case does not name them.
 fn fill(words: &mut [u32]) {
     let mut value = 0x7700;
@@ -196,110 +164,20 @@ fn load_words(numbers: &[u64], words: &mut [u32]) {
     }
 }
 
-// Writes a number behind its name.
-fn print(name: &[u8], number: u64) {
-    io::write_all(1, name);
-    io::print_hex(1, number, 1);
-}
-
-// Writes a flag.
-fn print_flag(value: bool) {
-    if value {
-        print(b" ", 1);
-    } else {
-        print(b" ", 0);
-    }
-}
-
-// Writes what was at fault.
-fn print_fault(kind: model::FaultKind) {
-    match kind {
-        model::FaultKind::Function(number) => print(b"function ", number as u64),
-        model::FaultKind::Operation(number) => print(b"operation ", number as u64),
-        model::FaultKind::Count(number) => print(b"count ", number as u64),
-        model::FaultKind::Word(number) => print(b"word ", number as u64),
-        model::FaultKind::Place(number) => print(b"place ", number as u64),
-    }
-}
-
-// Writes how a run stood.
-fn print_outcome(outcome: model::Outcome) {
-    match outcome {
-        model::Outcome::Ended(count) => print(b"ended ", count),
-        model::Outcome::Waiting(count) => print(b"waiting ", count),
-        model::Outcome::Spent(count) => print(b"spent ", count),
-        model::Outcome::Fault(count, kind) => {
-            print(b"fault ", count);
-            io::write_all(1, b" ");
-            print_fault(kind);
-        }
-    }
-}
-
-// Writes a run's answer.
-fn print_answer(answer: model::RunAnswer) {
-    match answer {
-        model::RunAnswer::Ran(outcome) => print_outcome(outcome),
-        model::RunAnswer::Short(size) => print(b"11 ", size),
-    }
-}
-
-// Writes the registers.
-fn print_cpu(cpu: model::Cpu) {
-    print(b" / ", cpu.front as u64);
-    print(b" ", cpu.back as u64);
-    print(b" ", cpu.operand as u64);
-    print(b" ", cpu.a as u64);
-    print(b" ", cpu.b as u64);
-    print(b" ", cpu.c as u64);
-    print(b" ", cpu.workspace as u64);
-    print(b" ", cpu.count as u64);
-    print(b" ", cpu.place as u64);
-    print_flag(cpu.running);
-    print_flag(cpu.queued);
-}
-
 // Writes what the start would have fixed.
 fn print_setup(setup: model::Setup) {
-    print(b" / ", setup.code as u64);
-    print(b" ", setup.base as u64);
-    print(b" ", setup.inputs as u64);
-    print(b" ", setup.outputs as u64);
-    print(b" ", setup.slice as u64);
+    show::print(b" / ", setup.code as u64);
+    show::print(b" ", setup.base as u64);
+    show::print(b" ", setup.inputs as u64);
+    show::print(b" ", setup.outputs as u64);
+    show::print(b" ", setup.slice as u64);
     io::write_all(1, b" /");
 }
 
-// Writes a number with its value.
-fn print_value(i: usize, value: u32) {
-    print(b" ", i as u64);
-    print(b"=", value as u64);
-}
-
-// Writes an offer, if it is held.
-fn print_offer(i: usize, held: bool, offer: u32) {
-    if held {
-        print_value(i, offer);
-    }
-}
-
-// Writes the offers that are held.
-fn print_offers(held: &[bool; 8], offers: &[u32; 8]) {
-    let mut i = 0;
-    while i < 8 {
-        print_offer(i, held[i], offers[i]);
-        i += 1;
-    }
-}
-
-// Writes the kept fault.
-fn print_kept(fault: model::Kept) {
+// Writes the kept fault, between its marks.
+fn print_fault(fault: model::Kept) {
     io::write_all(1, b" / ");
-    match fault {
-        model::Kept::Nothing => {
-            io::write_all(1, b"none");
-        }
-        model::Kept::Fault(kind) => print_fault(kind),
-    }
+    show::print_kept(fault);
     io::write_all(1, b" /");
 }
 
@@ -310,16 +188,17 @@ fn print_machine(machine: model::Machine) {
     let offers = machine.offers;
     let held = machine.held;
     let fault = machine.fault;
-    print_cpu(cpu);
+    io::write_all(1, b" / ");
+    show::print_cpu(cpu);
     print_setup(setup);
-    print_offers(&held, &offers);
-    print_kept(fault);
+    show::print_offers(&held, &offers);
+    print_fault(fault);
 }
 
 // Writes a word, if it is no longer what it was.
 fn print_change(i: usize, before: u32, after: u32) {
     if before != after {
-        print_value(i, after);
+        show::print_value(i, after);
     }
 }
 
@@ -337,7 +216,7 @@ fn run(numbers: &[u64], code: &[u8], before: &[u32], memory: &mut [u32]) {
     let ran = machine::run(machine(numbers), code, memory, at(numbers, 34));
     let left = ran.machine;
     let answer = ran.answer;
-    print_answer(answer);
+    show::print_run(answer);
     print_machine(left);
     print_changes(before, memory);
     io::write_all(1, b"\n");
@@ -370,7 +249,7 @@ fn lend(numbers: &[u64], codes: &[u64], named: &[u64], words: usize) {
     if words > 4200 {
         return;
     }
-    load_code(codes, &mut code);
+    lines::to_bytes(codes, &mut code);
     load_and_run(
         numbers,
         &code[0..length],
@@ -395,128 +274,29 @@ fn answer(numbers: &[u64]) {
     lend(numbers, &rest[0..end], &rest[end..], words as usize);
 }
 
-// A line of which nothing is read.
-fn new_line() -> Line {
-    Line {
-        comment: false,
-        count: 0,
-        open: false,
-        value: 0,
-    }
-}
-
-// A line with one number more. Numbers for which there is no room are dropped.
-fn put_number(numbers: &mut [u64], line: Line) -> Line {
+// Answers a line, if it is there.
+fn answer_line(line: lines::Line, numbers: &[u64])
+    requires { ⌜ line .count ≤ length (now numbers) ⌝ }
+{
     let count = line.count;
-    if count < numbers.len() {
-        numbers[count] = line.value;
-        return Line {
-            comment: line.comment,
-            count: count + 1,
-            open: false,
-            value: 0,
-        };
-    }
-    line
-}
-
-// The end of a number, if one is being read.
-fn end_number(numbers: &mut [u64], line: Line) -> Line {
-    if line.open {
-        return put_number(numbers, line);
-    }
-    line
-}
-
-// The end of a line: answers its case, if it has one.
-fn end_line(numbers: &mut [u64], line: Line) -> Line {
-    let whole = end_number(numbers, line);
-    let count = whole.count;
-    if count <= numbers.len() {
+    if line.there {
         answer(&numbers[0..count]);
     }
-    new_line()
 }
 
-// A '#': the rest of the line is comment.
-fn begin_comment(numbers: &mut [u64], line: Line) -> Line {
-    let whole = end_number(numbers, line);
-    Line {
-        comment: true,
-        count: whole.count,
-        open: false,
-        value: 0,
-    }
-}
-
-// A character of a case, by its value as a digit. A number keeps its low 64 bits.
-fn take_digit(numbers: &mut [u64], line: Line, value: u64) -> Line {
-    if value > 15 {
-        return end_number(numbers, line);
-    }
-    Line {
-        comment: false,
-        count: line.count,
-        open: true,
-        value: line.value % 1152921504606846976 * 16 + value,
-    }
-}
-
-// One character.
-fn take_character(numbers: &mut [u64], line: Line, character: u8) -> Line {
-    if character == b'\n' {
-        end_line(numbers, line)
-    } else if line.comment {
-        line
-    } else if character == b'#' {
-        begin_comment(numbers, line)
-    } else {
-        take_digit(numbers, line, digit(character))
-    }
-}
-
-// The characters of a part of the text, one after the other.
-fn take_characters(numbers: &mut [u64], first: Line, characters: &[u8]) -> Line {
-    let mut line = first;
-    let mut i = 0;
-    while i < characters.len() {
-        line = take_character(numbers, line, characters[i]);
-        i += 1;
-    }
-    line
-}
-
-// The next part of the text, as long as one read gives.
-fn read_part(numbers: &mut [u64], line: Line) -> Text {
-    let mut characters = io::large_buffer();
-    let got = libc::read(0, &mut characters);
-    let n = io::count(got, &characters);
-    if n == 0 {
-        return Text {
-            line: line,
-            goes_on: false,
-        };
-    }
-    Text {
-        line: take_characters(numbers, line, &characters[..n]),
-        goes_on: true,
-    }
-}
-
-// The text to its end. Nothing says that the input ends, so the loop counts its turns down, from a number that no run uses up.
-fn read_text(numbers: &mut [u64]) {
-    let mut text = Text {
-        line: new_line(),
-        goes_on: true,
-    };
+// Answers the text's lines. Nothing says that the input ends, so the loop counts its turns down, from a number that no run uses up.
+fn answer_text(characters: &mut [u8], numbers: &mut [u64]) {
+    let mut line = lines::begin();
     let mut turns = u64::MAX;
-    while turns > 0 && text.goes_on {
-        text = read_part(numbers, text.line);
+    while turns > 0 && line.there {
+        line = lines::next_line(characters, line, 16, numbers);
+        answer_line(line, numbers);
         turns -= 1;
     }
 }
 
 fn main() {
+    let mut characters = io::large_buffer();
     let mut numbers = [0u64; 1024];
-    read_text(&mut numbers);
+    answer_text(&mut characters, &mut numbers);
 }

@@ -6,6 +6,7 @@ use lib.Dec.{ltb, eqb}
 use Rattle.numbers.specs.Items.{betweenAt, nameAt, deepAt, withItem}
 use Rattle.table.specs.declared.expr.ExprRead.{ExprRead}
 use Rattle.table.specs.declared.expr.ExprRead.the-variants.{Expr, Refused as NoExpr}
+use Rattle.numbers.specs.Kinds.{constantKind, notKind, lastExpression, lastOperator}
 
 -- what follows an expression; `refuse` answers a refusal
 abbrev pub withExpr : {R : Type 0} → (refuse : ℕ → ℕ → R) → ExprRead → (ℕ → ℕ → R) → R
@@ -14,7 +15,7 @@ withExpr refuse (NoExpr k p) f = refuse k p
 
 unfoldable pub leafAt : (kind variables : ℕ) → List ℕ → (at : ℕ) → ExprRead
 leafAt kind vs s at =
-    withItem NoExpr (cond (eqb kind 0) (betweenAt 0 4294967295 s at) (nameAt vs 0 0 s at)) (λ v n. Expr n 1)
+    withItem NoExpr (cond (eqb kind constantKind) (betweenAt 0 4294967295 s at) (nameAt vs 0 0 s at)) (λ v n. Expr n 1)
 
 -- the larger of left and 1 + right
 abbrev pub joined : (left right : ℕ) → ℕ
@@ -27,9 +28,9 @@ sides inner at = withExpr NoExpr (inner at) (λ n l. withExpr NoExpr (inner n) (
 unfoldable pub exprAt : (depth variables : ℕ) → List ℕ → (at : ℕ) → ExprRead
 exprAt zero vs s at = withItem NoExpr (deepAt s at) (λ v n. Expr n 1)
 exprAt (suc d) vs s at =
-    withItem NoExpr (betweenAt 0 3 s at) (λ k n.
-    cond (ltb k 2) (leafAt k vs s n)
-    (cond (eqb k 2) (exprAt d vs s n) (withItem NoExpr (betweenAt 0 7 s n) (λ o m. sides (λ i. exprAt d vs s i) m))))
+    withItem NoExpr (betweenAt 0 lastExpression s at) (λ k n.
+    cond (ltb k notKind) (leafAt k vs s n)
+    (cond (eqb k notKind) (exprAt d vs s n) (withItem NoExpr (betweenAt 0 lastOperator s n) (λ o m. sides (λ i. exprAt d vs s i) m))))
 
 unfoldable pub sidesAt : (depth variables : ℕ) → List ℕ → (at : ℕ) → ExprRead
 sidesAt d vs s at = sides (λ i. exprAt (d - 1) vs s i) at

@@ -20,6 +20,9 @@ use Rattle.table.specs.declared.stmt.HeadRead.the-variants.{Head, Refuse
 use Rattle.table.specs.declared.stmt.Sum.{Sum}
 use Rattle.table.specs.declared.stmt.SumRead.{SumRead}
 use Rattle.table.specs.declared.stmt.SumRead.the-variants.{Sum as Total, Refused as NoSum}
+use Rattle.model.specs.Limits.{registerLimit, nameLimit, partLimit, branchLimit}
+use Rattle.numbers.specs.Kinds.{assignKind, inputKind, varKind, seqKind, parKind, ifKind, whileKind, altKind, lastStatement}
+use Rattle.numbers.specs.Kinds.{inputGuardKind, lastGuard}
 
 abbrev pub firstOf : First → First → First
 firstOf Nowhere o = o
@@ -36,7 +39,7 @@ withStmt refuse (NoStmt k p) f = refuse k p
 
 -- an expression that stands in no other: over 3 registers it is noted
 unfoldable pub wholeAt : (depth variables : ℕ) → List ℕ → (at : ℕ) → HeadRead
-wholeAt d vs s at = withExpr NoHead (exprAt d vs s at) (λ n r. Head n (cond (leb r 3) Nowhere (At at)))
+wholeAt d vs s at = withExpr NoHead (exprAt d vs s at) (λ n r. Head n (cond (leb r registerLimit) Nowhere (At at)))
 
 abbrev pub variableAt : Names → List ℕ → ℕ → Item
 variableAt w s at = nameAt (w .variables) 0 0 s at
@@ -58,23 +61,23 @@ valueAt words d vs s at = withHead NoStmt (wholeAt d vs s at) (λ m e. leaf m wo
 unfoldable pub takenAt : Names → List ℕ → (at : ℕ) → First → HeadRead
 takenAt w s at e = withItem NoHead (inputAt w s at) (λ c n. withItem NoHead (variableAt w s n) (λ x m. Head m e))
 
--- kinds 0 to 4, whose expressions have `depth` left
+-- the kinds before VAR, whose expressions have `depth` left
 unfoldable pub simpleAt : (kind depth : ℕ) → Names → List ℕ → (at : ℕ) → StmtRead
 simpleAt k d w s at =
-    cond (ltb k 2) (leaf at 2 Nowhere)
-    (cond (eqb k 2) (withItem NoStmt (variableAt w s at) (λ x n. valueAt 2 d (w .variables) s n))
-    (cond (eqb k 3) (withHead NoStmt (takenAt w s at Nowhere) (λ m e. leaf m 3 e))
+    cond (ltb k assignKind) (leaf at 2 Nowhere)
+    (cond (eqb k assignKind) (withItem NoStmt (variableAt w s at) (λ x n. valueAt 2 d (w .variables) s n))
+    (cond (eqb k inputKind) (withHead NoStmt (takenAt w s at Nowhere) (λ m e. leaf m 3 e))
     (withItem NoStmt (outputAt w s at) (λ c n. valueAt 4 d (w .variables) s n))))
 
--- a guard: its kind, its condition, and for kind 0 its channel and its variable
+-- a guard: its kind, its condition, and if it waits for input its channel and its variable
 unfoldable pub guardAt : (depth : ℕ) → Names → List ℕ → (at : ℕ) → HeadRead
 guardAt d w s at =
-    withItem NoHead (betweenAt 0 1 s at) (λ g n.
-    withHead NoHead (wholeAt d (w .variables) s n) (λ m e. cond (eqb g 0) (takenAt w s m e) (Head m e)))
+    withItem NoHead (betweenAt 0 lastGuard s at) (λ g n.
+    withHead NoHead (wholeAt d (w .variables) s n) (λ m e. cond (eqb g inputGuardKind) (takenAt w s m e) (Head m e)))
 
--- what stands before the statement of a part: nothing in SEQ and PAR (7, 8), a condition in IF and WHILE (9, 10), a guard in ALT (11)
+-- what stands before the statement of a part: nothing in SEQ and PAR, a condition in IF and WHILE, a guard in ALT
 unfoldable pub headAt : (kind depth : ℕ) → Names → List ℕ → (at : ℕ) → HeadRead
-headAt k d w s at = cond (ltb k 9) (Head at Nowhere) (cond (ltb k 11) (wholeAt d (w .variables) s at) (guardAt d w s at))
+headAt k d w s at = cond (ltb k ifKind) (Head at Nowhere) (cond (ltb k altKind) (wholeAt d (w .variables) s at) (guardAt d w s at))
 
 abbrev pub behind : First → Part → Part
 behind d p = record { next = p .next; words = p .words; processes = p .processes; deep = firstOf d (p .deep); clash = p .clash }
@@ -109,7 +112,7 @@ gathered k (Total t) =
     Stmt
     (record {
       next = t .next;
-      words = max (cond (eqb k 11) 4 2) (t .most);
+      words = max (cond (eqb k altKind) 4 2) (t .most);
       processes = max 1 (t .live);
       deep = t .deep;
       clash = t .clash;
@@ -153,8 +156,8 @@ noBranches at = record { total = nothing at; before = replicate 4096 0; bad = fa
 abbrev pub moreNames : (kind count : ℕ) → Names → Names
 moreNames k n w =
     record {
-      variables = cond (eqb k 5) (w .variables + n) (w .variables);
-      channels = cond (eqb k 5) (w .channels) (w .channels + n);
+      variables = cond (eqb k varKind) (w .variables + n) (w .variables);
+      channels = cond (eqb k varKind) (w .channels) (w .channels + n);
       inputs = w .inputs;
       outputs = w .outputs;
     }
@@ -165,19 +168,20 @@ declaring n r =
     withStmt NoStmt r (λ p.
     Stmt (record { next = p .next; words = n + p .words; processes = p .processes; deep = p .deep; clash = p .clash }))
 
--- what follows a kind from 5 on, with a reader of the statements inside, which have `depth` left
+-- what follows a kind from VAR on, with a reader of the statements inside, which have `depth` left
 abbrev pub insideAt : (place kind depth : ℕ) → Names → (Names → ℕ → StmtRead) → List ℕ → (at : ℕ) → StmtRead
 insideAt place k d w inner s n =
-    cond (ltb k 7) (withItem NoStmt (betweenAt 1 32 s n) (λ c m. declaring c (inner (moreNames k c w) m)))
-    (cond (eqb k 10) (gathered k (mostFrom 1 k d w (inner w) s (nothing n)))
-    (withItem NoStmt (betweenAt 0 (cond (eqb k 8) 16 32) s n) (λ c m.
-    cond (eqb k 8) (branchesFrom c d place w (inner w) s (noBranches m))
+    cond (ltb k seqKind) (withItem NoStmt (betweenAt 1 nameLimit s n) (λ c m. declaring c (inner (moreNames k c w) m)))
+    (cond (eqb k whileKind) (gathered k (mostFrom 1 k d w (inner w) s (nothing n)))
+    (withItem NoStmt (betweenAt 0 (cond (eqb k parKind) branchLimit partLimit) s n) (λ c m.
+    cond (eqb k parKind) (branchesFrom c d place w (inner w) s (noBranches m))
     (gathered k (mostFrom c k d w (inner w) s (nothing m))))))
 
 unfoldable pub stmtAt : (depth : ℕ) → Names → List ℕ → (at : ℕ) → StmtRead
 stmtAt zero w s at = withItem NoStmt (deepAt s at) (λ v n. leaf n 2 Nowhere)
 stmtAt (suc d) w s at =
-    withItem NoStmt (betweenAt 0 11 s at) (λ k n. cond (ltb k 5) (simpleAt k d w s n) (insideAt at k d w (λ v i. stmtAt d v s i) s n))
+    withItem NoStmt (betweenAt 0 lastStatement s at) (λ k n.
+    cond (ltb k varKind) (simpleAt k d w s n) (insideAt at k d w (λ v i. stmtAt d v s i) s n))
 
 -- the same by its parts
 unfoldable pub partIn : (kind depth : ℕ) → Names → List ℕ → (at : ℕ) → StmtRead
@@ -190,13 +194,13 @@ unfoldable pub parAt : (place count depth : ℕ) → Names → List ℕ → (at 
 parAt place c d w s at = branchesFrom c d place w (λ i. stmtAt d w s i) s (noBranches at)
 
 unfoldable pub declaredAt : (kind depth : ℕ) → Names → List ℕ → (at : ℕ) → StmtRead
-declaredAt k d w s at = withItem NoStmt (betweenAt 1 32 s at) (λ c m. declaring c (stmtAt (d - 1) (moreNames k c w) s m))
+declaredAt k d w s at = withItem NoStmt (betweenAt 1 nameLimit s at) (λ c m. declaring c (stmtAt (d - 1) (moreNames k c w) s m))
 
 unfoldable pub partsAt : (place kind depth : ℕ) → Names → List ℕ → (at : ℕ) → StmtRead
 partsAt place k d w s n =
-    cond (eqb k 10) (mostAt k 1 (d - 1) w s n)
-    (withItem NoStmt (betweenAt 0 (cond (eqb k 8) 16 32) s n) (λ c m.
-    cond (eqb k 8) (parAt place c (d - 1) w s m) (mostAt k c (d - 1) w s m)))
+    cond (eqb k whileKind) (mostAt k 1 (d - 1) w s n)
+    (withItem NoStmt (betweenAt 0 (cond (eqb k parKind) branchLimit partLimit) s n) (λ c m.
+    cond (eqb k parKind) (parAt place c (d - 1) w s m) (mostAt k c (d - 1) w s m)))
 
 -- what the readers ask: at most 32 names are declared for each depth that is left
 abbrev pub Fits : Names → ℕ → Type 0

@@ -11,6 +11,8 @@ use Rattle.table.specs.Stmts.{stmtAt, withStmt}
 use Rattle.table.specs.declared.stmt.First.{First}
 use Rattle.table.specs.declared.stmt.First.the-variants.{Nowhere, At}
 use Rattle.table.specs.declared.stmt.Part.{Part}
+use Rattle.model.specs.Limits.{tableLimit, depthLimit, channelLimit}
+use Rattle.model.specs.Accept.{limit}
 
 -- a refusal at the place found, if one was; else what is tested next
 abbrev pub firstR : ℕ → First → Reading → Reading
@@ -23,19 +25,20 @@ finished ins outs len p =
     cond (ltb (p .next) len) (Refused 6 (p .next))
     (firstR 7 (p .clash)
     (firstR 8 (p .deep)
-    (cond (leb (p .processes) 64)
+    (cond (leb (p .processes) limit)
     (Accepted (record { words = p .words + ins + outs; inputs = ins; outputs = outs; processes = p .processes }))
     (Refused 9 0))))
 
 -- the statement behind the channel counts, and nothing behind it
 unfoldable pub bodyAt : (ins outs : ℕ) → List ℕ → (at : ℕ) → Reading
 bodyAt ins outs s at =
-    withStmt Refused (stmtAt 32 (record { variables = 0; channels = ins + outs; inputs = ins; outputs = outs }) s at) (λ p.
+    withStmt Refused (stmtAt depthLimit (record { variables = 0; channels = ins + outs; inputs = ins; outputs = outs }) s at) (λ p.
     finished ins outs (length s) p)
 
--- a table of 1 to 16384 bytes: the channel counts, then the statement
+-- a table of 1 byte to the most that one may have: the channel counts, then the statement
 unfoldable pub tableAt : List ℕ → Reading
 tableAt s =
     cond (eqb (length s) 0) (Refused 1 0)
-    (cond (ltb 16384 (length s)) (Refused 1 0)
-    (withItem Refused (betweenAt 0 8 s 0) (λ ins n. withItem Refused (betweenAt 0 8 s n) (λ outs m. bodyAt ins outs s m))))
+    (cond (ltb tableLimit (length s)) (Refused 1 0)
+    (withItem Refused (betweenAt 0 channelLimit s 0) (λ ins n.
+    withItem Refused (betweenAt 0 channelLimit s n) (λ outs m. bodyAt ins outs s m))))

@@ -5,6 +5,8 @@ use mathlib.Core.List.{List}
 use lib.ListN.{getD, set, replicate}
 use lib.Dec.{ltb, eqb}
 use Rattle.numbers.specs.Items.{groupsAt, withNumber, valueAt}
+use Rattle.numbers.specs.Kinds.{constantKind, variableKind, notKind, assignKind, inputKind, varKind, seqKind, ifKind, whileKind, altKind}
+use Rattle.numbers.specs.Kinds.{inputGuardKind}
 
 -- the place reached, and the sets
 pub record Used : Type 0 where
@@ -31,26 +33,26 @@ unfoldable pub exprUsed : (depth limit : ℕ) → List ℕ → ℕ → List ℕ 
 exprUsed zero limit s at l = used at l
 exprUsed (suc d) limit s at l =
     withNumber (used at l) (groupsAt 5 s at) (λ k n.
-    cond (eqb k 0) (used (valueAt s n .next) l)
-    (cond (eqb k 1) (nameUsed 1024 limit s n l)
-    (cond (eqb k 2) (exprUsed d limit s n l)
+    cond (eqb k constantKind) (used (valueAt s n .next) l)
+    (cond (eqb k variableKind) (nameUsed 1024 limit s n l)
+    (cond (eqb k notKind) (exprUsed d limit s n l)
     (thenUsed (exprUsed d limit s (valueAt s n .next) l) (λ m k2. exprUsed d limit s m k2)))))
 
 unfoldable pub simpleUsed : (kind depth variables channels : ℕ) → List ℕ → ℕ → List ℕ → Used
 simpleUsed k d vs cs s at l =
-    cond (ltb k 2) (used at l)
-    (cond (eqb k 2) (thenUsed (variableUsed vs s at l) (λ n m. exprUsed d vs s n m))
-    (cond (eqb k 3) (thenUsed (nameUsed 2048 cs s at l) (λ n m. variableUsed vs s n m))
+    cond (ltb k assignKind) (used at l)
+    (cond (eqb k assignKind) (thenUsed (variableUsed vs s at l) (λ n m. exprUsed d vs s n m))
+    (cond (eqb k inputKind) (thenUsed (nameUsed 2048 cs s at l) (λ n m. variableUsed vs s n m))
     (thenUsed (nameUsed 3072 cs s at l) (λ n m. exprUsed d vs s n m))))
 
 unfoldable pub guardUsed : (depth variables channels : ℕ) → List ℕ → ℕ → List ℕ → Used
 guardUsed d vs cs s at l =
     withNumber (used at l) (groupsAt 5 s at) (λ g n.
     thenUsed (exprUsed d vs s n l) (λ m k.
-    cond (eqb g 0) (thenUsed (nameUsed 2048 cs s m k) (λ i j. variableUsed vs s i j)) (used m k)))
+    cond (eqb g inputGuardKind) (thenUsed (nameUsed 2048 cs s m k) (λ i j. variableUsed vs s i j)) (used m k)))
 
 unfoldable pub headUsed : (kind depth variables channels : ℕ) → List ℕ → ℕ → List ℕ → Used
-headUsed k d vs cs s at l = cond (ltb k 9) (used at l) (cond (ltb k 11) (exprUsed d vs s at l) (guardUsed d vs cs s at l))
+headUsed k d vs cs s at l = cond (ltb k ifKind) (used at l) (cond (ltb k altKind) (exprUsed d vs s at l) (guardUsed d vs cs s at l))
 
 -- so many parts, with what uses the statements inside
 unfoldable pub repeated : (ℕ → List ℕ → Used) → (ℕ → List ℕ → Used) → (count : ℕ) → ℕ → List ℕ → Used
@@ -62,9 +64,9 @@ unfoldable pub stmtUsed : (depth variables channels : ℕ) → List ℕ → ℕ 
 stmtUsed zero vs cs s at l = used at l
 stmtUsed (suc d) vs cs s at l =
     withNumber (used at l) (groupsAt 5 s at) (λ k n.
-    cond (ltb k 5) (simpleUsed k d vs cs s n l)
-    (cond (ltb k 7) (stmtUsed d vs cs s (valueAt s n .next) l)
-    (cond (eqb k 10) (repeated (λ i j. headUsed k d vs cs s i j) (λ i j. stmtUsed d vs cs s i j) 1 n l)
+    cond (ltb k varKind) (simpleUsed k d vs cs s n l)
+    (cond (ltb k seqKind) (stmtUsed d vs cs s (valueAt s n .next) l)
+    (cond (eqb k whileKind) (repeated (λ i j. headUsed k d vs cs s i j) (λ i j. stmtUsed d vs cs s i j) 1 n l)
     (withNumber (used n l) (groupsAt 5 s n) (λ c m.
     repeated (λ i j. headUsed k d vs cs s i j) (λ i j. stmtUsed d vs cs s i j) c m l)))))
 
@@ -73,7 +75,7 @@ manyUsed k c d vs cs s at l = repeated (λ i j. headUsed k d vs cs s i j) (λ i 
 
 unfoldable pub partsUsed : (kind depth variables channels : ℕ) → List ℕ → ℕ → List ℕ → Used
 partsUsed k d vs cs s at l =
-    cond (eqb k 10) (manyUsed k 1 (d - 1) vs cs s at l)
+    cond (eqb k whileKind) (manyUsed k 1 (d - 1) vs cs s at l)
     (withNumber (used at l) (groupsAt 5 s at) (λ c m. manyUsed k c (d - 1) vs cs s m l))
 
 -- below k: a name that one changes and the other uses, or a channel that both input from or both output to

@@ -11,11 +11,11 @@ pub enum ExprRead {
     Refused(u32, usize),
 }
 
-// A constant (kind 0) or a variable (kind 1).
+// A constant or a variable.
 fn read_leaf(table: &[u8], at: usize, kind: u64, variables: u64) -> ExprRead
     ensures { λ r. ⌜ r ≡ leafAt kind variables (now (table .entry)) at ⌝ }
 {
-    if kind == 0 {
+    if kind == crate::kinds::CONSTANT {
         return no_expr(numbers::read_between(table, at, 0, 4294967295));
     }
     no_expr(numbers::read_name(table, at, variables, 0, 0))
@@ -63,15 +63,15 @@ pub fn read_expr(table: &[u8], at: usize, depth: u64, variables: u64) -> ExprRea
     if depth == 0 {
         return no_expr(numbers::read_deep(table, at));
     }
-    match numbers::read_between(table, at, 0, 3) {
+    match numbers::read_between(table, at, 0, crate::kinds::LAST_EXPRESSION) {
         numbers::Item::Item(kind, next) => {
-            if kind < 2 {
+            if kind < crate::kinds::NOT {
                 return read_leaf(table, next, kind, variables);
             }
-            if kind == 2 {
+            if kind == crate::kinds::NOT {
                 return read_expr(table, next, depth - 1, variables);
             }
-            match numbers::read_between(table, next, 0, 7) {
+            match numbers::read_between(table, next, 0, crate::kinds::LAST_OPERATOR) {
                 numbers::Item::Item(operator, after) => read_sides(table, after, depth, variables),
                 numbers::Item::Refused(n, p) => ExprRead::Refused(n, p),
             }

@@ -96,7 +96,7 @@ fn read_whole(table: &[u8], at: usize, depth: u64, variables: u64) -> HeadRead
 {
     match crate::expr::read_expr(table, at, depth, variables) {
         crate::expr::ExprRead::Expr(next, registers) => {
-            if registers <= 3 {
+            if registers <= model::limits::REGISTERS {
                 HeadRead::Head(next, First::Nowhere)
             } else {
                 HeadRead::Head(next, First::At(at))
@@ -143,15 +143,15 @@ fn read_input(table: &[u8], at: usize, names: Names, deep: First) -> HeadRead
     }
 }
 
-// Kinds 0 to 4: SKIP, STOP, assign, input, output.
+// The kinds before VAR: SKIP, STOP, assign, input, output.
 fn read_simple(table: &[u8], at: usize, kind: u64, depth: u64, names: Names) -> StmtRead
     requires { ⌜ (depth ≤ 32) × (names .inputs ≤ 8) × (names .outputs ≤ 8) ⌝ }
     ensures { λ r. ⌜ r ≡ simpleAt kind depth names (now (table .entry)) at ⌝ }
 {
-    if kind < 2 {
+    if kind < crate::kinds::ASSIGN {
         return leaf_part(at, 2, First::Nowhere);
     }
-    if kind == 2 {
+    if kind == crate::kinds::ASSIGN {
         return match numbers::read_name(table, at, names.variables, 0, 0) {
             numbers::Item::Item(variable, next) => read_value(
                 table,
@@ -163,7 +163,7 @@ fn read_simple(table: &[u8], at: usize, kind: u64, depth: u64, names: Names) -> 
             numbers::Item::Refused(n, p) => StmtRead::Refused(n, p),
         };
     }
-    if kind == 3 {
+    if kind == crate::kinds::INPUT {
         return match read_input(table, at, names, First::Nowhere) {
             HeadRead::Head(next, deep) => leaf_part(next, 3, deep),
             HeadRead::Refused(n, p) => StmtRead::Refused(n, p),
@@ -175,15 +175,15 @@ fn read_simple(table: &[u8], at: usize, kind: u64, depth: u64, names: Names) -> 
     }
 }
 
-// A guard: its kind, its condition, and for kind 0 its channel and its variable.
+// A guard: its kind, its condition, and if it waits for input its channel and its variable.
 fn read_guard(table: &[u8], at: usize, depth: u64, names: Names) -> HeadRead
     requires { ⌜ (depth ≤ 32) × (names .inputs ≤ 8) × (names .outputs ≤ 8) ⌝ }
     ensures { λ r. ⌜ r ≡ guardAt depth names (now (table .entry)) at ⌝ }
 {
-    match numbers::read_between(table, at, 0, 1) {
+    match numbers::read_between(table, at, 0, crate::kinds::LAST_GUARD) {
         numbers::Item::Item(kind, next) => match read_whole(table, next, depth, names.variables) {
             HeadRead::Head(last, deep) => {
-                if kind == 0 {
+                if kind == crate::kinds::INPUT_GUARD {
                     read_input(table, last, names, deep)
                 } else {
                     HeadRead::Head(last, deep)
@@ -195,15 +195,15 @@ fn read_guard(table: &[u8], at: usize, depth: u64, names: Names) -> HeadRead
     }
 }
 
-// What stands before the statement of a part: nothing (7, 8), a condition (9, 10), a guard (11).
+// What stands before the statement of a part: nothing (SEQ, PAR), a condition (IF, WHILE), a guard (ALT).
 fn read_head(table: &[u8], at: usize, kind: u64, depth: u64, names: Names) -> HeadRead
     requires { ⌜ (depth ≤ 32) × (names .inputs ≤ 8) × (names .outputs ≤ 8) ⌝ }
     ensures { λ r. ⌜ r ≡ headAt kind depth names (now (table .entry)) at ⌝ }
 {
-    if kind < 9 {
+    if kind < crate::kinds::IF {
         return HeadRead::Head(at, First::Nowhere);
     }
-    if kind < 11 {
+    if kind < crate::kinds::ALT {
         return read_whole(table, at, depth, names.variables);
     }
     read_guard(table, at, depth, names)
@@ -247,7 +247,7 @@ fn add(sum: Sum, part: Part) -> Sum
 fn gather(kind: u64, sum: Sum) -> StmtRead
     ensures { λ r. ⌜ r ≡ gathered kind (Total sum) ⌝ }
 {
-    let least = if kind == 11 { 4 } else { 2 };
+    let least = if kind == crate::kinds::ALT { 4 } else { 2 };
     let words = larger(least, sum.most);
     let processes = larger(1, sum.live);
     let deep = sum.deep;
@@ -405,15 +405,15 @@ fn read_par(table: &[u8], place: usize, at: usize, count: u64, depth: u64, names
     close_par(place, sum, bad)
 }
 
-// VAR (kind 5) and CHAN (kind 6): a count and a statement in which so many more names are in scope.
+// VAR and CHAN: a count and a statement in which so many more names are in scope.
 fn read_declaration(table: &[u8], at: usize, kind: u64, depth: u64, names: Names) -> StmtRead
     requires { ⌜ (0 < depth) × Fits names depth × (length (now table) ≤ 16384) ⌝ }
     ensures { λ r. ⌜ r ≡ declaredAt kind depth names (now (table .entry)) at ⌝ }
 {
-    match numbers::read_between(table, at, 1, 32) {
+    match numbers::read_between(table, at, 1, model::limits::NAMES) {
         numbers::Item::Item(count, next) => {
             let mut more = names;
-            if kind == 5 {
+            if kind == crate::kinds::VAR {
                 more.variables = names.variables + count;
             } else {
                 more.channels = names.channels + count;
@@ -424,7 +424,7 @@ fn read_declaration(table: &[u8], at: usize, kind: u64, depth: u64, names: Names
     }
 }
 
-// Kinds 7 to 11: a count, which a WHILE does not have, and the parts.
+// The kinds from SEQ on: a count, which a WHILE does not have, and the parts.
 fn read_parts(
     table: &[u8],
     place: usize,
@@ -436,13 +436,17 @@ fn read_parts(
     requires { ⌜ (0 < depth) × Fits names depth × (length (now table) ≤ 16384) ⌝ }
     ensures { λ r. ⌜ r ≡ partsAt place kind depth names (now (table .entry)) at ⌝ }
 {
-    if kind == 10 {
+    if kind == crate::kinds::WHILE {
         return read_most(table, at, kind, 1, depth - 1, names);
     }
-    let most = if kind == 8 { 16 } else { 32 };
+    let most = if kind == crate::kinds::PAR {
+        model::limits::BRANCHES
+    } else {
+        model::limits::PARTS
+    };
     match numbers::read_between(table, at, 0, most) {
         numbers::Item::Item(count, next) => {
-            if kind == 8 {
+            if kind == crate::kinds::PAR {
                 read_par(table, place, next, count, depth - 1, names)
             } else {
                 read_most(table, next, kind, count, depth - 1, names)
@@ -460,12 +464,12 @@ pub fn read_stmt(table: &[u8], at: usize, depth: u64, names: Names) -> StmtRead
     if depth == 0 {
         return no_stmt(numbers::read_deep(table, at));
     }
-    match numbers::read_between(table, at, 0, 11) {
+    match numbers::read_between(table, at, 0, crate::kinds::LAST_STATEMENT) {
         numbers::Item::Item(kind, next) => {
-            if kind < 5 {
+            if kind < crate::kinds::VAR {
                 return read_simple(table, next, kind, depth - 1, names);
             }
-            if kind < 7 {
+            if kind < crate::kinds::SEQ {
                 return read_declaration(table, next, kind, depth, names);
             }
             read_parts(table, at, next, kind, depth, names)

@@ -19,7 +19,7 @@ fn finish(ins: u64, outs: u64, length: usize, part: crate::stmt::Part) -> model:
         crate::stmt::First::Nowhere => match deep {
             crate::stmt::First::At(p) => model::Reading::Refused(8, p),
             crate::stmt::First::Nowhere => {
-                if part.processes <= 64 {
+                if part.processes <= model::limits::PROCESSES {
                     model::Reading::Accepted(model::Facts {
                         words: (part.words + ins + outs) as u32,
                         inputs: ins as u32,
@@ -45,24 +45,29 @@ fn read_body(table: &[u8], at: usize, ins: u64, outs: u64) -> model::Reading
         inputs: ins,
         outputs: outs,
     };
-    match crate::stmt::read_stmt(table, at, 32, names) {
+    match crate::stmt::read_stmt(table, at, model::limits::DEPTH, names) {
         crate::stmt::StmtRead::Stmt(part) => finish(ins, outs, table.len(), part),
         crate::stmt::StmtRead::Refused(n, p) => model::Reading::Refused(n, p),
     }
 }
 
-// A table of 1 to 16384 bytes: the channel counts, then the statement.
+// A table of 1 byte to the most that one may have: the channel counts, then the statement.
 pub fn read_table(table: &[u8]) -> model::Reading
     ensures { λ r. ⌜ r ≡ tableAt (now (table .entry)) ⌝ }
 {
     if table.len() == 0 {
         return model::Reading::Refused(1, 0);
     }
-    if 16384 < table.len() {
+    if model::limits::TABLE < table.len() {
         return model::Reading::Refused(1, 0);
     }
-    match numbers::read_between(table, 0, 0, 8) {
-        numbers::Item::Item(ins, next) => match numbers::read_between(table, next, 0, 8) {
+    match numbers::read_between(table, 0, 0, model::limits::CHANNELS) {
+        numbers::Item::Item(ins, next) => match numbers::read_between(
+            table,
+            next,
+            0,
+            model::limits::CHANNELS,
+        ) {
             numbers::Item::Item(outs, last) => read_body(table, last, ins, outs),
             numbers::Item::Refused(n, p) => model::Reading::Refused(n, p),
         },

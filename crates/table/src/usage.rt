@@ -58,13 +58,13 @@ fn use_expr(part: &[u8], at: usize, depth: u64, marks: &mut [u8; 4096], limit: u
     }
     match numbers::read_groups(part, at, 5) {
         numbers::NumberRead::Number(kind, next) => {
-            if kind == 0 {
+            if kind == crate::kinds::CONSTANT {
                 return numbers::skip(part, next);
             }
-            if kind == 1 {
+            if kind == crate::kinds::VARIABLE {
                 return use_name(part, next, marks, 1024, limit);
             }
-            if kind == 2 {
+            if kind == crate::kinds::NOT {
                 return use_expr(part, next, depth - 1, marks, limit);
             }
             let left = numbers::skip(part, next);
@@ -75,7 +75,7 @@ fn use_expr(part: &[u8], at: usize, depth: u64, marks: &mut [u8; 4096], limit: u
     }
 }
 
-// Kinds 0 to 4.
+// The kinds before VAR.
 fn use_simple(
     part: &[u8],
     at: usize,
@@ -88,14 +88,14 @@ fn use_simple(
     requires { ⌜ (variables ≤ 1024) × (channels ≤ 1024) ⌝ }
     ensures { λ r. ⌜ used r (now (marks .exit)) ≡ simpleUsed kind depth variables channels (now (part .entry)) at (now (marks .entry)) ⌝ }
 {
-    if kind < 2 {
+    if kind < crate::kinds::ASSIGN {
         return at;
     }
-    if kind == 2 {
+    if kind == crate::kinds::ASSIGN {
         let value = use_variable(part, at, marks, variables);
         return use_expr(part, value, depth, marks, variables);
     }
-    if kind == 3 {
+    if kind == crate::kinds::INPUT {
         let variable = use_name(part, at, marks, 2048, channels);
         return use_variable(part, variable, marks, variables);
     }
@@ -118,7 +118,7 @@ fn use_guard(
     match numbers::read_groups(part, at, 5) {
         numbers::NumberRead::Number(kind, next) => {
             let channel = use_expr(part, next, depth, marks, variables);
-            if kind == 0 {
+            if kind == crate::kinds::INPUT_GUARD {
                 let variable = use_name(part, channel, marks, 2048, channels);
                 return use_variable(part, variable, marks, variables);
             }
@@ -128,7 +128,7 @@ fn use_guard(
     }
 }
 
-// What stands before the statement of a part: nothing (7, 8), a condition (9, 10), a guard (11).
+// What stands before the statement of a part: nothing (SEQ, PAR), a condition (IF, WHILE), a guard (ALT).
 fn use_head(
     part: &[u8],
     at: usize,
@@ -141,10 +141,10 @@ fn use_head(
     requires { ⌜ (variables ≤ 1024) × (channels ≤ 1024) ⌝ }
     ensures { λ r. ⌜ used r (now (marks .exit)) ≡ headUsed kind depth variables channels (now (part .entry)) at (now (marks .entry)) ⌝ }
 {
-    if kind < 9 {
+    if kind < crate::kinds::IF {
         return at;
     }
-    if kind < 11 {
+    if kind < crate::kinds::ALT {
         return use_expr(part, at, depth, marks, variables);
     }
     use_guard(part, at, depth, marks, variables, channels)
@@ -192,10 +192,10 @@ pub fn use_stmt(
     }
     match numbers::read_groups(part, at, 5) {
         numbers::NumberRead::Number(kind, next) => {
-            if kind < 5 {
+            if kind < crate::kinds::VAR {
                 return use_simple(part, next, kind, depth - 1, marks, variables, channels);
             }
-            if kind < 7 {
+            if kind < crate::kinds::SEQ {
                 return use_stmt(
                     part,
                     numbers::skip(part, next),
@@ -211,7 +211,7 @@ pub fn use_stmt(
     }
 }
 
-// The parts of a statement of kind 7 to 11, with their count, which a WHILE does not have.
+// The parts of a statement of the kinds from SEQ on, with their count, which a WHILE does not have.
 fn use_parts(
     part: &[u8],
     at: usize,
@@ -224,7 +224,7 @@ fn use_parts(
     requires { ⌜ (0 < depth) × (variables ≤ 1024) × (channels ≤ 1024) ⌝ }
     ensures { λ r. ⌜ used r (now (marks .exit)) ≡ partsUsed kind depth variables channels (now (part .entry)) at (now (marks .entry)) ⌝ }
 {
-    if kind == 10 {
+    if kind == crate::kinds::WHILE {
         return use_many(part, at, kind, 1, depth - 1, marks, variables, channels);
     }
     match numbers::read_groups(part, at, 5) {

@@ -24,7 +24,7 @@ returns c =
     let n = z .size .given .0 .0 in
     let x = compile (a .table .now) (length (a .out .now)) in
     let g = front-given x n (a .out .now) (sym (i .compile-into .ensures .0) ∙ z .size .given .1) in
-    (ap (take n) (i .compile-into .ensures .1) ∙ g .0, (g .1, g .2))
+    (ap (take n) (i .compile-into .ensures .1 .0) ∙ g .0, (g .1, g .2))
 
 returns-2 : tie.Need-returns-2
 returns-2 c =
@@ -33,7 +33,7 @@ returns-2 c =
     let a = i .before .before .before .before .args in
     let x = compile (a .table .now) (length (a .out .now)) in
     let g = refusal-given x _ _ (a .out .now) (sym (i .compile-into .ensures .0) ∙ z .n .given .1) in
-    (i .compile-into .ensures .1 ∙ g .0, (g .1, g .2))
+    (i .compile-into .ensures .1 .0 ∙ g .0, (g .1, g .2))
 
 pub compile-spec : {M : Type 1} → statement M
 compile-spec =

@@ -5,35 +5,39 @@ use Rattle.compiler.proofs.compile_into.Tie as tie
 use mathlib.Core.Path.{refl, sym, ap, _∙_}
 use Rattle.compiler.proofs.Compiled.{accepted-as, compile-refused, words-refused, bytes-refused, room-refused, code-answered}
 use Rattle.compiler.proofs.Compiled.{code-written}
+use Rattle.model.specs.Answers.{refusedCompiling}
+use Rattle.model.specs.Code.{compile}
+use Rattle.model.proofs.Refused.{compile-refuses}
 use Rattle.model.specs.declared.Compiled.the-variants.{Code}
 
 returns : tie.Need-returns
 returns c =
     let f = c .before .before .before in
-    let q = accepted-as _ _ (sym (f .before .before .read .ensures) ∙ f .facts .given .1) in
+    let q = accepted-as _ _ (sym (f .before .before .read .ensures .0) ∙ f .facts .given .1) in
     let k = f .before .before .before .before in
-    rw (words-refused _ _ (λ y. k .shared-slice-known .given y .fits) _ (q .0) (q .1) (q .2) (c .if1 .taken)) (refl, refl)
+    rw (words-refused _ _ (λ y. k .shared-slice-known .given y .fits) _ (q .0) (q .1) (q .2) (c .if1 .taken)) (refl, (refl, refl))
 
 returns-2 : tie.Need-returns-2
 returns-2 c =
     let i = c .before .before in
     let f = i .before .before .before in
-    let q = accepted-as _ _ (sym (f .before .before .read .ensures) ∙ f .facts .given .1) in
+    let q = accepted-as _ _ (sym (f .before .before .read .ensures .0) ∙ f .facts .given .1) in
     let k = f .before .before .before .before in
     let large = rw (c .before .code-size .ensures) at (c .if2 .taken) in
-    rw (bytes-refused _ _ (λ y. k .shared-slice-known .given y .fits) _ (q .0) (q .1) (q .2) (i .if1 .left) large) (refl, refl)
+    rw (bytes-refused _ _ (λ y. k .shared-slice-known .given y .fits) _ (q .0) (q .1) (q .2) (i .if1 .left) large) (refl, (refl, refl))
 
 returns-3 : tie.Need-returns-3
 returns-3 c =
     let s = c .before .before in
     let i = s .before in
     let f = i .before .before .before in
-    let q = accepted-as _ _ (sym (f .before .before .read .ensures) ∙ f .facts .given .1) in
+    let q = accepted-as _ _ (sym (f .before .before .read .ensures .0) ∙ f .facts .given .1) in
     let k = f .before .before .before .before in
     let e = s .code-size .ensures in
     let small = rw e at (c .before .if2 .left) in
     let long = rw e at (c .if3 .taken) in
-    rw (room-refused _ _ (λ y. k .shared-slice-known .given y .fits) _ (q .0) (q .1) (q .2) (i .if1 .left) small long, ← e) (refl, refl)
+    rw (room-refused _ _ (λ y. k .shared-slice-known .given y .fits) _ (q .0) (q .1) (q .2) (i .if1 .left) small long, ← e)
+    (refl, (refl, refl))
 
 returns-4 : tie.Need-returns-4
 returns-4 c =
@@ -42,20 +46,20 @@ returns-4 c =
     let s = j .before .before in
     let i = s .before in
     let f = i .before .before .before in
-    let q = accepted-as _ _ (sym (f .before .before .read .ensures) ∙ f .facts .given .1) in
+    let q = accepted-as _ _ (sym (f .before .before .read .ensures .0) ∙ f .facts .given .1) in
     let k = f .before .before .before .before in
     let e = s .code-size .ensures in
     let small = rw e at (j .before .if2 .left) in
-    let room = rw e at (j .if3 .left) in (
-      ap Code e ∙ sym (code-answered _ _ (λ y. k .shared-slice-known .given y .fits) _ (q .0) (q .1) (q .2) (i .if1 .left) small room),
-      ap (λ x. x .out) (g .generate .ensures)
-          ∙ code-written _ _ (λ y. k .shared-slice-known .given y .fits) _ (q .0) (q .1) (q .2) (i .if1 .left) small room _ refl,
-    )
+    let room = rw e at (j .if3 .left) in
+    let d = code-answered _ _ (λ y. k .shared-slice-known .given y .fits) _ (q .0) (q .1) (q .2) (i .if1 .left) small room in
+    let a = ap Code e ∙ sym d in
+    let b = code-written _ _ (λ y. k .shared-slice-known .given y .fits) _ (q .0) (q .1) (q .2) (i .if1 .left) small room _ refl in
+    (a, (ap (λ x. x .out) (g .generate .ensures) ∙ b, ap refusedCompiling a ∙ compile-refuses (compile _ _)))
 
 returns-5 : tie.Need-returns-5
 returns-5 c =
     let n = c .before in
-    rw (compile-refused _ _ _ _ (sym (n .before .before .read .ensures) ∙ n .n .given .1)) (refl, refl)
+    rw (compile-refused _ _ _ _ (sym (n .before .before .read .ensures .0) ∙ n .n .given .1)) (refl, (refl, refl))
 
 pub compile-into-spec : {M : Type 1} → statement M
 compile-into-spec =

@@ -2,48 +2,49 @@
 -- and further: for a statement nothing; for a body, a branch and a choice 1; for the parts of SEQ, IF, PAR and ALT 2 and how many are
 -- left, which are fewer than 2 ^ 32; for what stands inside a statement, which has a level less, 2 ^ 33 - 1; for VAR, CHAN, WHILE, PAR and
 -- ALT, which that calls, 2 ^ 33 - 2. Assumes nothing.
+use Rattle.compiler.proofs.stmt as cycle
 use Prim.Native.Nat.{ℕ, _<_, _+_, _*_}
 use borrow.Fn.Kinds.{In}
 use borrow.Fn.PlainCycle.{Measures, is, falls, and}
 use Rattle.compiler.proofs.stmt.alt.Reads as alt
 use Rattle.compiler.proofs.stmt.alt.Kinds as alt-kinds
-use Rattle.compiler.proofs.stmt.+alt+body+branch+branches+choice+choices+declaration+inside+pairs+par+repetition+seq+statement.Lts-alt as alt-lts
+use cycle.+alt+body+branch+branches+choice+choices+declaration+inside+pairs+par+repetition+seq+statement.Lts-alt as alt-lts
 use Rattle.compiler.proofs.stmt.body.Reads as body
 use Rattle.compiler.proofs.stmt.body.Kinds as body-kinds
-use Rattle.compiler.proofs.stmt.+alt+body+branch+branches+choice+choices+declaration+inside+pairs+par+repetition+seq+statement.Lts-body as body-lts
+use cycle.+alt+body+branch+branches+choice+choices+declaration+inside+pairs+par+repetition+seq+statement.Lts-body as body-lts
 use Rattle.compiler.proofs.stmt.branch.Reads as branch
 use Rattle.compiler.proofs.stmt.branch.Kinds as branch-kinds
-use Rattle.compiler.proofs.stmt.+alt+body+branch+branches+choice+choices+declaration+inside+pairs+par+repetition+seq+statement.Lts-branch as branch-lts
+use cycle.+alt+body+branch+branches+choice+choices+declaration+inside+pairs+par+repetition+seq+statement.Lts-branch as branch-lts
 use Rattle.compiler.proofs.stmt.branches.Reads as branches
 use Rattle.compiler.proofs.stmt.branches.Kinds as branches-kinds
-use Rattle.compiler.proofs.stmt.+alt+body+branch+branches+choice+choices+declaration+inside+pairs+par+repetition+seq+statement.Lts-branches as branches-lts
+use cycle.+alt+body+branch+branches+choice+choices+declaration+inside+pairs+par+repetition+seq+statement.Lts-branches as branches-lts
 use Rattle.compiler.proofs.stmt.choice.Reads as choice
 use Rattle.compiler.proofs.stmt.choice.Kinds as choice-kinds
-use Rattle.compiler.proofs.stmt.+alt+body+branch+branches+choice+choices+declaration+inside+pairs+par+repetition+seq+statement.Lts-choice as choice-lts
+use cycle.+alt+body+branch+branches+choice+choices+declaration+inside+pairs+par+repetition+seq+statement.Lts-choice as choice-lts
 use Rattle.compiler.proofs.stmt.choices.Reads as choices
 use Rattle.compiler.proofs.stmt.choices.Kinds as choices-kinds
-use Rattle.compiler.proofs.stmt.+alt+body+branch+branches+choice+choices+declaration+inside+pairs+par+repetition+seq+statement.Lts-choices as choices-lts
+use cycle.+alt+body+branch+branches+choice+choices+declaration+inside+pairs+par+repetition+seq+statement.Lts-choices as choices-lts
 use Rattle.compiler.proofs.stmt.declaration.Reads as declaration
 use Rattle.compiler.proofs.stmt.declaration.Kinds as declaration-kinds
-use Rattle.compiler.proofs.stmt.+alt+body+branch+branches+choice+choices+declaration+inside+pairs+par+repetition+seq+statement.Lts-declaration as declaration-lts
+use cycle.+alt+body+branch+branches+choice+choices+declaration+inside+pairs+par+repetition+seq+statement.Lts-declaration as declaration-lts
 use Rattle.compiler.proofs.stmt.inside.Reads as inside
 use Rattle.compiler.proofs.stmt.inside.Kinds as inside-kinds
-use Rattle.compiler.proofs.stmt.+alt+body+branch+branches+choice+choices+declaration+inside+pairs+par+repetition+seq+statement.Lts-inside as inside-lts
+use cycle.+alt+body+branch+branches+choice+choices+declaration+inside+pairs+par+repetition+seq+statement.Lts-inside as inside-lts
 use Rattle.compiler.proofs.stmt.pairs.Reads as pairs
 use Rattle.compiler.proofs.stmt.pairs.Kinds as pairs-kinds
-use Rattle.compiler.proofs.stmt.+alt+body+branch+branches+choice+choices+declaration+inside+pairs+par+repetition+seq+statement.Lts-pairs as pairs-lts
+use cycle.+alt+body+branch+branches+choice+choices+declaration+inside+pairs+par+repetition+seq+statement.Lts-pairs as pairs-lts
 use Rattle.compiler.proofs.stmt.par.Reads as par
 use Rattle.compiler.proofs.stmt.par.Kinds as par-kinds
-use Rattle.compiler.proofs.stmt.+alt+body+branch+branches+choice+choices+declaration+inside+pairs+par+repetition+seq+statement.Lts-par as par-lts
+use cycle.+alt+body+branch+branches+choice+choices+declaration+inside+pairs+par+repetition+seq+statement.Lts-par as par-lts
 use Rattle.compiler.proofs.stmt.repetition.Reads as repetition
 use Rattle.compiler.proofs.stmt.repetition.Kinds as repetition-kinds
-use Rattle.compiler.proofs.stmt.+alt+body+branch+branches+choice+choices+declaration+inside+pairs+par+repetition+seq+statement.Lts-repetition as repetition-lts
+use cycle.+alt+body+branch+branches+choice+choices+declaration+inside+pairs+par+repetition+seq+statement.Lts-repetition as repetition-lts
 use Rattle.compiler.proofs.stmt.seq.Reads as seq
 use Rattle.compiler.proofs.stmt.seq.Kinds as seq-kinds
-use Rattle.compiler.proofs.stmt.+alt+body+branch+branches+choice+choices+declaration+inside+pairs+par+repetition+seq+statement.Lts-seq as seq-lts
+use cycle.+alt+body+branch+branches+choice+choices+declaration+inside+pairs+par+repetition+seq+statement.Lts-seq as seq-lts
 use Rattle.compiler.proofs.stmt.statement.Reads as statement′
 use Rattle.compiler.proofs.stmt.statement.Kinds as statement-kinds
-use Rattle.compiler.proofs.stmt.+alt+body+branch+branches+choice+choices+declaration+inside+pairs+par+repetition+seq+statement.Lts-statement as statement-lts
+use cycle.+alt+body+branch+branches+choice+choices+declaration+inside+pairs+par+repetition+seq+statement.Lts-statement as statement-lts
 use Rattle.compiler.proofs.alt.gen_enable.Reads as gen-enable-reads
 use Rattle.compiler.proofs.alt.gen_guard.Reads as gen-guard-reads
 use Rattle.compiler.proofs.alt.put_disable.Reads as put-disable-reads
@@ -63,8 +64,8 @@ use Rattle.emitter.proofs.below.Reads as below-reads
 use Rattle.emitter.proofs.declared.Reads as declared-reads
 use Rattle.word.proofs.plus.Reads as plus-reads
 use Rattle.numbers.proofs.value_at.Reads as value-at-reads
-use Rattle.compiler.proofs.stmt.+alt+body+branch+branches+choice+choices+declaration+inside+pairs+par+repetition+seq+statement.{statement}
-use Rattle.compiler.proofs.stmt.+alt+body+branch+branches+choice+choices+declaration+inside+pairs+par+repetition+seq+statement.Tie.{close}
+use cycle.+alt+body+branch+branches+choice+choices+declaration+inside+pairs+par+repetition+seq+statement.{statement}
+use cycle.+alt+body+branch+branches+choice+choices+declaration+inside+pairs+par+repetition+seq+statement.Tie.{close}
 use mathlib.Core.Path.{_∙_}
 use borrow.Author.Needs.{needs}
 use native.Mathlib.Omega.{arith}

@@ -21,19 +21,22 @@ returns-2 : tie.Need-returns-2
 unfolding operationCode operate
 returns-2 c =
     let pre = c .before .before .before .before .pre in
-    reduces less (operates diff (c .before .before .match .keys2)) (c .reduce .ensures) (c .before .less .ensures) (pre .0 .1) (pre .0 .3) _ _
+    reduces less (operates diff (c .before .before .match .keys2))
+    (c .reduce .ensures) (c .before .less .ensures) (pre .0 .1) (pre .0 .3) _ _
 
 returns-3 : tie.Need-returns-3
 unfolding operationCode operate
 returns-3 c =
     let pre = c .before .before .before .before .pre in
-    reduces (λ b a. low (b * a)) (operates prod (c .before .before .match .keys3)) (c .reduce2 .ensures) (c .before .product .ensures) (pre .0 .1) (pre .0 .3) _ _
+    reduces (λ b a. low (b * a)) (operates prod (c .before .before .match .keys3))
+    (c .reduce2 .ensures) (c .before .product .ensures) (pre .0 .1) (pre .0 .3) _ _
 
 returns-4 : tie.Need-returns-4
 unfolding operationCode operate
 returns-4 c =
     let pre = c .before .before .before .before .pre in
-    reduces (λ b a. truth (above b a)) (operates gt (c .before .before .match .keys4)) (c .reduce3 .ensures) (c .before .above .ensures) (pre .0 .1) (pre .0 .3) _ _
+    reduces (λ b a. truth (above b a)) (operates gt (c .before .before .match .keys4))
+    (c .reduce3 .ensures) (c .before .above .ensures) (pre .0 .1) (pre .0 .3) _ _
 
 returns-5 : tie.Need-returns-5
 unfolding operationCode operate
@@ -71,7 +74,8 @@ returns-10 : tie.Need-returns-10
 unfolding operationCode operate
 returns-10 c =
     let pre = c .before .before .before .before .pre in
-    reduces (λ b a. low (b + a)) (operates sum (c .before .before .match .keys10)) (c .reduce7 .ensures) (c .before .plus2 .ensures) (pre .0 .1) (pre .0 .3) _ _
+    reduces (λ b a. low (b + a)) (operates sum (c .before .before .match .keys10))
+    (c .reduce7 .ensures) (c .before .plus2 .ensures) (pre .0 .1) (pre .0 .3) _ _
 
 pub operate-spec : {M : Type 1} → statement M
 operate-spec =

@@ -6,6 +6,10 @@ use mathlib.Core.Logic.{⊎-elim}
 use borrow.Author.Needs.{needs}
 use borrow.Author.Tests.{ltb-true, ltb-false}
 use lib.ListN.{length}
+use Rattle.model.specs.Answers.{refusedStart}
+use Rattle.model.specs.Run.{start}
+use Rattle.model.proofs.Refused.{start-refuses}
+use Rattle.machine.proofs.Numbers.{with-number}
 use Rattle.machine.proofs.Refusals.{bad-slice, bad-count, too-large, short, starts}
 use Rattle.machine.proofs.begin.start.Statement.{statement}
 use Rattle.machine.proofs.begin.start.Tie as tie
@@ -14,14 +18,16 @@ returns : tie.Need-returns
 returns c =
     let a = c .before .before .before .before .args in
     let h : 1 ≤ a .slice → a .slice ≤ 65535 → ⊥ = λ p q. ⊎-elim (λ t. omega arith) (λ t. omega (arith, ltb-true)) (c .before .if1 .came) in
-    rw (bad-slice _ _ _ _ _ _ h) (c .refused .ensures .0, (c .refused .ensures .1, refl))
+    with-number refusedStart (start _ _ _ _ _ _) (start-refuses _ _ _ _ _ _)
+    (rw (bad-slice _ _ _ _ _ _ h) (c .refused .ensures .0, (c .refused .ensures .1, refl)))
 
 returns-2 : tie.Need-returns-2
 returns-2 c =
     let a = c .before .before .before .before .before .before .args in
     let q : a .slice ≤ 65535 = omega (arith, ltb-false) in
     let h : a .inputs ≤ 8 → a .outputs ≤ 8 → ⊥ = λ p q. ⊎-elim (λ t. omega arith) (λ t. omega (arith, ltb-true)) (c .before .if3 .came) in
-    rw (bad-count _ _ _ _ _ _ (omega arith) q h) (c .refused2 .ensures .0, (c .refused2 .ensures .1, refl))
+    with-number refusedStart (start _ _ _ _ _ _) (start-refuses _ _ _ _ _ _)
+    (rw (bad-count _ _ _ _ _ _ (omega arith) q h) (c .refused2 .ensures .0, (c .refused2 .ensures .1, refl)))
 
 returns-3 : tie.Need-returns-3
 returns-3 c =
@@ -31,7 +37,8 @@ returns-3 c =
     let q : a .slice ≤ 65535 = omega (arith, ltb-false) in
     let o : a .outputs ≤ 8 = omega (arith, ltb-false) in
     let h : n ≤ 4096 → length (a .code .now) ≤ 16384 → ⊥ = λ p q. ⊎-elim (λ t. omega arith) (λ t. omega (arith, ltb-true)) j in
-    rw (too-large _ _ _ (a .inputs) _ _ (omega arith) q (omega arith) o h) (c .refused3 .ensures .0, (c .refused3 .ensures .1, refl))
+    with-number refusedStart (start _ _ _ _ _ _) (start-refuses _ _ _ _ _ _)
+    (rw (too-large _ _ _ (a .inputs) _ _ (omega arith) q (omega arith) o h) (c .refused3 .ensures .0, (c .refused3 .ensures .1, refl)))
 
 returns-4 : tie.Need-returns-4
 returns-4 c =
@@ -40,7 +47,8 @@ returns-4 c =
     let o : a .outputs ≤ 8 = omega (arith, ltb-false) in
     let b : length (a .code .now) ≤ 16384 = omega (arith, ltb-false) in
     let m : length (a .memory .now) < a .w + a .inputs + a .outputs = omega arith in
-    rw (short _ _ _ _ _ _ (omega arith) q (omega arith) o (omega arith) b m) (c .refused4 .ensures .0, (c .refused4 .ensures .1, refl))
+    with-number refusedStart (start _ _ _ _ _ _) (start-refuses _ _ _ _ _ _)
+    (rw (short _ _ _ _ _ _ (omega arith) q (omega arith) o (omega arith) b m) (c .refused4 .ensures .0, (c .refused4 .ensures .1, refl)))
 
 cast-code : tie.Need-cast-t29
 cast-code c = omega (arith, ltb-false)
@@ -53,8 +61,9 @@ returns-5 c =
     let o : a .outputs ≤ 8 = omega (arith, ltb-false) in
     let b : length (a .code .now) ≤ 16384 = omega (arith, ltb-false) in
     let m : a .w + a .inputs + a .outputs ≤ length (a .memory .now) = omega arith in
-    rw (starts _ _ _ _ _ _ (omega arith) q (omega arith) o (omega arith) b m)
-    (c .started .ensures .0, (c .started .ensures .1, t .clear .ensures))
+    with-number refusedStart (start _ _ _ _ _ _) (start-refuses _ _ _ _ _ _)
+    (rw (starts _ _ _ _ _ _ (omega arith) q (omega arith) o (omega arith) b m)
+    (c .started .ensures .0, (c .started .ensures .1, t .clear .ensures)))
 
 pub start-spec : {M : Type 1} → statement M
 start-spec =

@@ -2,6 +2,10 @@
 use borrow.Author.Needs.{needs}
 use native.Mathlib.Omega.{arith}
 use mathlib.Core.Path.{refl}
+use Rattle.model.specs.Answers.{refusedRun}
+use Rattle.model.specs.Run.{run}
+use Rattle.model.proofs.Refused.{run-refuses}
+use Rattle.machine.proofs.Numbers.{with-number}
 use Rattle.machine.proofs.Answered.{short-code, short-memory, kept-fault}
 use Rattle.machine.proofs.budget.run.Statement.{statement}
 use Rattle.machine.proofs.budget.run.Tie as tie
@@ -10,22 +14,31 @@ returns : tie.Need-returns
 returns c =
     let args = c .before .before .before .before .before .before .before .args in
     let u = c .unchanged .ensures in
-    rw (short-code (args .machine) (args .code .now) (args .memory .now) (args .budget) (omega arith)) (u .0, (u .1, refl))
+    with-number refusedRun (run _ _ _ _) (run-refuses _ _ _ _)
+    (rw (short-code (args .machine) (args .code .now) (args .memory .now) (args .budget) (omega arith)) (u .0, (u .1, refl)))
 
 returns-2 : tie.Need-returns-2
 returns-2 c =
     let args = c .before .before .before .before .before .before .before .before .before .before .args in
     let u = c .unchanged2 .ensures in
-    rw (short-memory (args .machine) (args .code .now) (args .memory .now) (args .budget) (omega arith) (omega arith)) (u .0, (u .1, refl))
+    with-number refusedRun (run _ _ _ _) (run-refuses _ _ _ _)
+    (rw (short-memory (args .machine) (args .code .now) (args .memory .now) (args .budget) (omega arith) (omega arith))
+    (u .0, (u .1, refl)))
 
 returns-3 : tie.Need-returns-3
 returns-3 c =
     let far = c .before .before .before .before .before .before .before .before .before .before in
     let args = far .before .before .before .args in
     let u = c .unchanged3 .ensures in
-    rw (kept-fault (args .machine) (args .code .now) (args .memory .now) (args .budget) (omega arith) (omega arith)
+    with-number refusedRun (run _ _ _ _) (run-refuses _ _ _ _)
+    (rw (kept-fault (args .machine) (args .code .now) (args .memory .now) (args .budget) (omega arith) (omega arith)
     (c .before .before .fault .given .1))
-    (u .0, (u .1, refl))
+    (u .0, (u .1, refl)))
+
+returns-4 : tie.Need-returns-4
+returns-4 c =
+    let a = c .before .before .run-machine .ensures in
+    with-number refusedRun (run _ _ _ _) (run-refuses _ _ _ _) (a .answer, (a .machine, a .memory))
 
 pub run-spec : {M : Type 1} → statement M
 run-spec =
@@ -48,4 +61,4 @@ run-spec =
     (λ c κs. search needs)
     returns-3
     (λ c. search needs)
-    (λ c. search needs))
+    returns-4)

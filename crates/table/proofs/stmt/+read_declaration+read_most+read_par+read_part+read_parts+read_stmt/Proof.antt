@@ -1,26 +1,27 @@
 -- The functions of `table::stmt` that call each other meet their contracts. The measures are six times the depth left, one less for what
 -- follows a kind, and up to two more for the parts. Assumes nothing.
+use Rattle.table.proofs.stmt as cycle
 use Prim.Native.Nat.{ℕ, _<_, zero, suc, _+_, _-_, _*_, _≤_}
 use borrow.Fn.Kinds.{In}
 use borrow.Fn.PlainCycle.{Measures, is, falls, and}
 use Rattle.table.proofs.stmt.read_declaration.Reads as read-declaration
 use Rattle.table.proofs.stmt.read_declaration.Kinds as read-declaration-kinds
-use Rattle.table.proofs.stmt.+read_declaration+read_most+read_par+read_part+read_parts+read_stmt.Lts-read_declaration as read-declaration-lts
+use cycle.+read_declaration+read_most+read_par+read_part+read_parts+read_stmt.Lts-read_declaration as read-declaration-lts
 use Rattle.table.proofs.stmt.read_most.Reads as read-most
 use Rattle.table.proofs.stmt.read_most.Kinds as read-most-kinds
-use Rattle.table.proofs.stmt.+read_declaration+read_most+read_par+read_part+read_parts+read_stmt.Lts-read_most as read-most-lts
+use cycle.+read_declaration+read_most+read_par+read_part+read_parts+read_stmt.Lts-read_most as read-most-lts
 use Rattle.table.proofs.stmt.read_par.Reads as read-par
 use Rattle.table.proofs.stmt.read_par.Kinds as read-par-kinds
-use Rattle.table.proofs.stmt.+read_declaration+read_most+read_par+read_part+read_parts+read_stmt.Lts-read_par as read-par-lts
+use cycle.+read_declaration+read_most+read_par+read_part+read_parts+read_stmt.Lts-read_par as read-par-lts
 use Rattle.table.proofs.stmt.read_part.Reads as read-part
 use Rattle.table.proofs.stmt.read_part.Kinds as read-part-kinds
-use Rattle.table.proofs.stmt.+read_declaration+read_most+read_par+read_part+read_parts+read_stmt.Lts-read_part as read-part-lts
+use cycle.+read_declaration+read_most+read_par+read_part+read_parts+read_stmt.Lts-read_part as read-part-lts
 use Rattle.table.proofs.stmt.read_parts.Reads as read-parts
 use Rattle.table.proofs.stmt.read_parts.Kinds as read-parts-kinds
-use Rattle.table.proofs.stmt.+read_declaration+read_most+read_par+read_part+read_parts+read_stmt.Lts-read_parts as read-parts-lts
+use cycle.+read_declaration+read_most+read_par+read_part+read_parts+read_stmt.Lts-read_parts as read-parts-lts
 use Rattle.table.proofs.stmt.read_stmt.Reads as read-stmt
 use Rattle.table.proofs.stmt.read_stmt.Kinds as read-stmt-kinds
-use Rattle.table.proofs.stmt.+read_declaration+read_most+read_par+read_part+read_parts+read_stmt.Lts-read_stmt as read-stmt-lts
+use cycle.+read_declaration+read_most+read_par+read_part+read_parts+read_stmt.Lts-read_stmt as read-stmt-lts
 use Rattle.numbers.proofs.read_between.Reads as read-between-reads
 use Rattle.numbers.proofs.read_deep.Reads as read-deep-reads
 use Rattle.table.proofs.stmt.add.Reads as add-reads
@@ -32,8 +33,8 @@ use Rattle.table.proofs.stmt.no_stmt.Reads as no-stmt-reads
 use Rattle.table.proofs.stmt.read_head.Reads as read-head-reads
 use Rattle.table.proofs.stmt.read_simple.Reads as read-simple-reads
 use Rattle.table.proofs.usage.check_branch.Reads as check-branch-reads
-use Rattle.table.proofs.stmt.+read_declaration+read_most+read_par+read_part+read_parts+read_stmt.{statement}
-use Rattle.table.proofs.stmt.+read_declaration+read_most+read_par+read_part+read_parts+read_stmt.Tie.{close}
+use cycle.+read_declaration+read_most+read_par+read_part+read_parts+read_stmt.{statement}
+use cycle.+read_declaration+read_most+read_par+read_part+read_parts+read_stmt.Tie.{close}
 use borrow.Author.Needs.{needs}
 use borrow.Author.Tests.{lt-ltb, le-ltb, eq-eqb, ne-eqb}
 use native.Mathlib.Omega.{arith}

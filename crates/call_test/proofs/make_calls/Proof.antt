@@ -1,0 +1,28 @@
+-- `call_test::make_calls` is safe and ends. Code and memory keep their lengths; the measure is the turns that are left. Assumes nothing.
+use mathlib.Core.Path.{_≡_}
+use borrow.Author.Needs.{needs}
+use lib.ListN.{length}
+use Rattle.call_test.proofs.make_calls.Statement.{statement}
+use Rattle.call_test.proofs.make_calls.Tie as tie
+
+abbrev Inv-loop : tie.InvT-loop
+Inv-loop numbers code₀ memory₀ list₀ turns₀ code memory list turns = (length code ≡ length code₀) × (length memory ≡ length memory₀)
+
+abbrev μ-loop : tie.MeasureT-loop
+μ-loop numbers code₀ memory₀ list₀ turns₀ code memory list turns = turns
+
+pub make-calls-spec : {M : Type 1} → statement M
+make-calls-spec =
+    tie.close
+    (tie.spec
+    Inv-loop
+    μ-loop
+    (λ c κs. search needs)
+    (λ c. search needs)
+    (λ c κs. search needs)
+    (λ c. search needs)
+    (λ c. search needs)
+    (λ c. search needs)
+    (λ c. search needs)
+    (λ c. search needs)
+    (λ c. search needs))

@@ -1,0 +1,38 @@
+// Document 01's limits.
+
+// The bytes of a table.
+pub const TABLE: usize = 16384;
+
+// The bytes of code.
+pub const CODE: usize = 16384;
+
+// The words of memory, with outside channels; in 64 bits where they are summed wide.
+pub const WORDS: u32 = 4096;
+
+pub const WIDE_WORDS: u64 = WORDS as u64;
+
+// The deepest statement or expression.
+pub const DEPTH: u64 = 32;
+
+// Processes that are live together.
+pub const PROCESSES: u64 = 64;
+
+// Registers that an expression needs.
+pub const REGISTERS: u64 = 3;
+
+// Outside inputs, and outside outputs: as a table's count, and as a start's.
+pub const CHANNELS: u64 = 8;
+
+pub const START_CHANNELS: u32 = CHANNELS as u32;
+
+// The slice.
+pub const SLICE: u32 = 65535;
+
+// The names of a VAR or CHAN.
+pub const NAMES: u64 = 32;
+
+// The parts of a SEQ, an IF or an ALT.
+pub const PARTS: u64 = 32;
+
+// The branches of a PAR.
+pub const BRANCHES: u64 = 16;

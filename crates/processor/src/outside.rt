@@ -1,0 +1,82 @@
+// A process is woken from outside. A free processor takes it at once, and the place where it goes on is tested.
+use crate::memory::Peeked;
+use crate::memory::Step;
+use crate::memory::swap;
+use crate::memory::undo;
+use crate::process::join;
+use crate::process::land;
+use crate::process::resume;
+use word::less;
+ghost use mathlib.Core.Path.{_≡_};
+ghost use mathlib.Core.Bool.{false};
+ghost use Prim.Native.Nat.{_≤_};
+ghost use lib.ListN.{length};
+ghost use Rattle.model.specs.Machine.{join as joinOf};
+ghost use Rattle.processor.specs.Seen.{Works, Goes};
+ghost use Rattle.processor.specs.Pieces.{wakeJoin, wakeWaiting, notifyWake};
+
+// A free processor takes the process, and none is queued.
+fn join_free(memory: &[u32], size: u64, cpu: model::Cpu, w: u32) -> Step
+    requires { ⌜ (size ≤ length (now memory)) × (cpu .running ≡ false) ⌝ }
+    ensures { λ r. ⌜ Works size (joinOf w) cpu (now (memory .entry)) r (now (memory .entry)) ⌝ }
+{
+    let mut r = cpu;
+    r.front = w;
+    r.back = w;
+    r.queued = false;
+    resume(memory, size, r, w)
+}
+
+// The process joins the queue, or a free processor takes it and goes to its place.
+pub fn wake(memory: &mut [u32], size: u64, cpu: model::Cpu, code: u32, w: u32) -> Step
+    requires { ⌜ size ≤ length (now memory) ⌝ }
+    ensures { λ r. ⌜ Goes size code (wakeJoin w) cpu (now (memory .entry)) r (now (memory .exit)) ⌝ }
+{
+    if cpu.running {
+        return join(memory, size, cpu, w);
+    }
+    match join_free(memory, size, cpu, w) {
+        Step::Done(r) => land(r, code),
+        Step::Fault(k) => Step::Fault(k),
+    }
+}
+
+// An ALT was made Ready: its process is woken if it was Waiting.
+fn wake_waiting(
+    memory: &mut [u32],
+    size: u64,
+    cpu: model::Cpu,
+    code: u32,
+    p: u32,
+    state: u32,
+) -> Step
+    requires { ⌜ size ≤ length (now memory) ⌝ }
+    ensures { λ r. ⌜ Goes size code (wakeWaiting p state) cpu (now (memory .entry)) r (now (memory .exit)) ⌝ }
+{
+    if state == 2147483650 {
+        return wake(memory, size, cpu, code, p);
+    }
+    Step::Done(cpu)
+}
+
+// A process in an ALT is told from outside: its state becomes Ready, and it is woken if it was Waiting.
+pub fn notify_wake(
+    memory: &mut [u32],
+    size: u64,
+    cpu: model::Cpu,
+    code: u32,
+    p: u32,
+    state: u32,
+) -> Step
+    requires { ⌜ size ≤ length (now memory) ⌝ }
+    ensures { λ r. ⌜ Goes size code (notifyWake p state) cpu (now (memory .entry)) r (now (memory .exit)) ⌝ }
+{
+    let a = less(p, 3);
+    match swap(memory, size, a, 2147483651) {
+        Peeked::Value(old) => {
+            let step = wake_waiting(memory, size, cpu, code, p, state);
+            undo(memory, a, old, step)
+        }
+        Peeked::Fault(k) => Step::Fault(k),
+    }
+}

@@ -1,0 +1,27 @@
+-- `show::print_offers` is safe and ends; the measure is the offers that are left. Assumes nothing.
+use Prim.Native.Nat.{_≤_, _-_}
+use borrow.Author.Needs.{needs}
+use Rattle.show.proofs.print_offers.Statement.{statement}
+use Rattle.show.proofs.print_offers.Tie as tie
+
+abbrev Inv-loop : tie.InvT-loop
+Inv-loop held offers i₀ i = i ≤ 8
+
+abbrev μ-loop : tie.MeasureT-loop
+μ-loop held offers i₀ i = 8 - i
+
+pub print-offers-spec : {M : Type 1} → statement M
+print-offers-spec =
+    tie.close
+    (tie.spec
+    Inv-loop
+    μ-loop
+    (λ c. search needs)
+    (λ c. search needs)
+    (λ c. search needs)
+    (λ c. search needs)
+    (λ c κs. search needs)
+    (λ c. search needs)
+    (λ c. search needs)
+    (λ c. search needs)
+    (λ c. search needs))
