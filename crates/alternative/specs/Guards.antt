@@ -4,15 +4,14 @@ use mathlib.Core.Bool.{cond}
 use lib.Dec.{eqb}
 use Rattle.model.specs.Word.{notProcess}
 use Rattle.model.specs.Machine.{Act, _>>=_, _>>_, return, registers, stack, peek, poke, stateWord, resumeWord, release}
-use Rattle.model.specs.Execute.{changing, setReady, ready, waiting, select}
+use Rattle.model.specs.Execute.{changing, enableUnheld, ready, waiting, select}
 use Rattle.processor.specs.Pieces.{landing}
 
 -- ENBC with a true condition, where no offer is held
 abbrev pub enableInside : (channel : ℕ) → Act (Unit {0})
 enableInside c = do
   r ← registers
-  p ← peek c
-  cond (eqb p notProcess) (poke c (r .workspace)) (cond (eqb p (r .workspace)) (return tt) setReady)
+  enableUnheld r c
 
 -- ALTWT where no branch is chosen, of a process with this W that will go on at this place
 abbrev pub waitReady : (workspace place : ℕ) → Act (Unit {0})

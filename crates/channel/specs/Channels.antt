@@ -4,7 +4,7 @@ use mathlib.Core.Bool.{cond}
 use lib.Dec.{eqb}
 use Rattle.model.specs.Word.{notProcess}
 use Rattle.model.specs.Machine.{Act, _>>=_, _>>_, registers, peek, poke, resumeWord, stateWord, release}
-use Rattle.model.specs.Execute.{waitAt, receive, received, notify, deliver, isAltState}
+use Rattle.model.specs.Execute.{waitAt, inputUnheld, notify, deliver, isAltState}
 use Rattle.model.specs.declared.Cpu.{Cpu}
 use Rattle.processor.specs.Pieces.{landing, pokeJoin, poke2Tell}
 
@@ -25,10 +25,7 @@ hand c p m v = do
 abbrev pub insideInput : Act (Unit {0})
 insideInput = landing (do
   r ← registers
-  p ← peek (r .b)
-  cond (eqb p notProcess)
-      (do waitAt (r .b) (r .c); release)
-      (do v ← receive p; poke (r .c) v; received (r .b) p v))
+  inputUnheld r)
 
 -- what OUTWORD does with the process at the channel's word: in an ALT it is told and the sender waits; in IN it gets the value
 abbrev sending : Cpu → (p : ℕ) → Act (Unit {0})

@@ -8,6 +8,7 @@ use mathlib.Core.List.{List, [], _∷_, _++_}
 use lib.ListN.{length, replicate}
 use lib.Dec.{ltb}
 use lib.IntN.{ℤ, pos, negsuc}
+use Rattle.model.specs.Limits.{codeLimit}
 use Rattle.model.specs.Word.{signed}
 use Rattle.model.specs.Syntax.{Program}
 use Rattle.model.specs.Accept.{memoryWords}
@@ -143,4 +144,4 @@ ofCompilation (refused n r) = refusedLine n r
 
 -- the bench program's output for a table
 unfoldable pub bench : List ℕ → List ℕ
-bench table = ofCompilation (compile table 16384)
+bench table = ofCompilation (compile table codeLimit)

@@ -130,6 +130,14 @@ received c p v = do
 abbrev pub heldAt : ℕ → Act Bool
 heldAt c s = done (isHeld c (s .machine)) s
 
+-- where no offer is held: the value of a sender, else the process waits
+abbrev pub inputUnheld : Cpu → Act (Unit {0})
+inputUnheld r = do
+  p ← peek (r .b)
+  cond (eqb p notProcess)
+      (do waitAt (r .b) (r .c); release)
+      (do v ← receive p; poke (r .c) v; received (r .b) p v)
+
 -- IN of one word: B is the channel, C the message place. It takes a held offer, else the value of a sender, else the process waits
 unfoldable pub inputWord : Act (Unit {0})
 inputWord = do
@@ -137,11 +145,7 @@ inputWord = do
   h ← heldAt (r .b)
   cond h
       (do v ← dropOffer (r .b); poke (r .c) v; communicate (r .b) v)
-      (do
-        p ← peek (r .b)
-        cond (eqb p notProcess)
-            (do waitAt (r .b) (r .c); release)
-            (do v ← receive p; poke (r .c) v; received (r .b) p v))
+      (inputUnheld r)
 
 -- IN: A is the count; IN moves exactly 4 bytes, another count is a fault
 unfoldable pub inputMessage : Act (Unit {0})
@@ -207,15 +211,18 @@ setReady = do
   r ← registers
   poke (stateWord (r .workspace)) ready
 
+-- where no offer is held: an empty channel gets the mark W, which it may have already; a sender makes the ALT ready
+abbrev pub enableUnheld : Cpu → (channel : ℕ) → Act (Unit {0})
+enableUnheld r c = do
+  p ← peek c
+  cond (eqb p notProcess) (poke c (r .workspace)) (cond (eqb p (r .workspace)) (return tt) setReady)
+
 -- ENBC with a true condition: an empty channel gets the mark W; a held offer or a sender makes the ALT ready
 unfoldable pub enableReady : (channel : ℕ) → Act (Unit {0})
 enableReady c = do
   r ← registers
   h ← heldAt c
-  cond h setReady
-      (do
-        p ← peek c
-        cond (eqb p notProcess) (poke c (r .workspace)) (cond (eqb p (r .workspace)) (return tt) setReady))
+  cond h setReady (enableUnheld r c)
 
 -- ENBC: A is the condition, true when not 0, B the channel. B' = C; A and C keep
 unfoldable pub enableChannel : Act (Unit {0})

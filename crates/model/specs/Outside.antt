@@ -6,6 +6,7 @@ use mathlib.Core.Option.{Option, none, some}
 use lib.ListN.{getD, set}
 use lib.Dec.{ltb, eqb}
 use Rattle.model.specs.Word.{notProcess}
+use Rattle.model.specs.Limits.{channelLimit}
 use Rattle.model.specs.Machine.{registers, Result, done, faults, Act, _>>=_, _>>_, return, withOffers, setup, peek, stateWord}
 use Rattle.model.specs.Machine.{memorySize}
 use Rattle.model.specs.Execute.{isAltState, notify, deliver, receive, received}
@@ -80,7 +81,7 @@ abbrev pub offerUnless : Kept → Machine → List ℕ → (k value : ℕ) → A
 offerUnless (KeptFault f) m memory k v = unchanged (OfferFault f) m memory
 offerUnless NoFault m memory k v =
     let go = offered (offering k v (worldOf m memory)) m memory in
-    cond (ltb k (m .setup .inputs) && ltb k 8)
+    cond (ltb k (m .setup .inputs) && ltb k channelLimit)
     (cond (getD (m .held) k false) (unchanged Held m memory) go)
     (unchanged OfferNoChannel m memory)
 

@@ -6,6 +6,7 @@ use mathlib.Core.List.{List, [], _∷_}
 use mathlib.Core.Option.{Option, none}
 use lib.ListN.{length, getD}
 use lib.Dec.{ltb, leb, eqb}
+use Rattle.model.specs.Limits.{codeLimit, wordLimit, channelLimit, sliceLimit}
 use Rattle.model.specs.Reader.{Read, program, refused as unread}
 use Rattle.model.specs.Code.{Compilation, compiled, refused}
 use Rattle.model.specs.Machine.{Result, done, faults, memorySize}
@@ -31,9 +32,9 @@ compileRefusal (refused n r) = refusal n (r ∷ [])
 -- "At a start 15 comes first, then 3 for a channel count over 8 and 10, both at place 0, then 11"
 unfoldable pub startRefusal : (code memory : List ℕ) → (w inputs outputs slice : ℕ) → Option Refusal
 startRefusal code memory w i o q =
-    cond (eqb q 0 || ltb 65535 q) (refusal 15 [])
-    (cond (ltb 8 i || ltb 8 o) (refusal 3 (0 ∷ []))
-    (cond (ltb 4096 (w + i + o) || ltb 16384 (length code)) (refusal 10 (0 ∷ []))
+    cond (eqb q 0 || ltb sliceLimit q) (refusal 15 [])
+    (cond (ltb channelLimit i || ltb channelLimit o) (refusal 3 (0 ∷ []))
+    (cond (ltb wordLimit (w + i + o) || ltb codeLimit (length code)) (refusal 10 (0 ∷ []))
     (cond (ltb (length memory) (w + i + o)) (refusal 11 ((w + i + o) ∷ [])) none)))
 
 -- 12, with the fault's kind and number
@@ -69,7 +70,7 @@ runRefusal m code memory budget =
 unfoldable pub offerRefusal : Machine → (memory : List ℕ) → (k value : ℕ) → Option Refusal
 offerRefusal m memory k v =
     or11 (length memory) (memorySize (m .setup)) (keptOr (m .fault)
-    (cond (leb (m .setup .inputs) k || leb 8 k) (refusal 13 [])
+    (cond (leb (m .setup .inputs) k || leb channelLimit k) (refusal 13 [])
     (cond (getD (m .held) k false) (refusal 14 []) (cameTo (offering k v (worldOf m memory))))))
 
 unfoldable pub takeRefusal : Machine → (memory : List ℕ) → (k : ℕ) → Option Refusal

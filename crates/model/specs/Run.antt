@@ -137,11 +137,11 @@ run m code memory budget =
 
 -- eight offer values, none of them held
 abbrev pub noOffers : List ℕ
-noOffers = replicate 8 0
+noOffers = replicate channelLimit 0
 
 -- no offer is held
 abbrev pub noneHeld : List Bool
-noneHeld = replicate 8 false
+noneHeld = replicate channelLimit false
 
 -- registers start as 0
 abbrev pub registersAt : (w : ℕ) (runs : Bool) → Cpu
