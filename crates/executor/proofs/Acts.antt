@@ -4,12 +4,11 @@ use native.Mathlib.Omega.{arith}
 use mathlib.Core.Path.{_≡_, refl, ap, _∙_}
 use mathlib.Core.Bool.{Bool, true, false, cond, _||_}
 use mathlib.Core.List.{List}
-use mathlib.Core.Option.{Option, none, some}
 use lib.Dec.{eqb}
-use Rattle.model.specs.Instruction.{Function, functionOf, pfixCode, nfixCode}
+use Rattle.model.specs.Instruction.{pfixCode, nfixCode}
 use Rattle.model.specs.Prefix.{gathered}
 use Rattle.model.specs.Machine.{World, Act, done, next, withCpu, setRegisters, gathering}
-use Rattle.model.specs.Run.{functionOr12, act, land}
+use Rattle.model.specs.Run.{act, land}
 use Rattle.model.specs.declared.Cpu.{Cpu}
 use Rattle.model.specs.declared.Setup.{Setup}
 use Rattle.instruction.specs.Coded.{isPrefix, movedUp}
@@ -20,7 +19,7 @@ use Rattle.processor.specs.declared.memory.Step.{Step}
 use Rattle.processor.specs.declared.memory.Step.the-variants.{Done}
 use Rattle.processor.proofs.Laws.{ends}
 use Rattle.processor.proofs.Talking.{lands, takes-none, silent}
-use Rattle.executor.specs.Steps.{chosen, executing, advancedTo}
+use Rattle.executor.specs.Steps.{executing, advancedTo}
 
 -- an action that comes to another, with other registers
 pub takes-as :
@@ -51,20 +50,13 @@ module _ (x : Rest) (u : Setup) (r : Cpu) (l : List ℕ) (b : ℕ) where
       isPrefix (b / 16) ≡ false
       → act b (world x u r l) ≡ executing (b / 16) (gathered (r .operand) b) (world x u (advancedTo 0 r) l)
   unfolding act
-  other-acts e = go (eqb (b / 16) pfixCode) (eqb (b / 16) nfixCode) _ _ (functionOf (b / 16)) e
+  other-acts e = go (eqb (b / 16) pfixCode) (eqb (b / 16) nfixCode) _ _ _ e
     where
-      run : (f : Option Function) → functionOr12 f (b / 16) (gathered (r .operand) b) (world x u (advancedTo (r .operand) r) l)
-          ≡ chosen f (b / 16) (gathered (r .operand) b) (world x u (advancedTo 0 r) l)
-      run none = refl
-      run (some f) = refl
-
-      go :
-          (p n : Bool) (v w : Act (Unit {0})) (f : Option Function) → p || n ≡ false
-          → cond p v (cond n w (functionOr12 f (b / 16) (gathered (r .operand) b))) (world x u (advancedTo (r .operand) r) l)
-          ≡ chosen f (b / 16) (gathered (r .operand) b) (world x u (advancedTo 0 r) l)
-      go true n v w f e = cc
-      go false true v w f e = cc
-      go false false v w f e = run f
+      go : (p n : Bool) (v w other : Act (Unit {0})) → p || n ≡ false
+          → cond p v (cond n w other) (world x u (advancedTo (r .operand) r) l) ≡ other (world x u (advancedTo (r .operand) r) l)
+      go true n v w other e = cc
+      go false true v w other e = cc
+      go false false v w other e = refl
 
 -- a prefix, and the process goes on behind it
 pub prefix-takes :

@@ -2,23 +2,16 @@
 use Prim.Native.Nat.{ℕ, suc, min}
 use mathlib.Core.Path.{_≡_}
 use mathlib.Core.List.{List, [], _∷_}
-use mathlib.Core.Option.{Option, none, some}
 use Rattle.model.specs.Limits.{sliceLimit}
-use Rattle.model.specs.Instruction.{Function, functionOf}
+use Rattle.model.specs.Instruction.{functionOf}
 use Rattle.model.specs.Word.{low}
-use Rattle.model.specs.Machine.{Act, fault, goto, gathering, counting}
-use Rattle.model.specs.Execute.{execute}
+use Rattle.model.specs.Machine.{Act, goto, gathering, counting}
+use Rattle.model.specs.Run.{functionOr12}
 use Rattle.model.specs.declared.Cpu.{Cpu}
-use Rattle.model.specs.declared.FaultKind.the-variants.{Function as BadFunction}
-
--- a direct function with its operand, or the fault with its code (refusal 12)
-abbrev pub chosen : Option Function → (code operand : ℕ) → Act (Unit {0})
-chosen none k n = fault (BadFunction k)
-chosen (some f) k n = execute f n
 
 -- a direct function by its code
 abbrev pub executing : (code operand : ℕ) → Act (Unit {0})
-executing k n = chosen (functionOf k) k n
+executing k n = functionOr12 (functionOf k) k n
 
 -- a number is none of these, of which the last comes first
 abbrev pub Other : List ℕ → ℕ → Type 0

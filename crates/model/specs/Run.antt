@@ -38,10 +38,7 @@ fetch code = do
 -- refusal 12: a direct function that is not used is a fault with the function as its number
 abbrev pub functionOr12 : Option Function → (code operand : ℕ) → Act (Unit {0})
 functionOr12 none n o = fault (BadFunction n)
-functionOr12 (some f) n o = do
-  r ← registers
-  setRegisters (gathering 0 r)
-  execute f o
+functionOr12 (some f) n o = execute f o
 
 -- what a byte does once it is fetched: a prefix gathers, any other uses the operand and leaves 0
 unfoldable pub act : (byte : ℕ) → Act (Unit {0})
@@ -51,7 +48,7 @@ act b = do
   q ← registers
   cond (eqb (b / 16) pfixCode) (setRegisters (gathering (pfixed (gathered (r .operand) b)) q))
       (cond (eqb (b / 16) nfixCode) (setRegisters (gathering (nfixed (gathered (r .operand) b)) q))
-      (functionOr12 (functionOf (b / 16)) (b / 16) (gathered (r .operand) b)))
+      (do setRegisters (gathering 0 q); functionOr12 (functionOf (b / 16)) (b / 16) (gathered (r .operand) b)))
 
 -- a code place is tested when the processor goes there, after all words
 unfoldable pub land : Act (Unit {0})
