@@ -1,24 +1,22 @@
 -- STARTP: the first branch of a PAR starts the next one.
-use Prim.Native.Nat.{ℕ, zero, suc, _+_, _-_, _^_, _≤_, _<_}
+use Prim.Native.Nat.{ℕ, zero, suc, _+_, _-_, _≤_, _<_}
 use native.Mathlib.Omega.{arith}
 use mathlib.Core.Path.{_≡_, refl, sym, ap, _∙_, subst}
-use mathlib.Core.Logic.{_≢_, _⊎_, inl, inr, ⊎-elim}
-use mathlib.Core.Bool.{Bool, true, false}
+use mathlib.Core.Logic.{_≢_, inl, inr}
+use mathlib.Core.Bool.{true}
 use mathlib.Core.List.{List, [], _∷_, _++_, List·Memᴰ}
-use mathlib.Core.Option.{Option, none, some}
-use lib.ListN.{length, getD}
+use lib.ListN.{length}
 use Rattle.model.specs.Word.{low}
-use Rattle.model.specs.Syntax.{Site, Stmt, Stmts, noStmt, stmt}
+use Rattle.model.specs.Syntax.{Stmt, Stmts, noStmt, stmt}
 use Rattle.model.specs.Counts.{need}
 use Rattle.model.specs.Scheme.{howMany, size, codeStarts}
-use Rattle.model.specs.Instruction.{Instruction, operation}
+use Rattle.model.specs.Instruction.{operation}
 use Rattle.model.specs.Instruction as I
 use Rattle.model.specs.Code.{functionIn, operandIn}
 use Rattle.model.specs.Machine.{World, resumeWord}
 use Rattle.model.specs.Occam.{Process, begin, State}
-use Rattle.model.proofs.Ways.{Regs, regsOf, Mem}
+use Rattle.model.proofs.Ways.{regsOf, Mem}
 use Rattle.model.proofs.Expr.{Seg, seg-length}
-use Rattle.model.proofs.Points.{Setting, whole}
 use Rattle.model.proofs.Arrive.{rises-le}
 use Rattle.model.proofs.Paths.{apart-under, apart-differ}
 use Rattle.model.proofs.Paths as P
@@ -30,18 +28,18 @@ use Rattle.model.proofs.Onwards.{start-path}
 use Rattle.model.proofs.Trees.{Info, newInfo, Tree, bytesLeft}
 use Rattle.model.proofs.Leaves.{upd, Unmarked, Held, h-queued}
 use Rattle.model.proofs.Stays.{unmarked-stays}
-use Rattle.model.proofs.Effects.{cpuOf, sizeOf, stored}
+use Rattle.model.proofs.Effects.{cpuOf, stored}
 use Rattle.model.proofs.Acts.{exec-startp}
 use Rattle.model.proofs.Queues.{joined}
 use Rattle.model.proofs.Kernel.{Loaded, S, root, LeafAt, Rest, Lined, Real}
 use Rattle.model.proofs.Writes.{upd-same, upd-other, part-small, sits-at}
 use Rattle.model.proofs.Grounds.{small-size, sound-at}
-use Rattle.model.proofs.Traces.{Trace, t-none}
-use Rattle.model.proofs.Running.{Only, Births, Later, l-here, l-next, Unborn, unborn, Starting, fresh, Birth, NowStarts, Inv, starts, Did}
+use Rattle.model.proofs.Traces.{t-none}
+use Rattle.model.proofs.Running.{Only, Births, Later, l-here, l-next, unborn, Starting, fresh, Birth, starts, Did}
 use Rattle.model.proofs.Running.{came, Executes, executes, Acting}
 use Rattle.model.proofs.Moving.{relaid, relabelled, relabel}
 use Rattle.model.proofs.Reals.{size-is}
-use Rattle.model.proofs.Sched.{Stands, Settles, settles, settle, wakes, Woken, linkedTo}
+use Rattle.model.proofs.Sched.{settles, settle, wakes, Woken, linkedTo}
 use Rattle.model.proofs.Finish.{silent}
 use Rattle.model.proofs.Meets.{rest-below, real-below, clean-below, chan-above}
 

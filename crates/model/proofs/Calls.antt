@@ -1,34 +1,32 @@
 -- Every list of calls: runs, offers and takes, with whatever they are lent.
-use Prim.Native.Nat.{ℕ, zero, suc, _+_, _-_, _*_, _^_, _≤_, _<_}
+use Prim.Native.Nat.{ℕ, zero, suc, _+_, _-_, _^_, _≤_, _<_}
 use native.Mathlib.Omega.{arith}
 use mathlib.Core.Path.{_≡_, refl, sym, ap, _∙_, subst}
-use mathlib.Core.Logic.{_⊎_, inl, inr, ⊎-elim}
+use mathlib.Core.Logic.{_⊎_, inl, inr}
 use mathlib.Core.Bool.{Bool, true, false, _||_, _&&_}
 use mathlib.Core.List.{List, [], _∷_, _++_, map, append-nil, append-assoc}
-use mathlib.Core.Option.{Option, none, some}
+use mathlib.Core.Option.{none, some}
 use lib.ListN as Ls
 use lib.ListN.{length, getD, drop, length-append, length-take, take-append-drop, List·getD-append}
 use lib.Dec.{ltb}
-use borrow.Author.Tests.{ltb-true, ltb-false, lt-ltb}
+use borrow.Author.Tests.{ltb-true, ltb-false}
 use Rattle.model.specs.Word.{low}
 use Rattle.model.specs.Syntax.{outputOf}
 use Rattle.model.specs.Accept.{limit}
-use Rattle.model.specs.Machine.{Talk, World, Result, done, memorySize}
+use Rattle.model.specs.Machine.{World, done, memorySize}
 use Rattle.model.specs.Run.{After, unchanged, worldOf, shortMemory, runFrom, run}
-use Rattle.model.specs.Outside.{offering, taking, offered, offerUnless, took, takeUnless, offer, take}
-use Rattle.model.specs.Occam.{State, Communication, Event, offers, takes, Sender, Outside, held, nobody}
+use Rattle.model.specs.Outside.{taking, offered, offerUnless, took, takeUnless, offer, take}
+use Rattle.model.specs.Occam.{State, Communication, Event, offers, takes, Sender, held, nobody}
 use Rattle.model.specs.Demand.{Segment, outside, talkOf}
 use Rattle.model.specs.History.{Call, callRun, callOffer, callTake, Moment, quietly, bytes, during, call, history, offerEvent, takeEvent}
 use Rattle.model.specs.declared.Machine.{Machine}
 use Rattle.model.specs.declared.Setup.{Setup}
 use Rattle.model.specs.declared.Kept.the-variants.{Nothing as NoFault}
-use Rattle.model.specs.declared.OfferAnswer.{OfferAnswer}
 use Rattle.model.specs.declared.OfferAnswer.the-variants.{Offered, Short as OfferShort, NoChannel as OfferNoChannel, Held}
-use Rattle.model.specs.declared.TakeAnswer.{TakeAnswer}
 use Rattle.model.specs.declared.TakeAnswer.the-variants.{Taken, Nothing, Short as TakeShort, NoChannel as TakeNoChannel}
 use Rattle.model.proofs.Cases.{never, by-bool}
 use Rattle.model.proofs.Most.{most}
-use Rattle.model.proofs.Kernel.{Loaded, S, setup, size}
+use Rattle.model.proofs.Kernel.{Loaded, setup, size}
 use Rattle.model.proofs.Traces.{Trace, t-none, t-event, trace-reach, trace-most}
 use Rattle.model.proofs.Running.{Inv}
 use Rattle.model.proofs.Finish.{inv-setup}

@@ -1,15 +1,13 @@
 -- Who is at a channel: the process whose name the channel's word holds, and the sender.
-use Prim.Native.Nat.{ℕ, suc, _+_, _-_, _^_, _≤_, _<_}
+use Prim.Native.Nat.{ℕ, _+_, _-_, _^_, _≤_, _<_}
 use native.Mathlib.Omega.{arith}
 use mathlib.Core.Path.{_≡_, refl, sym, ap, _∙_, subst}
-use mathlib.Core.Logic.{_≢_, _⊎_, inl, inr, ⊎-elim}
-use mathlib.Core.Bool.{Bool, true, false, _&&_}
-use mathlib.Core.List.{List, [], _∷_, _++_, List·Memᴰ}
-use mathlib.Core.Option.{Option, none, some}
-use lib.ListN.{length, getD}
-use lib.Dec.{leb, ltb}
+use mathlib.Core.Logic.{_⊎_, inl, inr, ⊎-elim}
+use mathlib.Core.Bool.{Bool, true, false}
+use mathlib.Core.List.{List, List·Memᴰ}
+use mathlib.Core.Option.{none, some}
+use lib.ListN.{getD}
 use borrow.Author.Tests.{lt-ltb, le-ltb, le-leb, lt-leb}
-use Rattle.model.specs.Word.{notProcess}
 use Rattle.model.specs.Syntax.{Site, inputOf, outputOf, Guards}
 use Rattle.model.specs.Scheme.{sizeEnable}
 use Rattle.model.specs.Layout.{base, wordOf}
@@ -19,17 +17,16 @@ use Rattle.model.specs.Occam.{Frame, Process, atInput, atOutput, atAlt, 
 use Rattle.model.specs.declared.Setup.{Setup}
 use Rattle.model.proofs.Cases.{never}
 use Rattle.model.proofs.Ways.{Mem}
-use Rattle.model.proofs.Paths.{Leaf, l-output}
+use Rattle.model.proofs.Paths.{l-output}
 use Rattle.model.proofs.Parts.{Part, Target}
-use Rattle.model.proofs.Marks.{Own, Ready, Guarded, AltCode, Marked, Disabling, Settled}
-use Rattle.model.proofs.Arrivals.{Comes, comes}
+use Rattle.model.proofs.Marks.{Own, Ready, Guarded, AltCode, Marked, Disabling}
+use Rattle.model.proofs.Arrivals.{comes}
 use Rattle.model.proofs.Onwards.{guarded-fine}
 use Rattle.model.proofs.Trees.{Label, Info, Tree, labelled, label-alone}
 use Rattle.model.proofs.Zones.{zoneOf}
 use Rattle.model.proofs.Leaves.{member, Resumes, Waits, Held, h-queued, h-woken, h-input, h-output, h-stop, h-wait}
-use Rattle.model.proofs.Kernel.{Loaded, S, root, size, LeafAt, NodeAt, Owned, owned, Rest, Real, Offer, no-offer, held-offer}
-use Rattle.model.proofs.Writes.{node, sits-at, part-small}
-use Rattle.model.proofs.Grounds.{OutsideAt, an-input, an-output, channel-at, small-size}
+use Rattle.model.proofs.Kernel.{Loaded, S, root, LeafAt, NodeAt, Owned, owned, Rest, Real, Offer, no-offer, held-offer}
+use Rattle.model.proofs.Grounds.{OutsideAt, an-input, an-output, channel-at}
 use Rattle.model.proofs.Moving.{skips-silent}
 
 module _ (L : Loaded) where

@@ -1,45 +1,43 @@
 -- ENDP: the last branch of a PAR goes on as the PAR, another leaves the processor.
-use Prim.Native.Nat.{ℕ, zero, suc, _+_, _-_, _^_, _≤_, _<_}
+use Prim.Native.Nat.{ℕ, _+_, _-_, _≤_, _<_}
 use native.Mathlib.Omega.{arith}
 use native.Mathlib.Decide.{ℕ-discrete}
 use mathlib.Core.Path.{_≡_, refl, sym, ap, _∙_, subst}
 use mathlib.Core.Logic.{_≢_}
 use mathlib.Core.List.{List, [], _∷_, _++_}
-use mathlib.Core.Option.{Option, none, some}
-use lib.ListN.{length, getD}
+use mathlib.Core.Option.{some}
 use Rattle.model.specs.Word.{low, less}
-use Rattle.model.specs.Syntax.{Site, Stmt, Stmts, noStmt, stmt}
-use Rattle.model.specs.Counts.{need, sumNeed}
-use Rattle.model.specs.Instruction.{Instruction, operation}
+use Rattle.model.specs.Syntax.{Site, Stmt, Stmts}
+use Rattle.model.specs.Counts.{sumNeed}
+use Rattle.model.specs.Instruction.{operation}
 use Rattle.model.specs.Instruction as I
 use Rattle.model.specs.Code.{functionIn, operandIn}
 use Rattle.model.specs.Machine.{World, withCpu, work, goto}
-use Rattle.model.specs.Occam.{Frame, Process, finished, inPar, Branches, branchAt, endBranch, resume, closed, look, put, State, Step, ends}
+use Rattle.model.specs.Occam.{Frame, finished, inPar, Branches, branchAt, endBranch, resume, look, put, State, Step, ends}
 use Rattle.model.proofs.Cases.{never}
 use Rattle.model.proofs.Ways.{Mem}
 use Rattle.model.proofs.Expr.{seg-length}
 use Rattle.model.proofs.Points.{Setting, whole}
 use Rattle.model.proofs.Arrive.{rises-le}
-use Rattle.model.proofs.Paths.{left, left-end, left-found, closed-last, closed-more, stmtAt}
-use Rattle.model.proofs.Parts.{need-two, Part, joins, partOf}
-use Rattle.model.proofs.Conts.{Placed, cont-placed, cont-inside}
+use Rattle.model.proofs.Paths.{left, left-end, closed-last, closed-more}
+use Rattle.model.proofs.Parts.{need-two, Part, joins}
+use Rattle.model.proofs.Conts.{cont-placed, cont-inside}
 use Rattle.model.proofs.Marks.{ParCode}
-use Rattle.model.proofs.Arrivals.{Comes, arrives}
-use Rattle.model.proofs.Trees.{distanceOf, BranchPart, branch-part, Label, parted, Info, Sits, Tree, Forest, f-none, f-live, f-over, labelAt, partAt, bytesLeft}
+use Rattle.model.proofs.Arrivals.{arrives}
+use Rattle.model.proofs.Trees.{distanceOf, branch-part, parted, Info, Sits, Tree, Forest, f-none, f-live, f-over, labelAt, partAt, bytesLeft}
 use Rattle.model.proofs.Zones.{zone-under}
 use Rattle.model.proofs.Leaves.{upd, Unmarked}
-use Rattle.model.proofs.Effects.{cpuOf, sizeOf, stored}
+use Rattle.model.proofs.Effects.{cpuOf, stored}
 use Rattle.model.proofs.Acts.{exec-endp-last, exec-endp-more}
-use Rattle.model.proofs.Kernel.{Loaded, S, root, size as memory, LeafAt, Rest, Lined, Real}
-use Rattle.model.proofs.Writes.{part-small}
+use Rattle.model.proofs.Kernel.{Loaded, S, root, size as memory, Real}
 use Rattle.model.proofs.Puts.{putting}
 use Rattle.model.proofs.Grounds.{small-size, sound-at}
 use Rattle.model.proofs.Running.{Only, Did, Executes, executes, Acting}
 use Rattle.model.proofs.Reals.{size-is, mirrored, real-state, real-cpu, real-stored}
 use Rattle.model.proofs.Sched.{settle, lets-go}
 use Rattle.model.proofs.Finish.{step-settles, step-lets-go, silent}
-use Rattle.model.proofs.Joins.{Father, father, father-of, distance-in, par-node, lastInfo, lastState, lastTree, last-leaf, last-rest, last-lined}
-use Rattle.model.proofs.Joins.{last-clean, moreState, moreTree, more-rest, more-lined, link-off}
+use Rattle.model.proofs.Joins.{father, father-of, distance-in, par-node, last-leaf, last-rest, last-lined}
+use Rattle.model.proofs.Joins.{last-clean, more-rest, more-lined, link-off}
 
 -- each branch needs words
 few-left : {S : Setting} {vars chans : List Site} {w d : ℕ} {ss : Stmts} {bs : Branches} → Forest S vars chans w d ss bs → left bs ≤ sumNeed ss

@@ -2,10 +2,8 @@
 -- 3 - registers of what was below.
 use Prim.Native.Nat.{ℕ, suc, _+_, _*_, _^_, _≤_, _<_}
 use native.Mathlib.Omega.{arith}
-use mathlib.Core.Path.{_≡_, refl, ap, ap₂, _∙_, subst}
+use mathlib.Core.Path.{_≡_, refl, ap, ap₂, _∙_}
 use mathlib.Core.List.{List, [], _∷_, _++_, List·Memᴰ}
-use mathlib.Core.Option.{some}
-use lib.ListN.{length, getElem?}
 use lib.Bits.{bitAnd, bitOr, bitXor}
 use lib.Dec.{eqb}
 use Rattle.model.specs.Word.{low, less, truth}

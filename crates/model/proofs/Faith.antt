@@ -1,13 +1,13 @@
 -- Demand 3, for every table: the machine's history is a run of the Occam program.
 use Prim.Native.Nat.{ℕ, zero, suc, _+_, _*_, _≤_, _<_}
 use native.Mathlib.Omega.{arith}
-use mathlib.Core.Path.{_≡_, refl, sym, ap, _∙_, subst}
+use mathlib.Core.Path.{_≡_, refl, sym, ap, subst}
 use mathlib.Core.Bool.{_&&_}
-use mathlib.Core.List.{List, [], _∷_, _++_, append-nil}
+use mathlib.Core.List.{List, [], _∷_, append-nil}
 use mathlib.Core.Option.{some}
 use native.Mathlib.Decide.{decLt}
 use lib.ListN.{length, getElem?}
-use lib.Seq.{slice, length-slice}
+use lib.Seq.{slice}
 use lib.Dec.{leb}
 use borrow.Author.Tests.{leb-true}
 use Rattle.model.specs.Syntax.{Program}
@@ -17,7 +17,7 @@ use Rattle.model.specs.Instruction.{Instruction}
 use Rattle.model.specs.Prefix.{decode}
 use Rattle.model.specs.Layout.{base}
 use Rattle.model.specs.Scheme.{scheme}
-use Rattle.model.specs.Code.{placeOf, Realises, compiled, compile}
+use Rattle.model.specs.Code.{placeOf, Realises}
 use Rattle.model.specs.Machine.{memorySize}
 use Rattle.model.specs.Run.{After, start, worldOf, fresh, cleared}
 use Rattle.model.specs.Occam.{initial}
@@ -32,15 +32,14 @@ use Rattle.model.proofs.Accepts.{accept-reads, accept-passed, compile-a
 use Rattle.model.proofs.Realise.{code-realises}
 use Rattle.model.proofs.FineParts.{accepted-fine, accepted-one-way, accepted-one-way-in}
 use Rattle.model.proofs.Most.{most, initial-most}
-use Rattle.model.proofs.Kernel.{Loaded, S, setup, size}
+use Rattle.model.proofs.Kernel.{Loaded, setup, size}
 use Rattle.model.proofs.Traces.{trace-reach, trace-most}
 use Rattle.model.proofs.Sched.{Settles, settles}
 use Rattle.model.proofs.Chains.{chain-matches, chain-other, chain-progress}
 use Rattle.model.proofs.Lending.{inv-few}
-use Rattle.model.proofs.Histories.{bound, follows}
+use Rattle.model.proofs.Histories.{follows}
 use Rattle.model.proofs.Calls.{Sim, sim, run-from, run-grows, linked, run-matches}
 use Rattle.model.proofs.Starting.{first, begun, settled}
-use Rattle.model.proofs.Trees.{bytesLeft}
 
 -- what a start that was accepted leaves
 data Begun (memory : List ℕ) (u : Setup) (s : After StartAnswer) : Type 0 where

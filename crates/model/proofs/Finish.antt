@@ -1,27 +1,23 @@
 -- How an instruction's case ends: the process goes on without a step, a step was taken and it settles, or it leaves the processor.
-use Prim.Native.Nat.{ℕ, zero, suc, _+_, _-_, _^_, _≤_, _<_}
+use Prim.Native.Nat.{ℕ, suc, _+_, _-_, _≤_, _<_}
 use native.Mathlib.Omega.{arith}
-use mathlib.Core.Path.{_≡_, refl, sym, ap, _∙_, subst}
-use mathlib.Core.Logic.{_≢_, _⊎_, inl, inr, ⊎-elim}
-use mathlib.Core.Bool.{Bool, true, false}
-use mathlib.Core.List.{List, [], _∷_, _++_, map, append-nil, List·Memᴰ}
-use mathlib.Core.Option.{Option, none, some}
-use lib.ListN.{length, getD}
-use Rattle.model.specs.Syntax.{Site}
+use mathlib.Core.Path.{_≡_, refl, sym, _∙_, subst}
+use mathlib.Core.Logic.{_⊎_, inl, inr, ⊎-elim}
+use mathlib.Core.Bool.{true}
+use mathlib.Core.List.{List, [], _∷_, _++_, map, append-nil}
+use lib.ListN.{length}
 use Rattle.model.specs.Machine.{World, done, release}
 use Rattle.model.specs.Occam.{Process, State, Communication, Step}
 use Rattle.model.specs.Demand.{step, Segment, steps, talkOf}
-use Rattle.model.proofs.Ways.{Regs, regsOf, Mem}
-use Rattle.model.proofs.Points.{Setting, whole}
+use Rattle.model.proofs.Ways.{regsOf, Mem}
 use Rattle.model.proofs.Parts.{Part}
-use Rattle.model.proofs.Conts.{Placed}
 use Rattle.model.proofs.Marks.{Settled}
 use Rattle.model.proofs.Arrivals.{Goes}
 use Rattle.model.proofs.Onwards.{AltGoes}
 use Rattle.model.proofs.Trees.{Info, Tree, bytesLeft}
 use Rattle.model.proofs.Leaves.{Unmarked}
 use Rattle.model.proofs.Effects.{cpuOf}
-use Rattle.model.proofs.Kernel.{Loaded, S, root, setup, LeafAt, Rest, Lined, Real}
+use Rattle.model.proofs.Kernel.{Loaded, S, root, setup, Rest, Lined, Real}
 use Rattle.model.proofs.Writes.{sits-at}
 use Rattle.model.proofs.Traces.{Trace, t-none, t-step, trace-then, steps-then}
 use Rattle.model.proofs.Running.{Only, fresh, Now, now-goes, now-alt, Inv, runs, starts, idle, Did, came, Acting}

@@ -1,35 +1,30 @@
 -- A PAR is started: each branch is a process, and nothing of it is in memory yet.
-use Prim.Native.Nat.{ℕ, zero, suc, _+_, _-_, _^_, _≤_, _<_}
+use Prim.Native.Nat.{ℕ, suc, _+_, _-_, _^_, _<_}
 use native.Mathlib.Omega.{arith}
 use mathlib.Core.Path.{_≡_, refl, sym, ap, _∙_, subst}
 use mathlib.Core.Logic.{_≢_, _⊎_, inl, inr, ⊎-elim}
-use mathlib.Core.Bool.{Bool, true, false}
-use mathlib.Core.List.{List, [], _∷_, _++_, append-nil, append-assoc, List·Memᴰ, List·Memᴰ·not-nil}
-use mathlib.Core.Option.{Option, none, some}
-use lib.ListN.{length, getD}
+use mathlib.Core.List.{List, [], _∷_, _++_, append-nil, List·Memᴰ, List·Memᴰ·not-nil}
+use mathlib.Core.Option.{Option, some}
 use Rattle.model.specs.Word.{notProcess}
-use Rattle.model.specs.Syntax.{Site, Stmt, PAR, Stmts, noStmt, stmt}
-use Rattle.model.specs.Counts.{need, sumNeed}
+use Rattle.model.specs.Syntax.{Site, Stmt, PAR, Stmts, stmt}
 use Rattle.model.specs.Scheme.{howMany}
 use Rattle.model.specs.Machine.{linkWord}
 use Rattle.model.specs.Occam.{Frame, Process, before, atOutput, inPar, Branches, begin, branches, framesOf, look, put, State, Sender, process, outside}
 use Rattle.model.specs.Demand.{liveIn}
 use Rattle.model.proofs.Cases.{never}
 use Rattle.model.proofs.Ways.{Mem}
-use Rattle.model.proofs.Points.{Setting, whole}
-use Rattle.model.proofs.Paths.{Leaf, l-output, leaf-par, leaf-begin, leaf-ends, live-begin, silent-begin, left, left-branches, same-path, stmtAt, Begun}
+use Rattle.model.proofs.Points.{Setting}
+use Rattle.model.proofs.Paths.{l-output, leaf-par, leaf-begin, live-begin, silent-begin, left, left-branches, same-path, stmtAt}
 use Rattle.model.proofs.Paths.{begun, started-found, look-started, look-put-same, look-put-other, look-put-below, look-after, into, aside}
-use Rattle.model.proofs.Paths.{Compared, equal, below, above, apart, compare, leaves-apart, Apart, apart-differ, SamePar, same-par, par-above, leaf-below}
-use Rattle.model.proofs.Parts as Parts
-use Rattle.model.proofs.Parts.{Part, joins, partOf, Within}
-use Rattle.model.proofs.Conts.{Placed}
+use Rattle.model.proofs.Paths.{Compared, equal, below, above, apart, compare, leaves-apart, Apart, apart-differ, same-par, par-above, leaf-below}
+use Rattle.model.proofs.Parts.{Part, joins, partOf}
 use Rattle.model.proofs.Marks.{Own, ParCode}
-use Rattle.model.proofs.Trees.{some-same, distanceOf, Label, alone, parted, alone-parted, Info, newInfo, Sits, Tree, labelAt, running, rebuild}
-use Rattle.model.proofs.Trees.{Rebuilt, started, started-label, started-scope, started-alone, bytesLeft}
+use Rattle.model.proofs.Trees.{some-same, distanceOf, Label, alone, parted, Info, newInfo, Tree, labelAt, rebuild}
+use Rattle.model.proofs.Trees.{Rebuilt, started, started-label, started-scope, started-alone}
 use Rattle.model.proofs.Zones.{Zone, zoneOf}
-use Rattle.model.proofs.Leaves.{upd, member, Unmarked, Held}
+use Rattle.model.proofs.Leaves.{Unmarked}
 use Rattle.model.proofs.Stays.{Calm, held-stays}
-use Rattle.model.proofs.Kernel.{Loaded, S, root, LeafAt, NodeAt, Owned, owned, Rest, Whose, whose, Lined}
+use Rattle.model.proofs.Kernel.{Loaded, S, root, LeafAt, NodeAt, Owned, owned, Rest, whose, Lined}
 use Rattle.model.proofs.Writes.{node, part-small, sits-at}
 use Rattle.model.proofs.Puts.{putting}
 use Rattle.model.proofs.Running.{Only}

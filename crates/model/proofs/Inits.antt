@@ -1,52 +1,47 @@
 -- The stores that initialise a VAR or CHAN; the last one enters it.
-use Prim.Native.Nat.{ℕ, zero, suc, _+_, _-_, _^_, _≤_, _<_}
+use Prim.Native.Nat.{ℕ, suc, _+_, _-_, _^_, _≤_, _<_}
 use native.Mathlib.Omega.{arith}
 use native.Mathlib.Decide.{ℕ-discrete, decLt}
 use mathlib.Core.Path.{_≡_, refl, sym, ap, _∙_, subst}
-use mathlib.Core.Logic.{_≢_, _⊎_, inl, inr, ⊎-elim}
-use mathlib.Core.Bool.{Bool, true, false, cond}
+use mathlib.Core.Logic.{_⊎_, inl, ⊎-elim}
 use mathlib.Core.List.{List, [], _∷_, _++_, List·Memᴰ, Memᴰ·append-left, Memᴰ·append-right, List·Memᴰ·append-cases}
-use mathlib.Core.Option.{Option, none, some}
-use lib.ListN.{length, getD}
 use Rattle.model.specs.Word.{low, notProcess}
-use Rattle.model.specs.Syntax.{Site, declared, Stmt, VAR, CHAN}
+use Rattle.model.specs.Syntax.{Site, Stmt, VAR, CHAN}
 use Rattle.model.specs.Reader.{names}
 use Rattle.model.specs.Usage.{isIn}
 use Rattle.model.specs.Instruction.{Instruction, plain, operation}
 use Rattle.model.specs.Instruction as I
 use Rattle.model.specs.Code.{functionIn, operandIn}
 use Rattle.model.specs.Scheme.{code}
-use Rattle.model.specs.Machine.{World, done, withCpu, linkWord}
-use Rattle.model.specs.Execute.{execute, pop}
-use Rattle.model.specs.Occam.{Store, zeros, Frame, inVar, Process, before, begin, go, put, State, Sender, process, outside, Step, begins}
-use Rattle.model.specs.Demand.{liveIn}
-use Rattle.model.proofs.Cases.{never, by-bool}
+use Rattle.model.specs.Machine.{World, withCpu}
+use Rattle.model.specs.Execute.{pop}
+use Rattle.model.specs.Occam.{Store, zeros, Frame, inVar, Process, before, begin, go, State, process, Step, begins}
+use Rattle.model.proofs.Cases.{by-bool}
 use Rattle.model.proofs.Sites.{isIn-mem, mem-isIn}
 use Rattle.model.proofs.Ways.{Regs, regsOf, Quiet, pushing, Mem, arrived, quiet, quiet-ldc, quiet-mint}
 use Rattle.model.proofs.Expr.{Seg, seg-length}
-use Rattle.model.proofs.Points.{Setting, whole, At}
-use Rattle.model.proofs.Arrive.{inside, up, rises-le, named, named-in}
-use Rattle.model.proofs.Paths.{Leaf, leaf-begin, live-begin, silent-begin, same-path}
-use Rattle.model.proofs.Parts.{Part, Words, Fine}
-use Rattle.model.proofs.Conts.{Placed, placed-vars, placed-chans, Cont, c-var, c-chan, cont-low, cont-inside, cont-bound, cont-placed}
+use Rattle.model.proofs.Points.{whole, At}
+use Rattle.model.proofs.Arrive.{inside, rises-le, named, named-in}
+use Rattle.model.proofs.Paths.{leaf-begin, live-begin, silent-begin, same-path}
+use Rattle.model.proofs.Parts.{Part, Fine}
+use Rattle.model.proofs.Conts.{Placed, placed-vars, placed-chans, Cont, c-var, c-chan, cont-inside, cont-bound, cont-placed}
 use Rattle.model.proofs.Marks.{Own, Settled, Opening, Point, pt-var, pt-chan}
-use Rattle.model.proofs.Arrivals.{Goes, Comes, enters, arrives}
-use Rattle.model.proofs.Trees.{some-same, Label, alone, alone-info, Info, Sits, Tree, labelAt, bytesLeft}
+use Rattle.model.proofs.Arrivals.{enters, arrives}
+use Rattle.model.proofs.Trees.{some-same, Label, alone, Info, Tree, labelAt, bytesLeft}
 use Rattle.model.proofs.Zones.{zoneOf}
 use Rattle.model.proofs.Leaves.{upd, Unmarked}
-use Rattle.model.proofs.Stays.{Calm}
-use Rattle.model.proofs.Effects.{cpuOf, sizeOf, stored, exec-stl}
-use Rattle.model.proofs.Kernel.{Loaded, S, root, size, LeafAt, NodeAt, Owned, Rest, Lined, Real}
-use Rattle.model.proofs.Writes.{upd-same, upd-other, changed, after-leaf, after-lined, node, apart-zones, part-small, sits-at, rest-same}
+use Rattle.model.proofs.Effects.{cpuOf, stored, exec-stl}
+use Rattle.model.proofs.Kernel.{Loaded, S, root, LeafAt, NodeAt, Owned, Rest, Real}
+use Rattle.model.proofs.Writes.{upd-same, upd-other, changed, after-leaf, after-lined, node, apart-zones, part-small, rest-same}
 use Rattle.model.proofs.Writes.{sender-stored, sender-kept}
-use Rattle.model.proofs.Puts.{putting, treeThen, here-then}
+use Rattle.model.proofs.Puts.{putting, here-then}
 use Rattle.model.proofs.Grounds.{small-size, sound-at}
 use Rattle.model.proofs.Running.{Only, Did, Executes, executes, Acting}
 use Rattle.model.proofs.Reals.{size-is, real-state, real-cpu}
 use Rattle.model.proofs.Finish.{goes-on, silent}
-use Rattle.model.proofs.Advance.{Silent, goes-as, advances, sits}
+use Rattle.model.proofs.Advance.{Silent, goes-as, advances}
 use Rattle.model.proofs.Basics.{before-silent}
-use Rattle.model.proofs.Meets.{not-own, chan-above, rest-below, real-below, clean-below}
+use Rattle.model.proofs.Meets.{not-own, rest-below, real-below, clean-below}
 
 module _ (L : Loaded) where
   -- names that are in scope of nobody get other values

@@ -1,57 +1,56 @@
 -- IN: a process comes to an input. It takes a held offer or a sender's value, or waits.
-use Prim.Native.Nat.{ℕ, zero, suc, _+_, _-_, _^_, _≤_, _<_}
+use Prim.Native.Nat.{ℕ, suc, _+_, _-_, _^_, _≤_, _<_}
 use native.Mathlib.Omega.{arith}
 use native.Mathlib.Decide.{ℕ-discrete}
 use mathlib.Core.Path.{_≡_, refl, sym, ap, _∙_, subst}
 use mathlib.Core.Logic.{_≢_, _⊎_, inl, inr, ⊎-elim}
-use mathlib.Core.Bool.{Bool, true, false, cond}
+use mathlib.Core.Bool.{true, false}
 use mathlib.Core.List.{List, [], _∷_, _++_, map, List·Memᴰ}
 use mathlib.Core.Option.{Option, none, some}
-use lib.ListN.{length, getD, set, length-set}
-use lib.Seq.{getD-set-same, getD-set-other}
+use lib.ListN.{getD}
 use lib.Dec.{eqb}
-use borrow.Author.Tests.{eq-eqb, ne-eqb}
+use borrow.Author.Tests.{ne-eqb}
 use Rattle.model.specs.Word.{notProcess}
-use Rattle.model.specs.Syntax.{Site, inputOf, Stmt, input}
-use Rattle.model.specs.Instruction.{Instruction, operation}
+use Rattle.model.specs.Syntax.{Site, inputOf, input}
+use Rattle.model.specs.Instruction.{operation}
 use Rattle.model.specs.Instruction as I
 use Rattle.model.specs.Code.{functionIn, operandIn}
 use Rattle.model.specs.Layout.{base}
-use Rattle.model.specs.Machine.{World, done, withCpu, withOffers, communicate, isHeld, resumeWord, stateWord, linkWord}
-use Rattle.model.specs.Occam.{Store, store, Frame, Process, before, atInput, atOutput, resume, go, look, put, State, Communication}
+use Rattle.model.specs.Machine.{World, isHeld, resumeWord, stateWord}
+use Rattle.model.specs.Occam.{store, Frame, before, atInput, atOutput, resume, go, look, put, State}
 use Rattle.model.specs.Occam.{over-channel, Sender, process, outside, Step, begins, communicates, receives}
-use Rattle.model.specs.Demand.{step, Segment, steps, talkOf}
+use Rattle.model.specs.Demand.{step, talkOf}
 use Rattle.model.specs.declared.Setup.{Setup}
 use Rattle.model.proofs.Cases.{never, by-bool}
-use Rattle.model.proofs.Ways.{Regs, regsOf, Mem}
-use Rattle.model.proofs.Points.{Setting, whole, At}
-use Rattle.model.proofs.Arrive.{inside, up, rises-le}
-use Rattle.model.proofs.Paths.{Leaf, l-input, l-output, leaf-resume, live-resume, silent-resume, same-path, look-put-same, put-put-same}
+use Rattle.model.proofs.Ways.{Mem}
+use Rattle.model.proofs.Points.{whole}
+use Rattle.model.proofs.Arrive.{inside}
+use Rattle.model.proofs.Paths.{l-input, l-output, leaf-resume, live-resume, silent-resume, same-path, look-put-same, put-put-same}
 use Rattle.model.proofs.Paths.{Apart, apart-sym as path-apart-sym, leaves-apart, look-put-other, put-put-apart}
 use Rattle.model.proofs.Parts.{Part, Fine}
-use Rattle.model.proofs.Conts.{Placed, Cont, cont-inside, cont-placed}
+use Rattle.model.proofs.Conts.{Placed, Cont, cont-placed}
 use Rattle.model.proofs.Marks.{Own}
-use Rattle.model.proofs.Arrivals.{Sound, Comes, arrives}
+use Rattle.model.proofs.Arrivals.{arrives}
 use Rattle.model.proofs.Trees.{Info, Sits, Tree, bytesLeft}
-use Rattle.model.proofs.Leaves.{upd, member, Unmarked, MarkedOnly, Waits, Held, h-input}
-use Rattle.model.proofs.Effects.{cpuOf, sizeOf, stored}
+use Rattle.model.proofs.Leaves.{upd, member, Unmarked, Waits, h-input}
+use Rattle.model.proofs.Effects.{cpuOf, stored}
 use Rattle.model.proofs.Acts.{dropped, parked, exec-in-held, exec-in-wait, exec-in-sender}
-use Rattle.model.proofs.Kernel.{Loaded, S, root, size, setup, LeafAt, NodeAt, Owned, owned, Rest, Lined, Real, Offer, no-offer, held-offer}
-use Rattle.model.proofs.Writes.{upd-same, upd-other, changed, after-leaf, after-lined, node, apart-parts, apart-zones, own-one, part-small}
-use Rattle.model.proofs.Writes.{sits-at, write-own, write-var, write-chan, left-out, change-offers}
+use Rattle.model.proofs.Kernel.{Loaded, S, root, size, setup, LeafAt, Rest, Lined, Real}
+use Rattle.model.proofs.Writes.{upd-same, upd-other, changed, after-leaf, after-lined, node, apart-parts, apart-zones, part-small}
+use Rattle.model.proofs.Writes.{sits-at, write-var, change-offers}
 use Rattle.model.proofs.Puts.{putting, treeThen, here-then, other-then, lined-then, rest-then, sender-before}
 use Rattle.model.proofs.Grounds.{var-in, chan-in, small-size, sound-at}
 use Rattle.model.proofs.Traces.{Trace, t-none, t-step}
-use Rattle.model.proofs.Running.{Only, Nobody, Did, Executes, executes, Acting}
-use Rattle.model.proofs.Reals.{size-is, mirrored, real-state, real-cpu, real-stored, real-talk, real-dropped, withoutOffer, link-own, link-var, link-chan}
-use Rattle.model.proofs.Sched.{Stands, settle, linkedTo, Woken}
+use Rattle.model.proofs.Running.{Only, Did, Executes, executes, Acting}
+use Rattle.model.proofs.Reals.{size-is, mirrored, real-state, real-stored, real-talk, real-dropped, withoutOffer, link-var, link-chan}
+use Rattle.model.proofs.Sched.{settle, linkedTo, Woken}
 use Rattle.model.proofs.Queues.{joined}
 use Rattle.model.proofs.Finish.{then-settles, silent}
-use Rattle.model.proofs.Advance.{Silent, sits, goes-as, leaves-as}
+use Rattle.model.proofs.Advance.{Silent, goes-as, leaves-as}
 use Rattle.model.proofs.Basics.{before-silent}
 use Rattle.model.proofs.Channels.{Holder, holds-input, holds-output, holds-wait, holds-woken, holds-out, holder, Sends, sends, sender-at}
-use Rattle.model.proofs.Channels.{HeldAt, held-at, not-held, held-here}
-use Rattle.model.proofs.Meets.{Both, not-own, resumed, clear-chan, mark-chan, chan-above, rest-below, real-below, partner-goes}
+use Rattle.model.proofs.Channels.{held-at, not-held, held-here}
+use Rattle.model.proofs.Meets.{Both, not-own, clear-chan, mark-chan, chan-above, rest-below, real-below, partner-goes}
 use Rattle.model.proofs.Moving.{same-leaf, rest-out, lined-out}
 
 pub output-channel : {c d : Site} {v w : ℕ} {k l : List Frame} → atOutput c v k ≡ atOutput d w l → c ≡ d

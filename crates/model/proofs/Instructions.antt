@@ -1,37 +1,35 @@
 -- The last byte of an instruction: whichever instruction it is, what it does is a part of a run.
-use Prim.Native.Nat.{ℕ, zero, suc, _+_, _-_, _≤_, _<_}
+use Prim.Native.Nat.{ℕ, suc, _+_, _-_, _≤_}
 use native.Mathlib.Omega.{arith}
-use mathlib.Core.Path.{_≡_, refl, sym, ap, _∙_, subst}
-use mathlib.Core.Logic.{_≢_, _⊎_, inl, inr}
+use mathlib.Core.Path.{_≡_, refl, sym, _∙_, subst}
+use mathlib.Core.Logic.{_≢_, inl}
 use mathlib.Core.Bool.{true}
 use mathlib.Core.List.{List, [], _∷_, _++_}
-use mathlib.Core.Option.{some}
 use lib.ListN.{length}
-use Rattle.model.specs.Syntax.{Site, Stmt, Stmts, noStmt, stmt}
-use Rattle.model.specs.Scheme.{size}
-use Rattle.model.specs.Instruction.{Instruction, plain, distance}
+use Rattle.model.specs.Syntax.{Stmt, noStmt, stmt}
+use Rattle.model.specs.Instruction.{Instruction, plain}
 use Rattle.model.specs.Instruction as I
 use Rattle.model.specs.Code.{functionIn, operandIn}
 use Rattle.model.specs.Word.{low, less}
 use Rattle.model.specs.Machine.{World, withCpu, goto}
 use Rattle.model.specs.declared.Cpu.{Cpu}
-use Rattle.model.specs.Occam.{Process, begin, State}
-use Rattle.model.proofs.Ways.{Regs, regsOf, load, Mem, Quiet, Way, arrived, through, quiet, loads, jumps, falls}
-use Rattle.model.proofs.Points.{Setting, whole, At}
-use Rattle.model.proofs.Arrive.{inside, up}
-use Rattle.model.proofs.Parts.{Part, joins, partOf}
+use Rattle.model.specs.Occam.{Process, State}
+use Rattle.model.proofs.Ways.{regsOf, load, Mem, arrived, through, quiet, loads, jumps, falls}
+use Rattle.model.proofs.Points.{At}
+use Rattle.model.proofs.Arrive.{inside}
+use Rattle.model.proofs.Parts.{Part}
 use Rattle.model.proofs.Marks.{Point, pt-stop, pt-assign, pt-var, pt-chan, pt-taken, pt-none, pt-while, pt-in, pt-out, pt-par-place, pt-par-count}
-use Rattle.model.proofs.Marks.{pt-end, pt-alt, StartPoint, Settled}
+use Rattle.model.proofs.Marks.{pt-end, pt-alt, Settled}
 use Rattle.model.proofs.Arrivals.{Goes, Comes}
 use Rattle.model.proofs.Onwards.{AltGoes, Starts}
-use Rattle.model.proofs.Trees.{Info, newInfo, Tree, bytesLeft}
+use Rattle.model.proofs.Trees.{Info, Tree, bytesLeft}
 use Rattle.model.proofs.Leaves.{Unmarked}
 use Rattle.model.proofs.Effects.{cpuOf, exec-cj-jumps}
 use Rattle.model.proofs.Kernel.{Loaded, S, root, LeafAt, Rest, Lined, Real}
 use Rattle.model.proofs.Writes.{sits-at}
 use Rattle.model.proofs.Traces.{t-none}
-use Rattle.model.proofs.Running.{Only, Births, Later, Starting, Here, fresh, off-small, Birth, NowStarts, starts, Did, came, Executes, executes, Acting}
-use Rattle.model.proofs.Moving.{relaid, relabelled, relabel}
+use Rattle.model.proofs.Running.{Only, Births, Later, Starting, Here, fresh, off-small, Birth, starts, Did, came, Executes, executes, Acting}
+use Rattle.model.proofs.Moving.{relabelled, relabel}
 use Rattle.model.proofs.Reals.{real-cpu}
 use Rattle.model.proofs.Reach.{way-bound, start-in}
 use Rattle.model.proofs.Finish.{silent}

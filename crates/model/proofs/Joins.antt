@@ -4,34 +4,31 @@ use native.Mathlib.Omega.{arith}
 use native.Mathlib.Decide.{ℕ-discrete}
 use mathlib.Core.Path.{_≡_, refl, sym, ap, _∙_, subst}
 use mathlib.Core.Logic.{_≢_, _⊎_, inl, inr, ⊎-elim}
-use mathlib.Core.Bool.{Bool, true, false}
 use mathlib.Core.List.{List, [], _∷_, _++_, append-nil, append-assoc, List·Memᴰ}
-use mathlib.Core.Option.{Option, none, some}
-use lib.ListN.{length, getD}
+use mathlib.Core.Option.{some}
 use Rattle.model.specs.Word.{notProcess}
 use Rattle.model.specs.Syntax.{Site, Stmt, Stmts, noStmt, stmt}
-use Rattle.model.specs.Counts.{need, sumNeed}
+use Rattle.model.specs.Counts.{sumNeed}
 use Rattle.model.specs.Machine.{linkWord}
-use Rattle.model.specs.Occam.{Frame, Process, atOutput, finished, inPar, Branches, branchAt, endBranch, branchesOf, framesOf, resume, closed}
-use Rattle.model.specs.Occam.{look, put, State, Step, ends, Sender, process, outside}
+use Rattle.model.specs.Occam.{Frame, Process, finished, inPar, Branches, branchAt, endBranch, branchesOf, framesOf, resume}
+use Rattle.model.specs.Occam.{look, put, State, Sender, process, outside}
 use Rattle.model.specs.Demand.{liveIn}
 use Rattle.model.proofs.Cases.{never}
 use Rattle.model.proofs.Ways.{Mem}
-use Rattle.model.proofs.Points.{Setting, whole}
-use Rattle.model.proofs.Paths.{Leaf, l-output, l-finished, leaf-par, leaf-resume, leaf-below, leaf-found, look-in, look-nil, look-append, look-prefix, prefixed}
+use Rattle.model.proofs.Points.{Setting}
+use Rattle.model.proofs.Paths.{l-output, leaf-par, leaf-resume, leaf-below, leaf-found, look-append, look-prefix, prefixed}
 use Rattle.model.proofs.Paths.{look-under, under, par-whole, look-put-same, look-put-other, look-after, into, aside, look-end-same, look-end-other}
-use Rattle.model.proofs.Paths.{Compared, equal, below, above, apart, compare, Apart, here, apart-append, apart-under, apart-differ, left, left-end}
-use Rattle.model.proofs.Paths.{only-left, same-path, SamePar, same-par, par-above, live-resume, silent-resume, closed-last, closed-more, stmtAt}
-use Rattle.model.proofs.Parts.{sum-first, Part, joins, partOf}
-use Rattle.model.proofs.Conts.{Placed, cont-placed}
+use Rattle.model.proofs.Paths.{Compared, equal, below, above, apart, compare, Apart, here, apart-append, apart-under, apart-differ, left}
+use Rattle.model.proofs.Paths.{only-left, same-path, same-par, par-above, live-resume, silent-resume, stmtAt}
+use Rattle.model.proofs.Parts.{sum-first, Part, joins}
 use Rattle.model.proofs.Marks.{Own, ParCode}
 use Rattle.model.proofs.Arrivals.{cont-live}
-use Rattle.model.proofs.Trees.{some-same, distanceOf, BranchPart, branch-part, Label, alone, parted, alone-part, alone-parted, Info, Sits, Tree, t-leaf}
+use Rattle.model.proofs.Trees.{some-same, distanceOf, BranchPart, Label, alone, parted, alone-parted, Info, Sits, Tree, t-leaf}
 use Rattle.model.proofs.Trees.{t-par, Forest, labelAt, running, partAt, part-nil, parts-apart, label-alone, labelled, owner-of, owner, par-part, rebuild, Rebuilt, EndedAt, ended-at}
 use Rattle.model.proofs.Zones.{zoneOf}
-use Rattle.model.proofs.Leaves.{upd, member, Unmarked, Held}
+use Rattle.model.proofs.Leaves.{upd, Unmarked}
 use Rattle.model.proofs.Stays.{Calm, held-stays}
-use Rattle.model.proofs.Kernel.{Loaded, S, root, LeafAt, NodeAt, Owned, owned, Rest, Whose, whose, Lined}
+use Rattle.model.proofs.Kernel.{Loaded, S, root, LeafAt, NodeAt, Owned, owned, Rest, whose, Lined}
 use Rattle.model.proofs.Writes.{upd-same, upd-other, node, own-one, apart-zones, part-small, sits-at}
 use Rattle.model.proofs.Puts.{putting}
 use Rattle.model.proofs.Running.{Only, Nobody}

@@ -2,9 +2,8 @@
 use Prim.Native.Nat.{ℕ, _+_, _*_, _≤_, _<_}
 use native.Mathlib.Omega.{arith}
 use native.Mathlib.Nat.{le-trans, mul-le-mul-right}
-use mathlib.Core.Path.{_≡_, refl, sym, ap, _∙_}
-use mathlib.Core.Bool.{true, false}
-use mathlib.Core.List.{List, [], _∷_, _++_, List·Memᴰ, List·Memᴰ·not-nil}
+use mathlib.Core.Path.{_≡_, refl, _∙_}
+use mathlib.Core.List.{List, _++_, List·Memᴰ, List·Memᴰ·not-nil}
 use lib.ListN.{length, getD, List·getD-append}
 use lib.Dec.{ltb}
 use borrow.Author.Tests.{ltb-true}
@@ -14,12 +13,12 @@ use Rattle.model.specs.Run.{fetch, byte}
 use Rattle.model.specs.Occam.{State}
 use Rattle.model.proofs.Cases.{by-bool}
 use Rattle.model.proofs.Ways.{Mem}
-use Rattle.model.proofs.Points.{Setting, whole}
+use Rattle.model.proofs.Points.{whole}
 use Rattle.model.proofs.Most.{leaves, most, leaves-most}
 use Rattle.model.proofs.Trees.{Tree, bytesLeft, bytes-few}
 use Rattle.model.proofs.Effects.{cpuOf}
 use Rattle.model.proofs.Queues.{Queue, empty, some, links-stable}
-use Rattle.model.proofs.Kernel.{Loaded, S, root, size, setup, Rest, Lined, Real}
+use Rattle.model.proofs.Kernel.{Loaded, S, root, size, setup, Real}
 use Rattle.model.proofs.Writes.{sits-at}
 use Rattle.model.proofs.Running.{Inv, runs, starts, idle}
 use Rattle.model.proofs.Reals.{links-in, offer-world}

@@ -1,28 +1,27 @@
 -- Where a process stands: the significant instruction that it comes to next, and what holds there.
-use Prim.Native.Nat.{ℕ, zero, suc, _+_, _-_, _^_, _≤_, _<_}
+use Prim.Native.Nat.{ℕ, suc, _+_, _-_, _^_, _≤_, _<_}
 use mathlib.Core.Path.{_≡_}
 use mathlib.Core.Logic.{_≢_, _⊎_}
 use mathlib.Core.Bool.{true, false}
-use mathlib.Core.List.{List, [], _∷_, _++_, List·Memᴰ}
-use lib.ListN.{length}
+use mathlib.Core.List.{List, _∷_, _++_, List·Memᴰ}
 use Rattle.model.specs.Word.{low, less, notProcess}
-use Rattle.model.specs.Syntax.{Site, declared, Whole, Stmt, SKIP, STOP, assign, input, output, VAR, CHAN, SEQ, PAR, IF, WHILE, ALT}
+use Rattle.model.specs.Syntax.{Site, Whole, Stmt, SKIP, STOP, assign, input, output, VAR, CHAN, SEQ, PAR, IF, WHILE, ALT}
 use Rattle.model.specs.Syntax.{Stmts, noStmt, stmt, Pairs, noPair, pair, Guards, noGuard, inputGuard, skipGuard}
 use Rattle.model.specs.Reader.{names}
 use Rattle.model.specs.Counts.{need, sumNeed}
 use Rattle.model.specs.Instruction.{ldc, ldlp, cj, ajw, stl, Instruction, plain, distance, operation}
 use Rattle.model.specs.Instruction as I
-use Rattle.model.specs.Scheme.{howMany, size, code, codeStarts, codeEnds, codeEnable, codeDisable, codeBranches, sizeEnable, sizeDisable, sizeBranches, sizeEnds}
+use Rattle.model.specs.Scheme.{howMany, size, code, codeStarts, codeEnds, codeEnable, codeDisable, codeBranches, sizeEnable, sizeDisable}
 use Rattle.model.specs.Code.{operandIn}
 use Rattle.model.specs.Execute.{enabling, ready, noneSelected}
 use Rattle.model.specs.Machine.{stateWord}
-use Rattle.model.specs.Occam.{Store, value, isTrue, Frame, inVar, inWhile, Process, before, atInput, atOutput, atStop, atAlt, inPar, finished, resume, begin, firstTrue}
+use Rattle.model.specs.Occam.{Store, value, isTrue, Frame, inWhile, Process, before, atInput, atOutput, atStop, atAlt, inPar, finished, resume, begin, firstTrue}
 use Rattle.model.specs.Occam.{State, Sender}
-use Rattle.model.proofs.Ways.{Regs, Mem, Way}
+use Rattle.model.proofs.Ways.{Regs, Mem}
 use Rattle.model.proofs.Expr.{Seg}
 use Rattle.model.proofs.Points.{Setting, whole, At}
 use Rattle.model.proofs.Parts.{Part, joins, Words, FineWhole, Fine, FinePairs, FineBranches}
-use Rattle.model.proofs.Conts.{Scoped, Placed, Cont}
+use Rattle.model.proofs.Conts.{Placed, Cont}
 
 -- a guard that is ready
 pub data Ready (st : State) : Guards → Type 0 where

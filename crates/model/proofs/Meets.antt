@@ -1,31 +1,27 @@
 -- Processes that meet at a channel: the one that waited is woken.
-use Prim.Native.Nat.{ℕ, zero, suc, _+_, _-_, _^_, _≤_, _<_}
+use Prim.Native.Nat.{ℕ, _-_, _≤_, _<_}
 use native.Mathlib.Omega.{arith}
-use native.Mathlib.Decide.{ℕ-discrete}
-use mathlib.Core.Path.{_≡_, refl, sym, ap, _∙_, subst}
+use mathlib.Core.Path.{_≡_, refl, sym, _∙_, subst}
 use mathlib.Core.Logic.{_≢_, _⊎_, inl, inr, ⊎-elim}
-use mathlib.Core.Bool.{Bool, true, false}
-use mathlib.Core.List.{List, [], _∷_, _++_, List·Memᴰ}
-use mathlib.Core.Option.{Option, none, some}
-use lib.ListN.{length, getD}
+use mathlib.Core.Bool.{true}
+use mathlib.Core.List.{List, List·Memᴰ}
 use Rattle.model.specs.Word.{notProcess}
 use Rattle.model.specs.Syntax.{Site}
-use Rattle.model.specs.Machine.{World, resumeWord, stateWord, linkWord}
-use Rattle.model.specs.Occam.{Frame, Process, atInput, atOutput, framesOf, put, resume, State, Sender}
+use Rattle.model.specs.Machine.{World, resumeWord}
+use Rattle.model.specs.Occam.{Frame, Process, atOutput, framesOf, put, resume, State}
 use Rattle.model.specs.Demand.{liveIn}
 use Rattle.model.proofs.Ways.{Mem}
-use Rattle.model.proofs.Points.{Setting, whole}
-use Rattle.model.proofs.Paths.{Leaf, leaf-resume, live-resume, silent-resume, same-path}
-use Rattle.model.proofs.Parts as Parts
-use Rattle.model.proofs.Parts.{Part, Within}
-use Rattle.model.proofs.Conts.{Placed, Cont, cont-inside}
+use Rattle.model.proofs.Points.{Setting}
+use Rattle.model.proofs.Paths.{leaf-resume, live-resume, silent-resume}
+use Rattle.model.proofs.Parts.{Part}
+use Rattle.model.proofs.Conts.{Placed, cont-inside}
 use Rattle.model.proofs.Marks.{Own}
 use Rattle.model.proofs.Arrivals.{Sound, arrives}
-use Rattle.model.proofs.Trees.{Info, Sits, Tree}
-use Rattle.model.proofs.Leaves.{upd, member, Unmarked, Resumes, Waits, Held, h-queued}
-use Rattle.model.proofs.Kernel.{Loaded, S, root, size, LeafAt, Owned, owned, Rest, Lined, Real}
-use Rattle.model.proofs.Writes.{upd-same, upd-other, node, apart-parts, own-one, part-small, sits-at, write-own, write-chan, left-out}
-use Rattle.model.proofs.Puts.{putting, treeThen, here-then, other-then, lined-then, rest-then}
+use Rattle.model.proofs.Trees.{Info, Tree}
+use Rattle.model.proofs.Leaves.{upd, Unmarked, Waits, Held, h-queued}
+use Rattle.model.proofs.Kernel.{Loaded, S, root, LeafAt, owned, Rest, Lined, Real}
+use Rattle.model.proofs.Writes.{upd-other, node, apart-parts, own-one, part-small, sits-at, write-own, write-chan, left-out}
+use Rattle.model.proofs.Puts.{putting, treeThen, here-then, lined-then, rest-then}
 use Rattle.model.proofs.Grounds.{small-size, sound-at}
 use Rattle.model.proofs.Running.{Only}
 use Rattle.model.proofs.Reals.{real-stored, real-state, link-own}

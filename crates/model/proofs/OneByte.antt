@@ -1,28 +1,25 @@
 -- One byte: a prefix is gathered, or an instruction is executed. Either way the invariant goes on, and what was done is a part of a run.
-use Prim.Native.Nat.{ℕ, zero, suc, _+_, _-_, _^_, _≤_, _<_}
+use Prim.Native.Nat.{ℕ, suc, _+_, _-_, _≤_}
 use native.Mathlib.Omega.{arith}
 use mathlib.Core.Path.{_≡_, refl, sym, ap, ap₂, _∙_, subst}
-use mathlib.Core.Logic.{_≢_, _⊎_, inl, inr}
-use mathlib.Core.Bool.{Bool, true, false, _&&_}
-use mathlib.Core.List.{List, [], _∷_, _++_, map}
-use mathlib.Core.Option.{some}
+use mathlib.Core.Logic.{inl}
+use mathlib.Core.Bool.{true, false, _&&_}
+use mathlib.Core.List.{List, [], _++_, map}
 use lib.ListN.{length}
 use borrow.Author.Tests.{eq-eqb}
 use Rattle.model.specs.Word.{low}
-use Rattle.model.specs.Syntax.{Site}
 use Rattle.model.specs.Instruction.{Instruction}
 use Rattle.model.specs.Code.{functionIn, operandIn}
-use Rattle.model.specs.Machine.{World, Result, done, withCpu, gathering, next}
+use Rattle.model.specs.Machine.{World, done, withCpu, gathering, next}
 use Rattle.model.specs.Execute.{execute}
 use Rattle.model.specs.Run.{land, byte, ended, waits}
 use Rattle.model.specs.Occam.{Process, State}
 use Rattle.model.specs.Demand.{talkOf}
 use Rattle.model.specs.declared.Setup.{Setup}
-use Rattle.model.specs.declared.Cpu.{Cpu}
 use Rattle.model.proofs.Cases.{never}
 use Rattle.model.proofs.Bytes.{Standing, Turn, prefixed, last, turn, advance, lands}
 use Rattle.model.proofs.Ways.{Mem, regsOf}
-use Rattle.model.proofs.Points.{Setting, whole, At}
+use Rattle.model.proofs.Points.{At}
 use Rattle.model.proofs.Arrive.{inside}
 use Rattle.model.proofs.Parts.{Part}
 use Rattle.model.proofs.Marks.{Settled}
@@ -34,13 +31,13 @@ use Rattle.model.proofs.Effects.{cpuOf}
 use Rattle.model.proofs.Kernel.{Loaded, S, root, setup, LeafAt, Rest, Lined, Real}
 use Rattle.model.proofs.Writes.{sits-at}
 use Rattle.model.proofs.Grounds.{code-end}
-use Rattle.model.proofs.Traces.{Trace, t-none}
+use Rattle.model.proofs.Traces.{t-none}
 use Rattle.model.proofs.Running.{Only, Births, Starting, Here, within, at-end, off-small, Now, now-goes, now-alt, NowStarts, Inv, runs, starts, idle}
 use Rattle.model.proofs.Running.{Did, came, Executes, executes, Acting}
 use Rattle.model.proofs.Moving.{relaid, relabelled, relabel}
 use Rattle.model.proofs.Reals.{real-cpu}
-use Rattle.model.proofs.Reach.{way-bound, way-far, point-in, alt-in, start-in}
-use Rattle.model.proofs.Finish.{silent, inv-setup}
+use Rattle.model.proofs.Reach.{way-far, point-in, alt-in, start-in}
+use Rattle.model.proofs.Finish.{silent}
 use Rattle.model.proofs.Instructions.{way-acts, alt-acts, starts-on, starts-acts}
 
 -- what lands where no process runs

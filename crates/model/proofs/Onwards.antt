@@ -3,7 +3,6 @@ use Prim.Native.Nat.{ℕ, suc, _+_, _-_, _^_, _≤_, _<_}
 use native.Mathlib.Omega.{arith}
 use mathlib.Core.Path.{_≡_, refl, sym, ap, _∙_, subst}
 use mathlib.Core.Bool.{true, false}
-use mathlib.Core.Logic.{_⊎_, inl, inr, ⊎-elim}
 use mathlib.Core.List.{List, [], _∷_, _++_, List·Memᴰ}
 use lib.ListN.{length, length-append}
 use Rattle.model.specs.Word.{low, less, minus}
@@ -14,20 +13,20 @@ use Rattle.model.specs.Instruction.{ldc, ldlp, ajw, Instruction, plain, 
 use Rattle.model.specs.Instruction as I
 use Rattle.model.specs.Scheme.{size, sizeEnable, sizeEnds, local, wholeCode, inputCode, code, codeAll}
 use Rattle.model.specs.Scheme.{codeStarts, codeEnds, codeEnable, codeDisable, codeBranches}
-use Rattle.model.specs.Occam.{Store, value, isTrue, Sender, Frame, Process, before, atAlt, finished, resume, begin, enter, enterAll, State}
+use Rattle.model.specs.Occam.{Store, value, isTrue, Sender, Frame, Process, before, atAlt, resume, begin, enter, enterAll, State}
 use Rattle.model.specs.Occam.{Choice, by-input, by-skip, past-input, past-skip}
 use Rattle.model.proofs.Ways.{Regs, pushing, pointing, reversing, moving, Mem, Way, arrived, quiet}
 use Rattle.model.proofs.Ways.{quiet-ldc, quiet-ajw, quiet-ldlp, quiet-rev}
 use Rattle.model.proofs.Expr.{Seg, nil, at, split, apart, cut, seg-length, local-word}
 use Rattle.model.proofs.Exprs.{evaluates}
-use Rattle.model.proofs.Sizes.{code-length, ends-length}
+use Rattle.model.proofs.Sizes.{code-length}
 use Rattle.model.proofs.Points.{Setting, whole, At}
-use Rattle.model.proofs.Arrive.{inside, up, rises-le}
+use Rattle.model.proofs.Arrive.{inside, rises-le}
 use Rattle.model.proofs.Parts.{need-two, sum-first, need-next, Part, Ending, the-end, joins, partOf, FineWhole, Fine, FineGuards, FineBranches}
 use Rattle.model.proofs.Conts.{Scoped, scoped-below, placed-down, Cont, c-end, c-join, c-chan, c-up, c-hop, cont-inside, cont-low, cont-scoped, cont-bound}
 use Rattle.model.proofs.Marks.{Ready, r-input, r-skip, r-past-input, r-past-skip, Picks, p-input, p-skip, p-past-input, p-past-skip}
-use Rattle.model.proofs.Marks.{Rest, rest-all, rest-input, rest-skip, Noticed, n-none, n-input, n-skip, Skips, s-none, s-skip, s-if}
-use Rattle.model.proofs.Marks.{s-par, Settled, AltCode, ParCode, Clear, Enabling, e-input, e-skip, Disabling}
+use Rattle.model.proofs.Marks.{Rest, rest-all, rest-input, rest-skip, Noticed, n-none, n-input, n-skip}
+use Rattle.model.proofs.Marks.{AltCode, ParCode, Enabling, e-input, e-skip, Disabling}
 use Rattle.model.proofs.Marks.{d-input, d-skip, AltPoint, pt-enable, pt-wait, pt-disable, pt-choose, StartPoint}
 use Rattle.model.proofs.Marks.{Guarded, g-here, g-past-input, g-past-skip}
 use Rattle.model.proofs.Cases.{never}
@@ -116,26 +115,6 @@ pub guarded-ready : {st : State} {c : Site} {gs : Guards} → Guarded (st .store
 guarded-ready (g-here e) h = r-input e h
 guarded-ready (g-past-input g) h = r-past-input (guarded-ready g h)
 guarded-ready (g-past-skip g) h = r-past-skip (guarded-ready g h)
-
--- steps without code are determined, up to where they stop
-skips-meet : {p q q′ : Process} → Skips p q → Skips p q′ → Skips q q′ ⊎ Skips q′ q
-skips-meet s-none g = inl g
-skips-meet (s-skip h) s-none = inr (s-skip h)
-skips-meet (s-skip h) (s-skip g) = skips-meet h g
-skips-meet (s-if h) s-none = inr (s-if h)
-skips-meet (s-if h) (s-if g) = skips-meet h g
-skips-meet (s-par h) s-none = inr (s-par h)
-skips-meet (s-par h) (s-par g) = skips-meet h g
-
-pub settled-stays : {p q : Process} → Settled p → Skips p q → p ≡ q
-settled-stays n s-none = refl
-settled-stays n (s-skip h) = absurd n
-settled-stays n (s-if h) = absurd n
-settled-stays n (s-par h) = absurd n
-
--- they lead on to where no more is next
-pub skips-on : {p q q′ : Process} → Skips p q → Skips p q′ → Settled q′ → Skips q q′
-skips-on {q} h g n = ⊎-elim (λ m. m) (λ m. subst (λ z. Skips q z) (sym (settled-stays n m)) s-none) (skips-meet h g)
 
 -- the next branch of a PAR
 pub ends-next : (s : Stmt) (ss : Stmts) (b : ℕ) {n : ℕ} → b + sizeEnds (stmt s ss) ≤ n → b + size s + 2 + sizeEnds ss ≤ n

@@ -1,58 +1,51 @@
 -- OUTWORD: a process comes to an output. It hands its value to a process that waits in IN, or waits itself, and tells an ALT.
-use Prim.Native.Nat.{ℕ, zero, suc, _+_, _-_, _^_, _≤_, _<_}
+use Prim.Native.Nat.{ℕ, suc, _+_, _-_, _^_, _≤_, _<_}
 use native.Mathlib.Omega.{arith}
 use native.Mathlib.Decide.{ℕ-discrete}
 use mathlib.Core.Path.{_≡_, refl, sym, ap, _∙_, subst}
 use mathlib.Core.Logic.{_≢_, _⊎_, inl, inr, ⊎-elim}
-use mathlib.Core.Bool.{Bool, true, false, cond}
-use mathlib.Core.List.{List, [], _∷_, _++_, map, List·Memᴰ}
-use mathlib.Core.Option.{Option, none, some}
-use lib.ListN.{length, getD, set, length-set}
-use lib.Seq.{getD-set-same, getD-set-other}
-use lib.Dec.{eqb}
-use borrow.Author.Tests.{eq-eqb, ne-eqb}
+use mathlib.Core.Bool.{true, false}
+use mathlib.Core.List.{List, [], _∷_, _++_, List·Memᴰ}
+use borrow.Author.Tests.{ne-eqb}
 use Rattle.model.specs.Word.{notProcess}
-use Rattle.model.specs.Syntax.{Site, Whole, Guards, inputGuard, skipGuard, Stmt, output}
-use Rattle.model.specs.Instruction.{Instruction, plain, operation}
+use Rattle.model.specs.Syntax.{Site, Whole, Guards, output}
+use Rattle.model.specs.Instruction.{plain, operation}
 use Rattle.model.specs.Instruction as I
 use Rattle.model.specs.Code.{functionIn, operandIn}
-use Rattle.model.specs.Layout.{base}
-use Rattle.model.specs.Machine.{World, done, release, _>>_, withCpu, resumeWord, stateWord, linkWord}
-use Rattle.model.specs.Occam.{Store, value, isTrue, store, Frame, Process, before, atInput, atOutput, atAlt, resume, go, look, put, State, Communication}
-use Rattle.model.specs.Occam.{over-channel, Sender, process, outside, Step, begins, communicates, receives}
-use Rattle.model.specs.Demand.{step, Segment, steps, talkOf}
-use Rattle.model.specs.declared.Setup.{Setup}
-use Rattle.model.proofs.Cases.{never, by-bool}
-use Rattle.model.proofs.Ways.{Regs, regsOf, Mem}
-use Rattle.model.proofs.Points.{Setting, whole, At}
-use Rattle.model.proofs.Arrive.{inside, up, rises-le}
-use Rattle.model.proofs.Paths.{Leaf, l-input, l-output, leaf-resume, live-resume, silent-resume, same-path, look-put-same, put-put-same}
+use Rattle.model.specs.Machine.{World, release, _>>_, resumeWord, stateWord}
+use Rattle.model.specs.Occam.{value, isTrue, store, Frame, Process, before, atInput, atOutput, atAlt, resume, go, put, State}
+use Rattle.model.specs.Occam.{over-channel, Sender, process, Step, begins, communicates}
+use Rattle.model.specs.Demand.{step}
+use Rattle.model.proofs.Cases.{never}
+use Rattle.model.proofs.Ways.{Mem}
+use Rattle.model.proofs.Points.{whole, At}
+use Rattle.model.proofs.Arrive.{inside, up}
+use Rattle.model.proofs.Paths.{l-input, l-output, leaf-resume, live-resume, silent-resume, same-path, look-put-same, put-put-same}
 use Rattle.model.proofs.Paths.{Apart, apart-sym as path-apart-sym, leaves-apart, look-put-other, put-put-apart}
 use Rattle.model.proofs.Parts.{Part, Target, Fine}
-use Rattle.model.proofs.Conts.{Placed, Cont, c-up, cont-low, cont-inside, cont-placed}
+use Rattle.model.proofs.Conts.{Placed, Cont, c-up, cont-low, cont-placed}
 use Rattle.model.proofs.Marks.{Own, Ready, r-input, r-skip, r-past-input, r-past-skip, Picks, p-input, p-skip, p-past-input}
 use Rattle.model.proofs.Marks.{p-past-skip, Guarded, AltCode, Marked, Disabling}
-use Rattle.model.proofs.Arrivals.{Sound, Comes, arrives}
+use Rattle.model.proofs.Arrivals.{arrives}
 use Rattle.model.proofs.Trees.{alone, Info, Sits, Tree, bytesLeft}
 use Rattle.model.proofs.Leaves.{upd, member, Unmarked, Resumes, Waits, Held, h-output, h-woken}
-use Rattle.model.proofs.Effects.{cpuOf, sizeOf, stored}
+use Rattle.model.proofs.Effects.{cpuOf, stored}
 use Rattle.model.proofs.Acts.{parked, exec-out-wait, exec-out-alt, exec-out-receiver, notify-waiting, notify-other}
-use Rattle.model.proofs.Kernel.{Loaded, S, root, size, setup, LeafAt, NodeAt, Owned, owned, Rest, Lined, Real, Offer, no-offer, held-offer}
+use Rattle.model.proofs.Kernel.{Loaded, S, root, size, LeafAt, owned, Rest, Lined, Real}
 use Rattle.model.proofs.Writes.{upd-same, upd-other, changed, after-leaf, after-lined, node, apart-parts, apart-zones, own-one, part-small}
-use Rattle.model.proofs.Writes.{sits-at, write-own, write-var, write-chan, left-out, change-offers}
+use Rattle.model.proofs.Writes.{sits-at, write-var, write-chan}
 use Rattle.model.proofs.Puts.{putting, treeThen, here-then, other-then, lined-then, rest-then, sender-then}
 use Rattle.model.proofs.Grounds.{var-in, chan-in, small-size, sound-at}
 use Rattle.model.proofs.Traces.{Trace, t-none, t-step}
 use Rattle.model.proofs.Running.{Only, Nobody, Did, Executes, executes, Acting}
-use Rattle.model.proofs.Reals.{size-is, mirrored, real-state, real-cpu, real-stored, real-talk, link-any, link-var, link-chan}
-use Rattle.model.proofs.Sched.{Stands, settle, lets-go, linkedTo, wakes, Woken}
+use Rattle.model.proofs.Reals.{size-is, mirrored, real-state, real-stored, real-talk, link-any, link-var, link-chan}
+use Rattle.model.proofs.Sched.{settle, lets-go, linkedTo, wakes, Woken}
 use Rattle.model.proofs.Queues.{joined}
 use Rattle.model.proofs.Finish.{then-settles, step-lets-go, silent}
-use Rattle.model.proofs.Advance.{Silent, sits, goes-as, leaves-as}
+use Rattle.model.proofs.Advance.{Silent, goes-as, leaves-as}
 use Rattle.model.proofs.Basics.{before-silent}
-use Rattle.model.proofs.Channels.{Holder, holds-input, holds-output, holds-wait, holds-woken, holds-out, holder, Sends, sends, sender-at}
-use Rattle.model.proofs.Channels.{HeldAt, held-at, not-held, held-here}
-use Rattle.model.proofs.Meets.{Both, not-own, resumed, clear-chan, mark-chan, var-above, chan-above, rest-below, real-below, partner-goes}
+use Rattle.model.proofs.Channels.{Holder, holds-input, holds-output, holds-wait, holds-woken, holds-out, holder}
+use Rattle.model.proofs.Meets.{Both, not-own, clear-chan, mark-chan, var-above, chan-above, rest-below, real-below, partner-goes}
 use Rattle.model.proofs.Moving.{same-leaf, rest-in, rest-out, lined-in, lined-out, unqueued}
 use Rattle.model.proofs.Ins.{output-channel}
 use Rattle.model.specs.Execute.{execute, notify, isAltState, enabling, waiting, ready, noneSelected}
@@ -253,9 +246,6 @@ module _ (L : Loaded) {s : World} {st : State} {μ : Mem} {t : Tree (S L) (root 
 
     x-not-c : S L .word c ≢ S L .word x
     x-not-c q = zones .crossed c x (f .2) (target .0) q
-
-    x-not-w : S L .word x ≢ w
-    x-not-w q = zones .vars-in x (target .0) (omega (arith, q, w-low .0), omega (arith, q, above .low))
 
     receiver₂ : LeafAt L st₂ t other (atInput c x l) d j
     receiver₂ = after-leaf L receiver

@@ -2,51 +2,47 @@
 use Prim.Native.Nat.{ℕ, zero, suc, _+_, _-_, _^_, _≤_, _<_}
 use native.Mathlib.Omega.{arith}
 use mathlib.Core.Path.{_≡_, refl, sym, ap, _∙_, subst}
-use mathlib.Core.Logic.{_≢_, _⊎_, inl, inr, ⊎-elim}
-use mathlib.Core.Bool.{Bool, true, false}
-use mathlib.Core.List.{List, [], _∷_, _++_, List·Memᴰ}
-use mathlib.Core.Option.{Option, none, some}
-use lib.ListN.{length, getD, length-append}
+use mathlib.Core.Logic.{inl, inr}
+use mathlib.Core.List.{List, [], _∷_, _++_}
+use mathlib.Core.Option.{none, some}
+use lib.ListN.{length, length-append}
 use Rattle.model.specs.Word.{low}
 use Rattle.model.specs.Syntax.{Site, Stmt, PAR, Stmts, noStmt, stmt}
 use Rattle.model.specs.Counts.{need, sumNeed}
 use Rattle.model.specs.Scheme.{howMany, size, sizeEnds, code, codeStarts, codeEnds}
-use Rattle.model.specs.Instruction.{Instruction, plain, operation}
+use Rattle.model.specs.Instruction.{plain, operation}
 use Rattle.model.specs.Instruction as I
 use Rattle.model.specs.Code.{functionIn, operandIn}
-use Rattle.model.specs.Machine.{World, done, withCpu, resumeWord}
-use Rattle.model.specs.Execute.{execute, pop}
+use Rattle.model.specs.Machine.{World, withCpu}
+use Rattle.model.specs.Execute.{pop}
 use Rattle.model.specs.Occam.{Store, Frame, Process, before, inPar, begin, branches, go, put, State, Step, begins}
 use Rattle.model.specs.Demand.{step}
-use Rattle.model.proofs.Cases.{never}
-use Rattle.model.proofs.Ways.{Regs, regsOf, pushing, Mem, arrived, quiet, quiet-ldc}
-use Rattle.model.proofs.Expr.{Seg, nil, at, seg-length}
+use Rattle.model.proofs.Ways.{pushing, Mem, arrived, quiet, quiet-ldc}
+use Rattle.model.proofs.Expr.{Seg, at, seg-length}
 use Rattle.model.proofs.Points.{Setting, whole, At}
-use Rattle.model.proofs.Arrive.{inside, up, rises-le}
+use Rattle.model.proofs.Arrive.{inside, rises-le}
 use Rattle.model.proofs.Sizes.{code-length, ends-length}
-use Rattle.model.proofs.Paths.{Leaf, stmtAt, stmt-inside, Apart, here, later}
+use Rattle.model.proofs.Paths.{stmtAt, stmt-inside, Apart, here, later}
 use Rattle.model.proofs.Parts.{need-next, sum-first, Part, joins, partOf, Inside, FineBranches}
-use Rattle.model.proofs.Conts.{Placed, cont-low, cont-inside, cont-bound}
-use Rattle.model.proofs.Marks.{Own, ParCode, pt-par-count, StartPoint}
-use Rattle.model.proofs.Arrivals.{Sound, Comes}
-use Rattle.model.proofs.Onwards.{Started, all-start, ends-next, Starts, start-path}
-use Rattle.model.proofs.Trees.{distanceOf, Info, newInfo, Sits, Tree, bytesLeft}
-use Rattle.model.proofs.Leaves.{upd, Unmarked, Held, h-queued}
-use Rattle.model.proofs.Effects.{cpuOf, sizeOf, stored, exec-stl}
-use Rattle.model.proofs.Acts.{exec-startp}
-use Rattle.model.proofs.Kernel.{Loaded, S, root, size as memory, LeafAt, NodeAt, Rest, Lined, Real}
-use Rattle.model.proofs.Writes.{upd-same, upd-other, node, part-small, sits-at}
-use Rattle.model.proofs.Puts.{putting}
-use Rattle.model.proofs.Grounds.{small-size, code-end, sound-at}
-use Rattle.model.proofs.Traces.{Trace, t-none, t-step}
-use Rattle.model.proofs.Running.{Only, Births, Later, l-here, l-next, Unborn, unborn, Starting, fresh, Birth, NowStarts, Inv, runs, starts, Did}
+use Rattle.model.proofs.Conts.{cont-inside, cont-bound}
+use Rattle.model.proofs.Marks.{ParCode, pt-par-count}
+use Rattle.model.proofs.Arrivals.{Comes}
+use Rattle.model.proofs.Onwards.{Started, all-start, ends-next, start-path}
+use Rattle.model.proofs.Trees.{distanceOf, Info, newInfo, Tree, bytesLeft}
+use Rattle.model.proofs.Leaves.{upd, Unmarked}
+use Rattle.model.proofs.Effects.{cpuOf, stored, exec-stl}
+use Rattle.model.proofs.Kernel.{Loaded, S, root, LeafAt, Rest, Lined, Real}
+use Rattle.model.proofs.Writes.{upd-same, upd-other, part-small}
+use Rattle.model.proofs.Grounds.{small-size, sound-at}
+use Rattle.model.proofs.Traces.{t-none, t-step}
+use Rattle.model.proofs.Running.{Only, Births, Later, l-here, l-next, unborn, Starting, fresh, Birth, starts, Did}
 use Rattle.model.proofs.Running.{came, Executes, executes, Acting}
-use Rattle.model.proofs.Moving.{rest-narrow, rest-out, lined-in}
+use Rattle.model.proofs.Moving.{rest-narrow, lined-in}
 use Rattle.model.proofs.Reals.{size-is, real-state, real-cpu}
-use Rattle.model.proofs.Sched.{Stands, settle, wakes, Woken}
+use Rattle.model.proofs.Sched.{settle}
 use Rattle.model.proofs.Finish.{goes-on, step-settles, silent}
 use Rattle.model.proofs.Meets.{rest-below, real-below, clean-below}
-use Rattle.model.proofs.Forks.{Branch, branch-of, forked, forkTree, forkState, fork-here, fork-branch, fork-other, fork-rest, fork-lined, which, a-branch, aside-one}
+use Rattle.model.proofs.Forks.{Branch, branch-of, forkTree, forkState, fork-branch, fork-rest, fork-lined, which, a-branch, aside-one}
 
 -- what is known of the k-th of some branches
 later-at : {ss : Stmts} {d b k : ℕ} {r : Stmt} {e f : ℕ} → Later ss d b k r e f → (stmtAt k ss ≡ some r) × (e ≡ d + distanceOf k ss)

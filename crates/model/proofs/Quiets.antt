@@ -1,42 +1,39 @@
 -- Instructions that bring no step: loads and arithmetic, jumps, and J at the end of a slice.
-use Prim.Native.Nat.{ℕ, zero, suc, _+_, _-_, _^_, _≤_, _<_}
+use Prim.Native.Nat.{ℕ, suc, _+_, _-_, _≤_, _<_}
 use native.Mathlib.Omega.{arith}
 use native.Mathlib.Decide.{decLt}
-use mathlib.Core.Path.{_≡_, refl, sym, ap, _∙_, subst}
-use mathlib.Core.Logic.{_≢_, _⊎_, inl, inr, ⊎-elim}
-use mathlib.Core.Bool.{Bool, true, false}
-use mathlib.Core.List.{List, [], _∷_, _++_, List·Memᴰ}
-use mathlib.Core.Option.{Option, none, some}
+use mathlib.Core.Path.{_≡_, refl, sym, _∙_, subst}
+use mathlib.Core.Logic.{inl}
+use mathlib.Core.Bool.{true}
+use mathlib.Core.List.{List, List·Memᴰ}
 use lib.ListN.{length, getD}
 use Rattle.model.specs.Word.{low, less}
 use Rattle.model.specs.Syntax.{Site}
 use Rattle.model.specs.Instruction.{Instruction, plain, distance}
 use Rattle.model.specs.Instruction as I
 use Rattle.model.specs.Code.{functionIn, operandIn}
-use Rattle.model.specs.Machine.{World, done, withCpu, goto, release, testPlace, resumeWord, _>>_, join}
-use Rattle.model.specs.Execute.{execute, push}
+use Rattle.model.specs.Machine.{World, withCpu, goto, resumeWord}
+use Rattle.model.specs.Execute.{push}
 use Rattle.model.specs.Occam.{Process, State}
 use Rattle.model.proofs.Ways.{Regs, regsOf, load, Quiet, pushing, Mem}
-use Rattle.model.proofs.Points.{Setting, whole, At}
-use Rattle.model.proofs.Arrive.{inside, up}
+use Rattle.model.proofs.Arrive.{inside}
 use Rattle.model.proofs.Parts.{Part}
 use Rattle.model.proofs.Conts.{Placed}
 use Rattle.model.proofs.Marks.{Settled, s-none}
-use Rattle.model.proofs.Arrivals.{Goes, Comes, comes}
+use Rattle.model.proofs.Arrivals.{Goes, comes}
 use Rattle.model.proofs.Onwards.{AltGoes}
 use Rattle.model.proofs.Trees.{Info, Tree, bytesLeft}
 use Rattle.model.proofs.Leaves.{upd, Unmarked, Held, h-queued}
-use Rattle.model.proofs.Stays.{unmarked-stays}
-use Rattle.model.proofs.Effects.{cpuOf, sizeOf, stored, exec-ldl, exec-cj-jumps, exec-j}
+use Rattle.model.proofs.Effects.{cpuOf, stored, exec-ldl, exec-cj-jumps, exec-j}
 use Rattle.model.proofs.Acts.{exec-j-over, testPlace-in}
-use Rattle.model.proofs.Kernel.{Loaded, S, root, size, LeafAt, Rest, Lined, Real}
+use Rattle.model.proofs.Kernel.{Loaded, S, root, size, LeafAt, Rest, Real}
 use Rattle.model.proofs.Writes.{upd-same, upd-other, node, part-small, sits-at, write-own, left-out}
 use Rattle.model.proofs.Grounds.{var-in, small-size}
 use Rattle.model.proofs.Traces.{t-none}
 use Rattle.model.proofs.Running.{Only, Nobody, off-small, Did, Executes, executes, Acting}
-use Rattle.model.proofs.Moving.{relaid, relabelled, relabel, lined-in}
+use Rattle.model.proofs.Moving.{relaid, relabelled, relabel}
 use Rattle.model.proofs.Reals.{size-is, mirrored, real-cpu, real-stored, link-own}
-use Rattle.model.proofs.Sched.{lets-go, wakes, Woken}
+use Rattle.model.proofs.Sched.{lets-go, wakes}
 use Rattle.model.proofs.Finish.{goes-on, alt-goes-on, then-lets-go, silent}
 use Rattle.model.proofs.Reach.{way-bound, point-in}
 

@@ -1,46 +1,41 @@
 -- Who has the processor: a process gets it and takes the steps without code that are next; it leaves it; another is woken.
-use Prim.Native.Nat.{ℕ, zero, suc, _+_, _-_, _^_, _≤_, _<_}
+use Prim.Native.Nat.{ℕ, _+_, _-_, _≤_, _<_}
 use native.Mathlib.Omega.{arith}
 use native.Mathlib.Decide.{ℕ-discrete}
 use mathlib.Core.Path.{_≡_, refl, sym, ap, _∙_, subst}
-use mathlib.Core.Logic.{_≢_, _⊎_, inl, inr, ⊎-elim}
-use mathlib.Core.Bool.{Bool, true, false}
-use mathlib.Core.List.{List, [], _∷_, _++_, List·Memᴰ, List·Memᴰ·head, List·Memᴰ·tail, List·Memᴰ·cases-cons, List·Memᴰ·append-cases}
-use mathlib.Core.List.{List·Memᴰ·eq-of-singleton, List·Memᴰ·not-nil}
-use mathlib.Core.Option.{Option, none, some}
+use mathlib.Core.Logic.{_≢_, _⊎_, inl, ⊎-elim}
+use mathlib.Core.Bool.{true, false}
+use mathlib.Core.List.{List, [], _∷_, _++_, List·Memᴰ·head, List·Memᴰ·tail, List·Memᴰ·append-cases}
+use mathlib.Core.List.{List·Memᴰ·eq-of-singleton}
 use lib.ListN.{length, getD, set, length-set}
 use lib.Seq.{getD-set-same, getD-set-other}
-use Rattle.model.specs.Syntax.{Site}
-use Rattle.model.specs.Machine.{World, done, release, join, withCpu, withMemory, resumeWord, linkWord}
+use Rattle.model.specs.Machine.{World, done, release, join, withCpu, resumeWord, linkWord}
 use Rattle.model.specs.Machine as M
 use Rattle.model.specs.Scheme.{sizeEnable}
-use Rattle.model.specs.Occam.{Frame, Process, atAlt, put, State}
+use Rattle.model.specs.Occam.{Process, put, State}
 use Rattle.model.specs.Demand.{Segment}
-use Rattle.model.proofs.Cases.{never}
-use Rattle.model.proofs.Ways.{Regs, regsOf, Mem}
-use Rattle.model.proofs.Points.{Setting, whole}
+use Rattle.model.proofs.Ways.{regsOf, Mem}
+use Rattle.model.proofs.Points.{whole}
 use Rattle.model.proofs.Arrive.{inside}
 use Rattle.model.proofs.Paths.{Leaf, same-path}
 use Rattle.model.proofs.Parts.{Part}
-use Rattle.model.proofs.Marks.{Own, Settled, AltCode}
 use Rattle.model.proofs.Arrivals.{Comes, comes}
 use Rattle.model.proofs.Onwards.{disable-first}
 use Rattle.model.proofs.Trees.{Info, Sits, Tree, bytesLeft, leaf-bytes}
 use Rattle.model.proofs.Leaves.{upd, member, Unmarked, Held, h-queued, h-woken}
 use Rattle.model.proofs.Stays.{Calm}
-use Rattle.model.proofs.Effects.{cpuOf, stored}
-use Rattle.model.proofs.Acts.{taken}
-use Rattle.model.proofs.Queues.{Queue, LinksIn, Apart, apart, released, joined, lastOf, release-queue, released-queue, release-queue-none, idle-queue}
-use Rattle.model.proofs.Queues.{join-queue, joined-queue, join-queue-free, free-queue, apart-snoc, link-injective, last-in}
-use Rattle.model.proofs.Kernel.{Loaded, S, root, size, LeafAt, NodeAt, Rest, Whose, whose, Lined, Real}
+use Rattle.model.proofs.Effects.{cpuOf}
+use Rattle.model.proofs.Queues.{LinksIn, Apart, apart, released, joined, lastOf, release-queue, released-queue, release-queue-none, idle-queue}
+use Rattle.model.proofs.Queues.{join-queue, joined-queue, apart-snoc, link-injective, last-in}
+use Rattle.model.proofs.Kernel.{Loaded, S, root, size, LeafAt, Rest, whose, Lined, Real}
 use Rattle.model.proofs.Writes.{upd-same, upd-other, node, apart-zones, part-small, sits-at, write-own, link}
-use Rattle.model.proofs.Puts.{putting, treeThen, here-then, other-then, lined-then, rest-then, moved}
+use Rattle.model.proofs.Puts.{putting, treeThen, here-then, lined-then, rest-then, moved}
 use Rattle.model.proofs.Grounds.{small-size, sound-at}
 use Rattle.model.proofs.Traces.{Trace, t-none, Moves, moves, skip-moves}
 use Rattle.model.proofs.Running.{Only, Nobody, fresh, Now, now-goes, now-alt, Inv, runs, idle}
-use Rattle.model.proofs.Moving.{other-w, same-leaf, rest-out, rest-in, lined-in, member-cons, member-snoc, member-head, member-last}
+use Rattle.model.proofs.Moving.{other-w, same-leaf, member-cons, member-snoc, member-head, member-last}
 use Rattle.model.proofs.Moving.{settled-silent, skips-silent, settled-leaf}
-use Rattle.model.proofs.Reals.{size-is, mirrored, real-state, real-cpu, real-queue, real-memory, links-in}
+use Rattle.model.proofs.Reals.{size-is, mirrored, real-state, real-queue, real-memory, links-in}
 
 module _ (L : Loaded) where
   -- a process has settled: the moves that it made, and the invariant. m bytes were left, of which n are now its own instead of k

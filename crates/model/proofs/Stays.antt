@@ -1,29 +1,26 @@
 -- What a process is led to, and what it waits for, stays under whatever happens to words and variables that are not its own.
-use Prim.Native.Nat.{ℕ, suc, _+_, _-_, _^_, _≤_, _<_}
+use Prim.Native.Nat.{ℕ, _+_, _-_, _^_, _≤_, _<_}
 use native.Mathlib.Omega.{arith}
 use mathlib.Core.Path.{_≡_, refl, sym, ap, ap₂, _∙_, subst}
 use mathlib.Core.Logic.{_≢_, _⊎_, inl, inr, ⊎-elim}
-use mathlib.Core.Bool.{Bool, true, false, not}
-use mathlib.Core.List.{List, [], _∷_, _++_, List·Memᴰ}
-use lib.ListN.{length}
+use mathlib.Core.Bool.{Bool, not}
+use mathlib.Core.List.{List, List·Memᴰ}
 use lib.Dec.{eqb}
-use Rattle.model.specs.Word.{less}
-use Rattle.model.specs.Syntax.{Site, Expr, constant, variable, NOT, binary, Whole, Stmt, Pairs, noPair, pair, Guards, noGuard}
-use Rattle.model.specs.Syntax.{inputGuard, skipGuard}
+use Rattle.model.specs.Syntax.{Site, Expr, constant, variable, NOT, binary, Whole, Pairs, noPair, pair, Guards}
 use Rattle.model.specs.Machine.{resumeWord, linkWord, stateWord}
-use Rattle.model.specs.Occam.{Store, eval, value, isTrue, Frame, Process, begin, firstTrue, deny, operate, State, Sender}
-use Rattle.model.proofs.Ways.{Regs, Mem, Way, way-stable}
+use Rattle.model.specs.Occam.{Store, eval, value, isTrue, Frame, Process, firstTrue, deny, operate, State, Sender}
+use Rattle.model.proofs.Ways.{Regs, Mem, way-stable}
 use Rattle.model.proofs.Values.{FineExpr}
-use Rattle.model.proofs.Points.{Setting, whole}
+use Rattle.model.proofs.Points.{Setting}
 use Rattle.model.proofs.Parts.{Part, FineWhole, FinePairs, FineGuards}
 use Rattle.model.proofs.Conts.{cont-low}
 use Rattle.model.proofs.Marks.{Own, Ready, r-input, r-skip, r-past-input, r-past-skip, Picks, p-input, p-skip, p-past-input, p-past-skip}
-use Rattle.model.proofs.Marks.{Guarded, g-here, g-past-input, g-past-skip, Noticed, n-none, n-input, n-skip, Rest, Clear, Marked}
-use Rattle.model.proofs.Marks.{Enabling, Enables, e-input, e-skip, Disabling, Disables, d-input, d-skip, AltPoint, pt-enable, pt-wait}
-use Rattle.model.proofs.Marks.{pt-disable, pt-choose, Point, pt-stop, pt-assign, pt-var, pt-chan, pt-taken, pt-none, pt-while, pt-in}
+use Rattle.model.proofs.Marks.{Guarded, g-here, g-past-input, g-past-skip, Noticed, n-none, n-input, n-skip, Marked}
+use Rattle.model.proofs.Marks.{Disabling}
+use Rattle.model.proofs.Marks.{Point, pt-stop, pt-assign, pt-var, pt-chan, pt-taken, pt-none, pt-while, pt-in}
 use Rattle.model.proofs.Marks.{pt-out, pt-par-place, pt-par-count, pt-end, pt-alt}
 use Rattle.model.proofs.Arrivals.{Goes, Comes, comes}
-use Rattle.model.proofs.Onwards.{AltGoes, rest-fine, guarded-fine}
+use Rattle.model.proofs.Onwards.{guarded-fine}
 use Rattle.model.proofs.Trees.{Info, Sits}
 use Rattle.model.proofs.Leaves.{Unmarked, MarkedOnly, Resumes, Waits, Held, h-queued, h-woken, h-input, h-output, h-stop, h-wait}
 

@@ -1,11 +1,11 @@
 -- Moves of an Occam run one after another, with their communications and events.
-use Prim.Native.Nat.{ℕ, suc, _≤_}
+use Prim.Native.Nat.{ℕ, _≤_}
 use native.Mathlib.Omega.{arith}
-use mathlib.Core.Path.{_≡_, refl, sym, ap, _∙_, subst}
-use mathlib.Core.List.{List, [], _∷_, _++_, append-assoc}
+use mathlib.Core.Path.{_≡_, refl, ap, subst}
+use mathlib.Core.List.{List, [], _∷_, _++_}
 use mathlib.Core.Option.{some}
 use Rattle.model.specs.Syntax.{SKIP, PAR, IF, noPair, noStmt, Stmt}
-use Rattle.model.specs.Occam.{Store, Frame, Process, before, resume, look, put, go, firstTrue, State, Communication, Step, begins}
+use Rattle.model.specs.Occam.{Frame, Process, before, resume, look, put, go, firstTrue, State, Communication, Step, begins}
 use Rattle.model.specs.Occam.{Event, Outside}
 use Rattle.model.specs.Demand.{step, outside, Segment, Valid, reaches, steps, eventsOf, communications}
 use Rattle.model.proofs.Paths.{look-put-same, put-put-same, put-found}

@@ -1,5 +1,5 @@
 -- Which part of the program each process runs: the whole one part, the branches of a PAR parts inside it that are apart.
-use Prim.Native.Nat.{ℕ, zero, suc, _+_, _-_, _*_, _≤_, _<_}
+use Prim.Native.Nat.{ℕ, zero, suc, _+_, _-_, _*_, _≤_}
 use native.Mathlib.Omega.{arith}
 use native.Mathlib.Nat.{add-mul}
 use mathlib.Core.Path.{_≡_, refl, sym, ap, subst, _∙_}
@@ -11,7 +11,7 @@ use Rattle.model.specs.Counts.{need, sumNeed}
 use Rattle.model.specs.Occam.{Frame, Process, inPar, Branches, noBranch, branch, over, branches}
 use Rattle.model.specs.Occam.{branchAt, setBranch, endBranch, look, put}
 use Rattle.model.proofs.Cases.{never}
-use Rattle.model.proofs.Paths.{Apart as Diverge, here, later, Leaf, l-before, l-input, l-output, l-stop, l-alt, l-finished, leaf-par, leaf-begin, leaf-ends, look-in, put-in}
+use Rattle.model.proofs.Paths.{Apart as Diverge, here, later, Leaf, l-before, l-input, l-output, l-stop, l-alt, l-finished, leaf-par, leaf-begin, leaf-ends, put-in}
 use Rattle.model.proofs.Paths.{under, look-under, stmtAt, Compared, equal, below, above, apart, compare}
 use Rattle.model.proofs.Most.{leaves, leavesIn}
 use Rattle.model.proofs.Points.{Setting, whole}
@@ -82,10 +82,6 @@ nil-append (j ∷ pre) i rest e = never (cc)
 -- some process is found at a path
 pub data Found (path : List ℕ) (p : Process) : Type 0 where
   found : (q : Process) → look path p ≡ some q → Found path p
-
--- and in a branch
-data FoundIn (i : ℕ) (path : List ℕ) (bs : Branches) : Type 0 where
-  found-in : (b q : Process) → branchAt i bs ≡ some b → look path b ≡ some q → FoundIn i path bs
 
 -- what is known of a process that is in no PAR of its own: the names in scope, a workspace below their words, and a bound on the bytes
 -- until its next step
@@ -338,26 +334,6 @@ module _ (S : Setting) where
     owner-in (f-over f) a g (suc i) path e h =
         elim (owner-in f a (g .3) i path e h) [ owner x u v y z ↦ owner x u v y z ]
 
-  -- a part is run only where a process is
-  mutual
-    unfolding labelAt labelIn branchAt look
-
-    pub part-found : {a : Part} {p : Process} (t : Tree a p) (path : List ℕ) {b : Part} → partAt t path ≡ some b → Found path p
-    part-found (t-leaf {q} l n m) [] e = found q refl
-    part-found (t-leaf l n m) (i ∷ path) e = never (cc)
-    part-found (t-par {k} {bs} c f) [] e = found (inPar bs k) refl
-    part-found (t-par {k} {bs} c f) (i ∷ path) e = elim (part-found-in f i path e) [
-      | found-in b q g h ↦ found q (look-in i path (inPar bs k) g ∙ h)
-    ]
-
-    part-found-in : {vars chans : List Site} {w d : ℕ} {ss : Stmts} {bs : Branches} (f : Forest vars chans w d ss bs) (i : ℕ) (path : List ℕ) {b : Part}
-        → partIn f i path ≡ some b → FoundIn i path bs
-    part-found-in f-none i path e = never (cc)
-    part-found-in (f-live {p} t f) zero path e = elim (part-found t path e) [ found q h ↦ found-in p q refl h ]
-    part-found-in (f-live t f) (suc i) path e = elim (part-found-in f i path e) [ found-in b q g h ↦ found-in b q g h ]
-    part-found-in (f-over f) zero path e = never (cc)
-    part-found-in (f-over f) (suc i) path e = elim (part-found-in f i path e) [ found-in b q g h ↦ found-in b q g h ]
-
   -- a tree whose process is q, made from t by a tree u at a path: what is under the path is as in u, what is beside or above it as in t
   pub record Rebuilt {a : Part} {p : Process} (t : Tree a p) (path : List ℕ) {b : Part} {r : Process} (u : Tree b r) (q : Process)
       : Type 0 where
@@ -479,11 +455,6 @@ module _ (S : Setting) where
           others = same-later i (labelIn (f-over {s = s} f)) (labelIn (f-over {s = s} (g .forest))) (λ other. refl) (g .others);
           bytes = g .bytes;
         }
-
-  -- what was put runs its part
-  pub rebuilt-here : {a : Part} {p : Process} {t : Tree a p} {path : List ℕ} {b : Part} {r : Process} {u : Tree b r} {q : Process}
-      (g : Rebuilt t path u q) → partAt (g .tree) path ≡ some b
-  rebuilt-here {path} {u} g = ap (partAt (g .tree)) (sym (append-nil path)) ∙ ap running (g .below []) ∙ part-nil u
 
   -- what is known of a branch that was just started
   abbrev pub newInfo : (vars chans : List Site) (w : ℕ) → Info

@@ -1,32 +1,29 @@
 -- Single words and variables change, and all else that words hold stays.
-use Prim.Native.Nat.{ℕ, suc, _+_, _-_, _^_, _≤_, _<_}
+use Prim.Native.Nat.{ℕ, _+_, _-_, _^_, _≤_, _<_}
 use native.Mathlib.Omega.{arith}
 use native.Mathlib.Decide.{ℕ-discrete}
 use mathlib.Core.Path.{_≡_, refl, sym, ap, _∙_, subst}
 use mathlib.Core.Logic.{_≢_, _⊎_, inl, inr, ⊎-elim}
-use mathlib.Core.Bool.{Bool, true, false, cond}
-use mathlib.Core.List.{List, [], _∷_, _++_, List·Memᴰ}
-use mathlib.Core.Option.{Option, none, some}
-use lib.Dec.{eqb}
+use mathlib.Core.List.{List, List·Memᴰ}
+use mathlib.Core.Option.{Option}
 use borrow.Author.Tests.{eq-eqb, ne-eqb}
 use Rattle.model.specs.Word.{notProcess}
-use Rattle.model.specs.Syntax.{Site, inputOf}
+use Rattle.model.specs.Syntax.{Site}
 use Rattle.model.specs.Usage.{same}
 use Rattle.model.specs.Machine.{linkWord}
-use Rattle.model.specs.Occam.{Store, store, Frame, Process, inPar, Branches, look, State, Sender, process, outside}
+use Rattle.model.specs.Occam.{Store, store, Process, State, Sender, process, outside}
 use Rattle.model.proofs.Cases.{never, by-bool}
 use Rattle.model.proofs.Sites.{same-refl, same-eq}
 use Rattle.model.proofs.Ways.{Mem}
-use Rattle.model.proofs.Points.{Setting}
-use Rattle.model.proofs.Paths.{Leaf, left, leaves-apart, same-path}
+use Rattle.model.proofs.Paths.{left, leaves-apart, same-path}
 use Rattle.model.proofs.Parts as Parts
 use Rattle.model.proofs.Parts.{Part}
 use Rattle.model.proofs.Marks.{Own}
 use Rattle.model.proofs.Trees.{some-same, Label, alone, parted, alone-info, alone-parted, Info, Sits, Tree, labelAt, parts-apart, label-sits}
-use Rattle.model.proofs.Zones.{Zone, zoneOf, Within, Distant, zones-distant, zone-under, Differ, names-differ}
-use Rattle.model.proofs.Leaves.{upd, member, Held}
+use Rattle.model.proofs.Zones.{zoneOf, Distant, zones-distant, zone-under, Differ, names-differ}
+use Rattle.model.proofs.Leaves.{upd}
 use Rattle.model.proofs.Stays.{Calm, held-stays}
-use Rattle.model.proofs.Kernel.{Loaded, S, root, LeafAt, NodeAt, Owned, owned, Rest, Whose, whose, Lined}
+use Rattle.model.proofs.Kernel.{Loaded, S, root, LeafAt, NodeAt, Owned, owned, Rest, whose, Lined}
 
 pub upd-same : (μ : Mem) (v z : ℕ) → upd μ v z v ≡ z
 upd-same μ v z = rw (eq-eqb v v refl)

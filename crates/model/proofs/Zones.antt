@@ -5,18 +5,17 @@ use native.Mathlib.Omega.{arith}
 use native.Mathlib.Decide.{ℕ-discrete}
 use mathlib.Core.Path.{_≡_, refl, sym, ap, subst, _∙_}
 use mathlib.Core.Logic.{_≢_, _⊎_, inl, inr, ⊎-elim}
-use mathlib.Core.List.{List, [], _∷_, _++_, List·Memᴰ}
-use mathlib.Core.Option.{Option, none, some}
-use Rattle.model.specs.Syntax.{Site, Stmt, Stmts, noStmt, stmt}
+use mathlib.Core.List.{List, [], _∷_, List·Memᴰ}
+use mathlib.Core.Option.{some}
+use Rattle.model.specs.Syntax.{Site, Stmts}
 use Rattle.model.specs.Counts.{need}
 use Rattle.model.specs.Occam.{Process, Branches}
 use Rattle.model.proofs.Cases.{never}
 use Rattle.model.proofs.Points.{Setting}
 use Rattle.model.proofs.Paths.{same-path}
-use Rattle.model.proofs.Parts.{Part, joins, partOf, Apart, Inside, FineBranches, Beside}
+use Rattle.model.proofs.Parts.{Part, Apart, Inside, FineBranches, Beside}
 use Rattle.model.proofs.Conts.{Scoped, scoped-up, Placed}
-use Rattle.model.proofs.Marks.{ParCode}
-use Rattle.model.proofs.Trees.{some-same, Label, alone, parted, Info, Sits, Tree, t-leaf, t-par, Forest, f-none, f-live, f-over, labelAt}
+use Rattle.model.proofs.Trees.{some-same, Label, alone, parted, Tree, t-leaf, t-par, Forest, f-none, f-live, f-over, labelAt}
 use Rattle.model.proofs.Trees.{labelIn}
 
 -- the words from lo up to hi, and the names in scope
