@@ -72,5 +72,6 @@ module _ (L : Loaded) {u : World} {st : State} {ν : Mem} {t : Tree (S L) (root 
       let unheld = unqueued L {Out = Only path} here refl lined in
       step-lets-go L one ran talk
       (lets-go L operand (real-state L (put path p (st .process)) (st .store) real)
-      (rest-in L {Out′ = Nobody} here (subst (λ f. Held (S L) b j (putting path p st) ν f p) (sym unheld) held) (λ other d e. absurd (d e)) rest)
+      (rest-in L {Out′ = Nobody} here (subst (λ f. Held (S L) b j (putting path p st) ν f p) (sym unheld) held)
+      (λ other d e. absurd (d e)) rest)
       (lined-in L (λ other o. absurd o) lined))

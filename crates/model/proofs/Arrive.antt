@@ -1,5 +1,5 @@
--- From where a part of a program is over, or begins, its code leads to the next significant instruction.
-use Prim.Native.Nat.{ℕ, zero, suc, _+_, _-_, _≤_, _<_}
+-- What stands where in a program's code: places rise with indices; the parts of a test, of a loop, of a pair and of an initialisation.
+use Prim.Native.Nat.{ℕ, zero, suc, _+_, _≤_, _<_}
 use native.Mathlib.Omega.{arith}
 use native.Mathlib.Numerals.{add-one}
 use native.Mathlib.Decide.{ℕ-discrete}

@@ -1,5 +1,5 @@
 -- Assignments, the tests of IF and WHILE, STOP.
-use Prim.Native.Nat.{ℕ, suc, _+_, _-_, _^_, _≤_, _<_}
+use Prim.Native.Nat.{ℕ, suc, _+_, _^_, _≤_, _<_}
 use native.Mathlib.Omega.{arith}
 use mathlib.Core.Path.{_≡_, refl, sym, _∙_, subst}
 use mathlib.Core.Logic.{_≢_}
@@ -49,8 +49,10 @@ before-silent s k c v f e = never (cc)
 
 module _ (L : Loaded) where
   -- STL: the assignment
-  module _ {s : World} {st : State} {μ : Mem} {t : Tree (S L) (root L) (st .process)} {path : List ℕ} {y : Site} {e : Whole} {k : List Frame}
-      {b : Part} {i : Info} {ws : List ℕ} {at hi h : ℕ} (A : Acting L s st μ t path (before (assign y e) k) b i (Only path) ws at hi) (o : ℕ)
+  module _ {s : World} {st : State} {μ : Mem} {t : Tree (S L) (root L) (st .process)} {path : List ℕ} {y : Site}
+      {e : Whole} {k : List Frame}
+      {b : Part} {i : Info} {ws : List ℕ} {at hi h : ℕ}
+      (A : Acting L s st μ t path (before (assign y e) k) b i (Only path) ws at hi) (o : ℕ)
       (named : low (cpuOf s .workspace + o) ≡ S L .word y) (f : Fine (S L .word) b (i .vars) (i .chans) (cpuOf s .workspace) (assign y e))
       (v : cpuOf s .a ≡ value (st .store) e) (small : value (st .store) e < 2 ^ 32)
       (c : Cont (S L) b h (i .vars) (i .chans) k (suc at) (cpuOf s .workspace)) (near : h ≤ whole (S L) + L .off at)
@@ -132,12 +134,14 @@ module _ (L : Loaded) where
     unfolding functionIn operandIn
     goes-on v ep es l live quiet c placed near =
         let r = pop (cpuOf s) in
-        steps-on (withCpu r s) _ (executes (exec-cj-goes-on _ s v)) refl (real-cpu L r refl refl refl (A .real)) (A .run) (A .operand) (A .placed)
+        steps-on (withCpu r s) _ (executes (exec-cj-goes-on _ s v)) refl (real-cpu L r refl refl refl (A .real))
+        (A .run) (A .operand) (A .placed)
         refl (A .inside) ep es l live quiet c placed near
 
     -- CJ with a false condition: a jump
     goes-to : {g h : ℕ} {p : Process} → g ≤ length (S L .xs) → cpuOf s .a ≡ 0 → go d k (st .store) .process ≡ p
-        → go d k (st .store) .store ≡ st .store → Leaf p → ((x : Site) → List·Memᴰ x (liveIn (framesOf p)) → List·Memᴰ x (i .vars)) → Silent p
+        → go d k (st .store) .store ≡ st .store → Leaf p
+        → ((x : Site) → List·Memᴰ x (liveIn (framesOf p)) → List·Memᴰ x (i .vars)) → Silent p
         → Comes (S L) b (st .store) (i .vars) (i .chans) h p g (cpuOf s .workspace)
         → Placed (S L) b (cpuOf s .workspace) (i .vars) (i .chans) → h ≤ whole (S L) + L .off g
         → Did L (Executes L (distance I.cj g at) s) s st (bytesLeft (S L) t)
@@ -236,7 +240,8 @@ module _ (L : Loaded) where
     pub did-stop : Did L (Executes L (operation I.stopp) s) s st (bytesLeft (S L) t)
     unfolding go functionIn operandIn
     did-stop =
-        let real = real-stored L v (cpuOf s .place) (omega (arith, v-high, high)) (link-own L (A .lined) (A .leaf) refl v v-low v-high) (A .real) in
+        let real = real-stored L v (cpuOf s .place) (omega (arith, v-high, high))
+        (link-own L (A .lined) (A .leaf) refl v v-low v-high) (A .real) in
         let j : Info = record { vars = i .vars; chans = i .chans; w = cpuOf s .workspace; left = whole (S L) } in
         let sits : Sits (S L) b j = record { placed = placed; few = omega arith } in
         leaves-as L real (A .leaf) (A .lined) (atStop k) l-stop j sits

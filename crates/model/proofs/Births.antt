@@ -53,7 +53,8 @@ later-few (l-next {ss = stmt x xs} h) = omega (arith, later-few h)
 pub branch-differ : (par : List ℕ) {m n : ℕ} → m ≢ n → par ++ m ∷ [] ≢ par ++ n ∷ []
 branch-differ par d = apart-differ (apart-under par (P.here d))
 
-module _ (L : Loaded) {s : World} {st : State} {μ : Mem} {t : Tree (S L) (root L) (st .process)} {path : List ℕ} {q : Process} {b : Part} {i : Info}
+module _ (L : Loaded) {s : World} {st : State} {μ : Mem} {t : Tree (S L) (root L) (st .process)} {path : List ℕ}
+    {q : Process} {b : Part} {i : Info}
     {ws : List ℕ} {at hi : ℕ} (B : Births) (A : Acting L s st μ t path q b i (Starting path B) ws at hi)
     (point : StartPoint (S L) (B .s) (B .ss) (B .d) (B .b) (B .first) (B .w) at (regsOf (cpuOf s)))
     (first-branch : path ≡ B .par ++ 0 ∷ []) (next-one : 1 ≤ B .next) (same-w : i .w ≡ B .w)
@@ -108,7 +109,9 @@ module _ (L : Loaded) {s : World} {st : State} {μ : Mem} {t : Tree (S L) (root 
   -- channels that are in scope for the child keep their words
   clean-child : (c : Part) (j : Info) → j .chans ≡ B .chans → Unmarked (S L) c j st μ → Unmarked (S L) c j st μ₁
   clean-child c j same h a m o =
-      h a m (subst (Own c) (upd-other μ v (L .off (B .b)) (S L .word a) (chan-above L placed v below-v a (subst (λ z. List·Memᴰ a z) same m))) o)
+      h a m
+      (subst (Own c) (upd-other μ v (L .off (B .b)) (S L .word a) (chan-above L placed v below-v a (subst (λ z. List·Memᴰ a z) same m)))
+      o)
 
   clean₁ : Unmarked (S L) b i st μ₁
   clean₁ = clean-below L i st st μ (sits-at L (A .leaf) .placed) v (L .off (B .b)) below-own clean
@@ -129,7 +132,8 @@ module _ (L : Loaded) {s : World} {st : State} {μ : Mem} {t : Tree (S L) (root 
   module _ {u : Tree (S L) (root L) (st .process)} (leaf : LeafAt L st u path q b (relaid (i .w) (i .left - 1) i))
       (rest : Rest L st μ₁ u (Starting path B) ws) (lines : Lined L st u (Starting path B) ws)
       (bytes : bytesLeft (S L) u + i .left ≡ bytesLeft (S L) t + (i .left - 1))
-      (others : (other : List ℕ) (r : Process) (c : Part) (j : Info) → path ≢ other → LeafAt L st t other r c j → LeafAt L st u other r c j) where
+      (others : (other : List ℕ) (r : Process) (c : Part) (j : Info) → path ≢ other → LeafAt L st t other r c j
+      → LeafAt L st u other r c j) where
     child-leaf : LeafAt L st u child (begin (B .s) []) part info
     child-leaf = others child (begin (B .s) []) part info apart (birth .leaf)
 
@@ -162,7 +166,9 @@ module _ (L : Loaded) {s : World} {st : State} {μ : Mem} {t : Tree (S L) (root 
       unfolding codeStarts
       last-started =
           let first-is : B .first ≡ suc at =
-          seg-length (subst (λ z. Seg (S L .xs) (suc at) (codeStarts (S L .word) (B .d + need (B .s)) (suc at) (B .b + size (B .s) + 2) z) (B .first)) e
+          seg-length
+          (subst
+          (λ z. Seg (S L .xs) (suc at) (codeStarts (S L .word) (B .d + need (B .s)) (suc at) (B .b + size (B .s) + 2) z) (B .first)) e
           (point .rest)) ∙ omega arith in
           let n = i .left - 1 in
           let calm = last-woken .calm {skip = 0} leaf refl in
@@ -245,7 +251,8 @@ module _ (L : Loaded) {s : World} {st : State} {μ : Mem} {t : Tree (S L) (root 
             inner = y .inner;
             room = y .room;
             unmarked = still-clean leaf₃ (inr (unborn k few refl))
-                (clean-child (partOf (B .vars) (B .chans) (B .w - d) (joins d) x) (newInfo (S L) (B .vars) (B .chans) (B .w - d)) refl (y .unmarked));
+                (clean-child (partOf (B .vars) (B .chans) (B .w - d) (joins d) x)
+                (newInfo (S L) (B .vars) (B .chans) (B .w - d)) refl (y .unmarked));
           }
 
       next-started : Did L (Executes L (operation I.startp) s) s st (bytesLeft (S L) t)
@@ -273,14 +280,16 @@ module _ (L : Loaded) {s : World} {st : State} {μ : Mem} {t : Tree (S L) (root 
 
   pub did-start : Did L (Executes L (operation I.startp) s) s st (bytesLeft (S L) t)
   did-start =
-      elim (relabel L (A .leaf) (inl refl) (i .w) (i .left - 1) (sits-at L (A .leaf) .placed) (omega (arith, sits-at L (A .leaf) .few)) rest₁ (A .lined)) [
+      elim (relabel L (A .leaf) (inl refl) (i .w) (i .left - 1) (sits-at L (A .leaf) .placed)
+      (omega (arith, sits-at L (A .leaf) .few)) rest₁ (A .lined)) [
         | relabelled u leaf rest lines bytes others ↦ by leaf rest lines bytes others (B .ss) refl
       ]
     where
       by : {u : Tree (S L) (root L) (st .process)} (leaf : LeafAt L st u path q b (relaid (i .w) (i .left - 1) i))
           (rest : Rest L st μ₁ u (Starting path B) ws) (lines : Lined L st u (Starting path B) ws)
           (bytes : bytesLeft (S L) u + i .left ≡ bytesLeft (S L) t + (i .left - 1))
-          (others : (other : List ℕ) (r : Process) (c : Part) (j : Info) → path ≢ other → LeafAt L st t other r c j → LeafAt L st u other r c j)
+          (others : (other : List ℕ) (r : Process) (c : Part) (j : Info) → path ≢ other → LeafAt L st t other r c j
+          → LeafAt L st u other r c j)
           (ss : Stmts) → B .ss ≡ ss → Did L (Executes L (operation I.startp) s) s st (bytesLeft (S L) t)
       by leaf rest lines bytes others noStmt e = last-started leaf rest lines bytes others e
       by leaf rest lines bytes others (stmt r rs) e = next-started leaf rest lines bytes others r rs e

@@ -31,7 +31,8 @@ use Rattle.model.proofs.Moving.{skips-silent}
 
 module _ (L : Loaded) where
   -- the process at a channel
-  pub data Holder (st : State) (μ : Mem) (t : Tree (S L) (root L) (st .process)) (Out : List ℕ → Type 0) (ws : List ℕ) (c : Site) : Type 0 where
+  pub data Holder (st : State) (μ : Mem) (t : Tree (S L) (root L) (st .process)) (Out : List ℕ → Type 0) (ws : List ℕ)
+      (c : Site) : Type 0 where
     holds-input : {path : List ℕ} {x : Site} {k : List Frame} {b : Part} {i : Info} {at hi : ℕ} → LeafAt L st t path (atInput c x k) b i
         → (Out path → ⊥) → member (i .w) ws ≡ false → Waits (S L) b i st μ c k at hi (S L .word x) → Target b (i .vars) x
         → List·Memᴰ c (b .inputs) → (Sender st c → ⊥) → Holder st μ t Out ws c
@@ -53,7 +54,8 @@ module _ (L : Loaded) where
     holds-out : {path : List ℕ} {q : Process} {b : Part} {i : Info} → LeafAt L st t path q b i → Out path → List·Memᴰ c (i .chans)
         → Own b (μ (S L .word c)) → Holder st μ t Out ws c
 
-  module _ {st : State} {μ : Mem} {t : Tree (S L) (root L) (st .process)} {Out : List ℕ → Type 0} {ws : List ℕ} (rest : Rest L st μ t Out ws)
+  module _ {st : State} {μ : Mem} {t : Tree (S L) (root L) (st .process)} {Out : List ℕ → Type 0} {ws : List ℕ}
+      (rest : Rest L st μ t Out ws)
     where
       -- by what a process waits for
       by-held : {path : List ℕ} {q : Process} {b : Part} {i : Info} {f : Bool} (c : Site) → LeafAt L st t path q b i → (Out path → ⊥)
@@ -62,12 +64,15 @@ module _ (L : Loaded) where
       by-held {b = b} {i} c k n e m o (h-woken a r s d) =
           let g = d .marks c m o in
           holds-woken k n e a r s d (g .0) (g .1) (guarded-fine (S L .word) b (i .vars) (i .chans) (i .w + 1) (g .1) (a .fine .1) .1)
-      by-held c k n e m o (h-input w x inp free) = subst (λ z. Holder st μ t Out ws z) (sym (w .only c m o)) (holds-input k n e w x inp free)
-      by-held c k n e m o (h-output w out l v z) = subst (λ z. Holder st μ t Out ws z) (sym (w .only c m o)) (holds-output k n e w out l v z)
+      by-held c k n e m o (h-input w x inp free) = subst (λ z. Holder st μ t Out ws z) (sym (w .only c m o))
+          (holds-input k n e w x inp free)
+      by-held c k n e m o (h-output w out l v z) = subst (λ z. Holder st μ t Out ws z) (sym (w .only c m o))
+          (holds-output k n e w out l v z)
       by-held c k n e m o (h-stop u) = absurd (u c m o)
       by-held {b = b} {i} c k n e m o (h-wait a r s v all free d) =
           let g = d c m o in
-          holds-wait k n e a r s v all free d (g .0) (g .1) (guarded-fine (S L .word) b (i .vars) (i .chans) (i .w + 1) (g .1) (a .fine .1) .1)
+          holds-wait k n e a r s v all free d (g .0) (g .1)
+          (guarded-fine (S L .word) b (i .vars) (i .chans) (i .w + 1) (g .1) (a .fine .1) .1)
 
       -- the process whose name a channel's word holds
       pub holder : ((other : List ℕ) → Out other ⊎ (Out other → ⊥)) → {c : Site} {n : ℕ} → Owned L st t c n → μ (S L .word c) ≡ n
@@ -86,7 +91,8 @@ module _ (L : Loaded) where
       sends-held l n (h-queued (comes sk settled sub way) r h u) = absurd (skips-silent sk settled refl)
       sends-held l n (h-output w out z v s) = sends l n (w .here) out (w .scope)
 
-      pub sender-at : (c : Site) → ((path : List ℕ) (v : ℕ) (k : List Frame) → look path (st .process) ≡ some (atOutput c v k) → Out path → ⊥)
+      pub sender-at : (c : Site)
+          → ((path : List ℕ) (v : ℕ) (k : List Frame) → look path (st .process) ≡ some (atOutput c v k) → Out path → ⊥)
           → Sender st c → Sends c ⊎ ((n : ℕ) × (v : ℕ) × (c ≡ inputOf n) × (st .offers n ≡ some v))
       sender-at c silent (process path {v} {k} e) =
           elim (label-alone (S L) t path e l-output) [
@@ -126,7 +132,10 @@ module _ (L : Loaded) where
     held-above a h =
         let eb = ap (λ (u : Setup). u .base) (real .setup-kept) in
         let ei = ap (λ (u : Setup). u .inputs) (real .setup-kept) in
-        rw (le-leb (s .machine .setup .base) a (omega arith), le-ltb (a - s .machine .setup .base) (s .machine .setup .inputs) (omega arith))
+        rw (
+          le-leb (s .machine .setup .base) a (omega arith),
+          le-ltb (a - s .machine .setup .base) (s .machine .setup .inputs) (omega arith),
+        )
 
     held-is : (n : ℕ) → n < L .prog .inputs → isHeld (base (L .prog) + n) (s .machine) ≡ getD (s .machine .held) n false
     held-is n h =
@@ -141,7 +150,8 @@ module _ (L : Loaded) where
 
     pub held-here : {t : Tree (S L) (root L) (st .process)} {path : List ℕ} {l : Label} → NodeAt L st t path l → (c : Site)
         → List·Memᴰ c (zoneOf l .chans) → HeldAt s st c
-    held-here n c m = ⊎-elim from-outside (λ h. not-held (held-below (S L .word c) h) (λ k e. never (inside-input h e))) (channel-at L n c m)
+    held-here n c m = ⊎-elim from-outside
+        (λ h. not-held (held-below (S L .word c) h) (λ k e. never (inside-input h e))) (channel-at L n c m)
       where
         from-offer : (k : ℕ) → k < L .prog .inputs → c ≡ inputOf k → S L .word c ≡ base (L .prog) + k → Offer L s st k → HeldAt s st c
         from-offer k h e w (no-offer f o) =

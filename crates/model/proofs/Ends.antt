@@ -24,7 +24,8 @@ use Rattle.model.proofs.Parts.{need-two, Part, joins}
 use Rattle.model.proofs.Conts.{cont-placed, cont-inside}
 use Rattle.model.proofs.Marks.{ParCode}
 use Rattle.model.proofs.Arrivals.{arrives}
-use Rattle.model.proofs.Trees.{distanceOf, branch-part, parted, Info, Sits, Tree, Forest, f-none, f-live, f-over, labelAt, partAt, bytesLeft}
+use Rattle.model.proofs.Trees.{distanceOf, branch-part, parted, Info, Sits, Tree, Forest, f-none, f-live, f-over, labelAt, partAt}
+use Rattle.model.proofs.Trees.{bytesLeft}
 use Rattle.model.proofs.Zones.{zone-under}
 use Rattle.model.proofs.Leaves.{upd, Unmarked}
 use Rattle.model.proofs.Effects.{cpuOf, stored}
@@ -40,7 +41,8 @@ use Rattle.model.proofs.Joins.{father, father-of, distance-in, par-node
 use Rattle.model.proofs.Joins.{last-clean, more-rest, more-lined, link-off}
 
 -- each branch needs words
-few-left : {S : Setting} {vars chans : List Site} {w d : ℕ} {ss : Stmts} {bs : Branches} → Forest S vars chans w d ss bs → left bs ≤ sumNeed ss
+few-left : {S : Setting} {vars chans : List Site} {w d : ℕ} {ss : Stmts} {bs : Branches}
+    → Forest S vars chans w d ss bs → left bs ≤ sumNeed ss
 unfolding left sumNeed
 few-left f-none = omega arith
 few-left (f-live {s} t f) = omega (arith, few-left f, need-two s)
@@ -76,7 +78,8 @@ module _ (L : Loaded) {s : World} {st : State} {μ : Mem} {t : Tree (S L) (root 
         let leaf = last-leaf L (A .leaf) ρ n c is par branch part label one (whole (S L)) sits in
         let rest = last-rest L (A .leaf) ρ n c is par branch part label one (whole (S L)) sits (A .rest) clean in
         let real : Real L u st₁ μ ws =
-        real-state L (put ρ (resume k) (st .process)) (st .store) (real-cpu L (goto (L .off (c .over)) (work w (cpuOf s))) refl refl refl (A .real)) in
+        real-state L (put ρ (resume k) (st .process)) (st .store)
+        (real-cpu L (goto (L .off (c .over)) (work w (cpuOf s))) refl refl refl (A .real)) in
         let same : whole (S L) ≤ whole (S L) = omega arith in
         let ran : Executes L (operation I.endp) s u =
         executes
@@ -88,7 +91,8 @@ module _ (L : Loaded) {s : World} {st : State} {μ : Mem} {t : Tree (S L) (root 
         rises-le (S L) m (c .over) (omega (arith, seg-length (c .starts), seg-length (c .branches))) over-in in
         step-settles L
         (subst (λ z. Step st [] (putting ρ z st)) (closed-last n bs k branch one) (ends ρ n par branch)) ran (silent L s u refl)
-        (settle L real leaf rest (last-lined L (A .leaf) ρ n c is par branch part label one (whole (S L)) sits (A .rest) clean (A .lined)) (whole (S L))
+        (settle L real leaf rest (last-lined L (A .leaf) ρ n c is par branch part label one (whole (S L)) sits (A .rest) clean (A .lined))
+        (whole (S L))
         (record { run = A .run; operand = A .operand; place = refl; work = refl; inside = over-in })
         (arrives (S L) a (st .store) (c .after) (omega (arith, c .near, ahead)) (sound-at L rest leaf))
         (last-clean L (A .leaf) ρ n c is par branch part label one (whole (S L)) sits (A .rest) clean) (omega (arith, c .near, ahead)) same)
@@ -103,7 +107,8 @@ module _ (L : Loaded) {s : World} {st : State} {μ : Mem} {t : Tree (S L) (root 
         let st₁ = putting ρ (inPar (endBranch n bs) k) st in
         let real : Real L u st₁ (upd μ (w + 1) z) ws =
         real-state L (put ρ (inPar (endBranch n bs) k) (st .process)) (st .store)
-        (real-stored L (w + 1) z in-memory (link-off L (A .leaf) ρ n c is par branch part label more (A .rest) clean (A .lined)) (A .real)) in
+        (real-stored L (w + 1) z in-memory
+        (link-off L (A .leaf) ρ n c is par branch part label more (A .rest) clean (A .lined)) (A .real)) in
         step-lets-go L (subst (λ z. Step st [] (putting ρ z st)) (closed-more n bs k branch more) (ends ρ n par branch))
         (λ x f g. executes
         (exec-endp-more w (w + 1) (left bs) s ea second (rw (size-is L (A .real)) in-memory)
@@ -121,10 +126,12 @@ module _ (L : Loaded) {s : World} {st : State} {μ : Mem} {t : Tree (S L) (root 
         let at-w : cpuOf s .a ≡ w = ea ∙ omega (arith, same-d, same-top, distance-in n _ x, c .room) in
         let top : w + 2 ≤ S L .top = zone-under (S L) t ρ label .below in
         let few : left bs ≤ w = omega (arith, few-left f, c .room) in
-        by (ℕ-discrete (left bs) 1) (last-end ρ n c is par branch part label at-w top few) (more-end ρ n c is par branch part label at-w top few)
+        by (ℕ-discrete (left bs) 1) (last-end ρ n c is par branch part label at-w top few)
+        (more-end ρ n c is par branch part label at-w top few)
   ]
     where
       by : {n : ℕ} → Dec (n ≡ 1) → (n ≡ 1 → Did L (Executes L (operation I.endp) s) s st (bytesLeft (S L) t))
-          → (n ≢ 1 → Did L (Executes L (operation I.endp) s) s st (bytesLeft (S L) t)) → Did L (Executes L (operation I.endp) s) s st (bytesLeft (S L) t)
+          → (n ≢ 1 → Did L (Executes L (operation I.endp) s) s st (bytesLeft (S L) t))
+          → Did L (Executes L (operation I.endp) s) s st (bytesLeft (S L) t)
       by (yes z) f g = f z
       by (no z) f g = g z

@@ -1,5 +1,4 @@
--- Paths with a bound on their bytes, and the path through an expression's code: it leaves the value in A and keeps
--- 3 - registers of what was below.
+-- Stretches of code: the instructions that stand from one index up to another, and how a stretch is cut in two.
 use Prim.Native.Nat.{ℕ, suc, _+_, _^_, _<_}
 use native.Mathlib.Omega.{arith}
 use mathlib.Core.Path.{_≡_, _∙_, subst}

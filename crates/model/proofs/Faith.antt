@@ -84,7 +84,8 @@ realised-rise code xs off r i h = by (decLt (off i) (off (suc i)))
         let (x, e) = found xs i h in
         never (cc (r .each i x e, ap (decode 0) (slice-none (off i) (off (suc i)) code (omega arith))))
 
-realised-rises : (code : List ℕ) (xs : List Instruction) (off : ℕ → ℕ) → Realises code xs off → (i k : ℕ) → i < k → k ≤ length xs → off i < off k
+realised-rises : (code : List ℕ) (xs : List Instruction) (off : ℕ → ℕ) → Realises code xs off → (i k : ℕ) → i < k
+    → k ≤ length xs → off i < off k
 realised-rises code xs off r i zero h l = absurd (omega arith)
 realised-rises code xs off r i (suc k) h l = by (decLt i k) (λ g. realised-rises code xs off r i k g (omega arith))
   where
@@ -119,7 +120,8 @@ loaded-faithful L memory room = by (settled L memory room)
         }
 
 -- demand 3 for every code that realises the scheme of an accepted table
-pub realised-faithful : (table : List ℕ) (p : Program) → accept table ≡ program p → memoryWords p ≤ 4096 → (code : List ℕ) → length code ≤ 16384
+pub realised-faithful : (table : List ℕ) (p : Program) → accept table ≡ program p → memoryWords p ≤ 4096
+    → (code : List ℕ) → length code ≤ 16384
     → (off : ℕ → ℕ) → Realises code (scheme p) off → (slice : ℕ) (memory : List ℕ) (s : After StartAnswer)
     → start code memory (base p) (p .inputs) (p .outputs) slice ≡ s → s .answer ≡ Started → Faithful p code (s .machine) (s .memory)
 realised-faithful table p accepted small code short off realises slice memory s e a =
@@ -151,4 +153,5 @@ demand-3 table room slice memory p code s e b a =
     let (accepted, same, small, short, fits) = compile-accepts table room p code e in
     let well = read-well table p (accept-reads table p accepted) .0 in
     realised-faithful table p accepted small code short (placeOf (scheme p))
-    (subst (λ z. Realises z (scheme p) (placeOf (scheme p))) (sym same) (code-realises p well (omega arith) (rw same at short))) slice memory s b a
+    (subst (λ z. Realises z (scheme p) (placeOf (scheme p))) (sym same) (code-realises p well (omega arith) (rw same at short))) slice
+    memory s b a

@@ -43,7 +43,8 @@ module _ (L : Loaded) where
   pub step-settles : {did : World → Type 0} {s u : World} {st st₁ : State} {cs : List Communication} {m k n n₀ : ℕ} → Step st cs st₁
       → did u → u .talk ≡ s .talk ++ map (talkOf (L .prog)) cs → Settles L u st₁ m k n → Did L did s st n₀
   step-settles {did} {s} {u} {st} {st₁} {cs} one ran talk h =
-      then-settles {g = step cs st₁ ∷ []} (subst (λ z. Trace st (step cs st₁ ∷ []) st₁ z []) (append-nil cs) (t-step one t-none)) (omega arith)
+      then-settles {g = step cs st₁ ∷ []}
+      (subst (λ z. Trace st (step cs st₁ ∷ []) st₁ z []) (append-nil cs) (t-step one t-none)) (omega arith)
       ran talk h
 
   -- moves were made, and the processor is let go; without a step fewer bytes are left
@@ -51,10 +52,12 @@ module _ (L : Loaded) where
       → Trace st g st₁ cs [] → (m < n) ⊎ (0 < steps g) → ((v : World) → release u ≡ done tt v → v .machine .setup ≡ setup L → did v)
       → u .talk ≡ s .talk ++ map (talkOf (L .prog)) cs → LetGo L u st₁ m → Did L did s st n
   then-lets-go {g = g} ms fewer ran talk (let-go v h e f ns inv) =
-      came v (g ++ h) (ran v e (inv-setup inv)) (trace-then ms ns) (f ∙ talk) inv (⊎-elim (λ l. inl l) (λ l. inr (omega (arith, steps-then g h))) fewer)
+      came v (g ++ h) (ran v e (inv-setup inv)) (trace-then ms ns) (f ∙ talk) inv
+      (⊎-elim (λ l. inl l) (λ l. inr (omega (arith, steps-then g h))) fewer)
 
   pub step-lets-go : {did : World → Type 0} {s u : World} {st st₁ : State} {cs : List Communication} {m n : ℕ} → Step st cs st₁
-      → ((v : World) → release u ≡ done tt v → v .machine .setup ≡ setup L → did v) → u .talk ≡ s .talk ++ map (talkOf (L .prog)) cs → LetGo L u st₁ m → Did L did s st n
+      → ((v : World) → release u ≡ done tt v → v .machine .setup ≡ setup L → did v) → u .talk ≡ s .talk ++ map (talkOf (L .prog)) cs
+      → LetGo L u st₁ m → Did L did s st n
   step-lets-go {st = st} {st₁} {cs} one ran talk h =
       then-lets-go {g = step cs st₁ ∷ []} (subst (λ z. Trace st (step cs st₁ ∷ []) st₁ z []) (append-nil cs) (t-step one t-none))
       (inr (omega arith)) ran talk h

@@ -1,5 +1,5 @@
 -- Where the words of a program stand: all in the machine's memory; the outside channels behind the workspace.
-use Prim.Native.Nat.{ℕ, zero, suc, _+_, _-_, _≤_, _<_}
+use Prim.Native.Nat.{ℕ, zero, suc, _+_, _≤_, _<_}
 use native.Mathlib.Omega.{arith}
 use mathlib.Core.Path.{_≡_, refl, subst}
 use mathlib.Core.Logic.{_⊎_, inl, inr, ⊎-elim}
@@ -17,7 +17,8 @@ use Rattle.model.proofs.Points.{Setting, whole}
 use Rattle.model.proofs.Parts.{Part, joins}
 use Rattle.model.proofs.FineParts.{outsideNames}
 use Rattle.model.proofs.Arrivals.{Sound}
-use Rattle.model.proofs.Trees.{some-same, Label, alone, alone-part, alone-parted, Info, Tree, t-leaf, t-par, Forest, f-none, f-live, f-over}
+use Rattle.model.proofs.Trees.{some-same, Label, alone, alone-part, alone-parted, Info, Tree, t-leaf, t-par, Forest, f-none, f-live}
+use Rattle.model.proofs.Trees.{f-over}
 use Rattle.model.proofs.Trees.{labelAt, labelIn}
 use Rattle.model.proofs.Zones.{zoneOf, zone-under}
 use Rattle.model.proofs.Kernel.{Loaded, S, root, size, LeafAt, NodeAt, Rest}
@@ -83,7 +84,8 @@ module _ (L : Loaded) where
   -- a channel in scope is an outside one, or stands in the workspace
   pub channel-at : {st : State} {t : Tree (S L) (root L) (st .process)} {path : List ℕ} {l : Label} → NodeAt L st t path l → (c : Site)
       → List·Memᴰ c (zoneOf l .chans) → OutsideAt c ⊎ (S L .word c < base (L .prog))
-  channel-at {t = t} {path} n c m = ⊎-elim (λ k. inl (outside-at c k)) (λ k. inr (k .1)) (zone-under (S L) t path (n .label) .chans-from c m)
+  channel-at {t = t} {path} n c m = ⊎-elim (λ k. inl (outside-at c k)) (λ k. inr (k .1))
+      (zone-under (S L) t path (n .label) .chans-from c m)
 
   -- names are in the machine's memory
   pub var-in : {st : State} {t : Tree (S L) (root L) (st .process)} {path : List ℕ} {l : Label} → NodeAt L st t path l → (x : Site)

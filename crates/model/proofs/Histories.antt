@@ -61,7 +61,8 @@ module _ (code : List ℕ) where
   bytes-go b rest s t e w d = rw (e, w, d)
 
   -- what was communicated before changes nothing of where a run comes
-  run-afresh : (b n : ℕ) (t : World) → (runFrom b code n t .world .machine ≡ runFrom b code n (worldOf (t .machine) (t .memory)) .world .machine)
+  run-afresh : (b n : ℕ) (t : World)
+      → (runFrom b code n t .world .machine ≡ runFrom b code n (worldOf (t .machine) (t .memory)) .world .machine)
       × (runFrom b code n t .world .memory ≡ runFrom b code n (worldOf (t .machine) (t .memory)) .world .memory)
   run-afresh b n t =
       let w = worldOf (t .machine) (t .memory) in
@@ -78,7 +79,8 @@ module _ (L : Loaded) where
   bound = limit * whole (S L)
 
   -- moves are a segment for a moment with their communications and events
-  pub follows : {s : World} {st st′ : State} {g : Segment} {cs : List Communication} {es : List Event} {n : ℕ} (rest : List ℕ) (now : Moment)
+  pub follows : {s : World} {st st′ : State} {g : Segment} {cs : List Communication} {es : List Event} {n : ℕ}
+      (rest : List ℕ) (now : Moment)
       → now .machine ≡ s .machine → now .memory ≡ s .memory ++ rest → now .talk ≡ map (talkOf (L .prog)) cs → now .events ≡ es
       → Trace st g st′ cs es → Inv L s st′ n → Follows (L .prog) now st g
   follows rest now em er et ee ms inv =
@@ -106,9 +108,11 @@ module _ (L : Loaded) where
         let stays = run-stays lent b n₀ s e in
         ran s c (ap (λ (w : World). w .machine) stays) (ap (λ (w : World). w .memory) stays) inv few
 
-    run-on : (b n₀ : ℕ) (s : World) {st : State} {n : ℕ} → s .talk ≡ [] → ended (s .machine) ≡ false → waits (s .machine) ≡ false → Inv L s st n
+    run-on : (b n₀ : ℕ) (s : World) {st : State} {n : ℕ} → s .talk ≡ [] → ended (s .machine) ≡ false
+        → waits (s .machine) ≡ false → Inv L s st n
         → most (st .process) ≤ limit
-        → ((t : World) (st′ : State) (k : ℕ) → t .talk ≡ [] → Inv L t st′ k → most (st′ .process) ≤ limit → Ran b (suc n₀) lent t st′ k rest)
+        → ((t : World) (st′ : State) (k : ℕ) → t .talk ≡ [] → Inv L t st′ k → most (st′ .process) ≤ limit
+        → Ran b (suc n₀) lent t st′ k rest)
         → Did L (Byte L s) s st n → Ran (suc b) n₀ lent s st n rest
     run-on b n₀ s {st} {n} z e w inv few rec (came t {st′} {m} {cs} g d ms talk inv′ fewer) =
         let d′ : byte lent s ≡ done tt t = byte-lent (L .code) more s (code-is L s (inv-setup L inv)) ∙ d in
@@ -122,10 +126,12 @@ module _ (L : Loaded) where
               let all : Chain (L .prog) bound (bytes (suc b) lent rest s) st (g ∷ gs) st₂ n k =
               rw (bytes-go lent b rest s t e w d′) (chain-byte f (trace-reach ms) refl (inv-few L inv′ few′) fewer c) in
               let goes = run-goes lent b n₀ s t e w d′ in
-              ran u all (ap (λ (r : Finish). r .world .machine) goes ∙ am ∙ em) (ap (λ (r : Finish). r .world .memory) goes ∙ ar ∙ er) inv″ few″
+              ran u all (ap (λ (r : Finish). r .world .machine) goes ∙ am ∙ em)
+              (ap (λ (r : Finish). r .world .memory) goes ∙ ar ∙ er) inv″ few″
         ]
 
-    pub run-bytes : (b n₀ : ℕ) (s : World) (st : State) (n : ℕ) → s .talk ≡ [] → Inv L s st n → most (st .process) ≤ limit → Ran b n₀ lent s st n rest
+    pub run-bytes : (b n₀ : ℕ) (s : World) (st : State) (n : ℕ) → s .talk ≡ [] → Inv L s st n → most (st .process) ≤ limit
+        → Ran b n₀ lent s st n rest
     unfolding bytes
     run-bytes zero n₀ s st n z inv few =
         let c : Chain (L .prog) bound (bytes zero lent rest s) st [] st n n = chain-nil in

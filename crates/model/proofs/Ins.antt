@@ -3,7 +3,7 @@ use Prim.Native.Nat.{ℕ, suc, _+_, _-_, _^_, _≤_, _<_}
 use native.Mathlib.Omega.{arith}
 use native.Mathlib.Decide.{ℕ-discrete}
 use mathlib.Core.Path.{_≡_, refl, sym, ap, _∙_, subst}
-use mathlib.Core.Logic.{_≢_, _⊎_, inl, inr, ⊎-elim}
+use mathlib.Core.Logic.{_≢_, inl, inr, ⊎-elim}
 use mathlib.Core.Bool.{true, false}
 use mathlib.Core.List.{List, [], _∷_, _++_, map, List·Memᴰ}
 use mathlib.Core.Option.{Option, none, some}
@@ -42,13 +42,15 @@ use Rattle.model.proofs.Puts.{putting, treeThen, here-then, other-then,
 use Rattle.model.proofs.Grounds.{var-in, chan-in, small-size, sound-at}
 use Rattle.model.proofs.Traces.{Trace, t-none, t-step}
 use Rattle.model.proofs.Running.{Only, Did, Executes, executes, Acting}
-use Rattle.model.proofs.Reals.{size-is, mirrored, real-state, real-stored, real-talk, real-dropped, withoutOffer, link-var, link-chan}
+use Rattle.model.proofs.Reals.{size-is, mirrored, real-state, real-stored, real-talk, real-dropped, withoutOffer, link-var}
+use Rattle.model.proofs.Reals.{link-chan}
 use Rattle.model.proofs.Sched.{settle, linkedTo, Woken}
 use Rattle.model.proofs.Queues.{joined}
 use Rattle.model.proofs.Finish.{then-settles, silent}
 use Rattle.model.proofs.Advance.{Silent, goes-as, leaves-as}
 use Rattle.model.proofs.Basics.{before-silent}
-use Rattle.model.proofs.Channels.{Holder, holds-input, holds-output, holds-wait, holds-woken, holds-out, holder, Sends, sends, sender-at}
+use Rattle.model.proofs.Channels.{Holder, holds-input, holds-output, holds-wait, holds-woken, holds-out, holder, Sends, sends}
+use Rattle.model.proofs.Channels.{sender-at}
 use Rattle.model.proofs.Channels.{held-at, not-held, held-here}
 use Rattle.model.proofs.Meets.{Both, not-own, clear-chan, mark-chan, chan-above, rest-below, real-below, partner-goes}
 use Rattle.model.proofs.Moving.{same-leaf, rest-out, lined-out}
@@ -56,7 +58,8 @@ use Rattle.model.proofs.Moving.{same-leaf, rest-out, lined-out}
 pub output-channel : {c d : Site} {v w : ℕ} {k l : List Frame} → atOutput c v k ≡ atOutput d w l → c ≡ d
 output-channel e = cc
 
-module _ (L : Loaded) {s : World} {st : State} {μ : Mem} {t : Tree (S L) (root L) (st .process)} {path : List ℕ} {c x : Site} {k : List Frame}
+module _ (L : Loaded) {s : World} {st : State} {μ : Mem} {t : Tree (S L) (root L) (st .process)} {path : List ℕ}
+    {c x : Site} {k : List Frame}
     {b : Part} {i : Info} {ws : List ℕ} {at hi h : ℕ} (A : Acting L s st μ t path (before (input c x) k) b i (Only path) ws at hi)
     (ea : cpuOf s .a ≡ 4) (eb : cpuOf s .b ≡ S L .word c) (ec : cpuOf s .c ≡ S L .word x)
     (f : Fine (S L .word) b (i .vars) (i .chans) (cpuOf s .workspace) (input c x))
@@ -144,7 +147,8 @@ module _ (L : Loaded) {s : World} {st : State} {μ : Mem} {t : Tree (S L) (root 
         clean d m (subst (Own b) (upd-other μ (S L .word x) v (S L .word d) (λ e. placed .scoped .apart x d (f .1 .0) m (sym e))) q)
 
     -- it comes, and takes the offer
-    took : Trace st (step [] st₁ ∷ step (over-channel c v) (putting path (resume k) st₀) ∷ []) (putting path (resume k) st₀) (over-channel c v) []
+    took : Trace st (step [] st₁ ∷ step (over-channel c v) (putting path (resume k) st₀) ∷ [])
+        (putting path (resume k) st₀) (over-channel c v) []
     took =
         t-step coming
         (t-step
@@ -258,7 +262,8 @@ module _ (L : Loaded) {s : World} {st : State} {μ : Mem} {t : Tree (S L) (root 
           onward = cont;
           near = near-on;
           resumes = record {
-            place = upd-other ν₂ (stateWord w) (S L .word x) (resumeWord w) r-not-s ∙ upd-same ν₁ (resumeWord w) (cpuOf s .place) ∙ A .placed;
+            place = upd-other ν₂ (stateWord w) (S L .word x) (resumeWord w) r-not-s ∙ upd-same ν₁ (resumeWord w)
+                (cpuOf s .place) ∙ A .placed;
             soon = near-on;
           };
           space = f .0;
@@ -320,7 +325,8 @@ module _ (L : Loaded) {s : World} {st : State} {μ : Mem} {t : Tree (S L) (root 
       where
         by : Dec (S L .word a ≡ S L .word c) → (S L .word a ≢ S L .word c) × Own e (μ (S L .word a))
         by (yes z) = absurd (not-own e tall (subst (Own e) (ap η z ∙ upd-same η₁ (S L .word c) notProcess) o))
-        by (no z) = (z, subst (Own e) (upd-other η₁ (S L .word c) notProcess (S L .word a) z ∙ upd-other μ (S L .word x) v (S L .word a) n) o)
+        by (no z) =
+            (z, subst (Own e) (upd-other η₁ (S L .word c) notProcess (S L .word a) z ∙ upd-other μ (S L .word x) v (S L .word a) n) o)
 
     sender-clean : Unmarked (S L) d j st₂ η
     sender-clean a q o =
@@ -337,7 +343,8 @@ module _ (L : Loaded) {s : World} {st : State} {μ : Mem} {t : Tree (S L) (root 
         upd-other η₁ (S L .word c) notProcess (resumeWord (j .w)) (λ e. far .chans-out c (f .2) (omega (arith, e), omega (arith, e)))
         ∙ upd-other μ (S L .word x) v (resumeWord (j .w)) (λ e. far .vars-out x (f .1 .0) (omega (arith, e), omega (arith, e)))
 
-    woken : Woken L s₂ (putting other (resume l) st₂) η (treeThen L sender₂ (resume l) (leaf-resume l) j (sits-at L sender₂)) (Only path) (j .w) ws
+    woken : Woken L s₂ (putting other (resume l) st₂) η
+        (treeThen L sender₂ (resume l) (leaf-resume l) j (sits-at L sender₂)) (Only path) (j .w) ws
     woken =
         partner-goes L real₂ rest₂ lines₂ sender₂ apart (A .run) waits sender-same refl sender-clean
         (λ a y q e here p z n k o i. apart-parts L (after-leaf L (A .leaf)) k (λ w. o (inl w)) .inputs c (f .3)
@@ -363,7 +370,8 @@ module _ (L : Loaded) {s : World} {st : State} {μ : Mem} {t : Tree (S L) (root 
     apart-paths =
         leaves-apart other path (st .process) (sender .found) l-output (A .leaf .found) (A .leaf .leaf) (λ e. apart (sym e))
 
-    meets : Trace st (step [] st₁ ∷ step (over-channel c v) (putting path (resume k) st₃) ∷ []) (putting path (resume k) st₃) (over-channel c v) []
+    meets : Trace st (step [] st₁ ∷ step (over-channel c v) (putting path (resume k) st₃) ∷ [])
+        (putting path (resume k) st₃) (over-channel c v) []
     meets =
         t-step coming
         (t-step
@@ -401,7 +409,8 @@ module _ (L : Loaded) {s : World} {st : State} {μ : Mem} {t : Tree (S L) (root 
         let live = live-resume k (i .vars) (A .rest .live (A .leaf)) in
         let quiet : Silent (resume k) = λ c v f e. silent-resume k e in
         let real₃ = real-talk L (u₃ .talk) (woken .real) in
-        let now = goes-as L real₃ leaf₃ (woken .rest) (woken .lines) clean₃ (before-silent (input c x) k) (resume k) (leaf-resume k) i′ placed few
+        let now = goes-as L real₃ leaf₃ (woken .rest) (woken .lines) clean₃ (before-silent (input c x) k) (resume k)
+        (leaf-resume k) i′ placed few
         (woken .rest .vars (node L leaf₃)) (woken .rest .chans (node L leaf₃)) live quiet in
         then-settles L meets (omega arith) executed₃ refl
         (settle L (real-state L (put path (resume k) (st₃ .process)) (st₃ .store) real₃)

@@ -1,5 +1,5 @@
 -- Processes are left out and taken in again, get the processor and lose it, and join the queue.
-use Prim.Native.Nat.{ℕ, _+_, _-_, _≤_}
+use Prim.Native.Nat.{ℕ, _+_, _≤_}
 use native.Mathlib.Omega.{arith}
 use mathlib.Core.Path.{_≡_, refl, sym, ap, _∙_, subst}
 use mathlib.Core.Logic.{_≢_, _⊎_, inl, inr, ⊎-elim}
@@ -150,15 +150,23 @@ module _ (L : Loaded) where
         record {
           each = λ w m. elim (h .each w m) [
             | whose {path = other} {i = j} k g n ↦ whose k g (λ o.
-                ⊎-elim (λ p. never (cc (e, in-member (i .w) ws (subst (λ v. List·Memᴰ v ws) (sym (same-leaf (λ q b (z : Info). z .w ≡ w) (sym p) k at g)) m)))) n (f other o))
+                ⊎-elim
+                (λ p.
+                never (cc (
+                  e,
+                  in-member (i .w) ws
+                      (subst (λ v. List·Memᴰ v ws) (sym (same-leaf (λ q b (z : Info). z .w ≡ w) (sym p) k at g)) m),
+                ))) n (f other o))
           ];
           once = h .once;
         }
 
   -- what is known of a process's workspace and bytes
-  pub data Relabelled (st : State) (μ : Mem) (t : Tree (S L) (root L) (st .process)) (path : List ℕ) (q : Process) (b : Part) (i : Info) (w n : ℕ)
+  pub data Relabelled (st : State) (μ : Mem) (t : Tree (S L) (root L) (st .process)) (path : List ℕ) (q : Process)
+      (b : Part) (i : Info) (w n : ℕ)
       (Out : List ℕ → Type 0) (ws : List ℕ) : Type 0 where
-    relabelled : (u : Tree (S L) (root L) (st .process)) → LeafAt L st u path q b (relaid w n i) → Rest L st μ u Out ws → Lined L st u Out ws
+    relabelled : (u : Tree (S L) (root L) (st .process)) → LeafAt L st u path q b (relaid w n i)
+        → Rest L st μ u Out ws → Lined L st u Out ws
         → bytesLeft (S L) u + i .left ≡ bytesLeft (S L) t + n
         → ((other : List ℕ) (r : Process) (c : Part) (j : Info) → path ≢ other → LeafAt L st t other r c j → LeafAt L st u other r c j)
         → Relabelled st μ t path q b i w n Out ws
@@ -174,10 +182,12 @@ module _ (L : Loaded) where
     node-back : {other : List ℕ} {l : Label} → path ≢ other → NodeAt L st (k .tree) other l → NodeAt L st t other l
     node-back {other} d m = record { label = sym (k .same other d) ∙ m .label }
 
-    leaf-back : {other : List ℕ} {r : Process} {c : Part} {j : Info} → path ≢ other → LeafAt L st (k .tree) other r c j → LeafAt L st t other r c j
+    leaf-back : {other : List ℕ} {r : Process} {c : Part} {j : Info} → path ≢ other → LeafAt L st (k .tree) other r c j
+        → LeafAt L st t other r c j
     leaf-back {other} d m = record { found = m .found; leaf = m .leaf; label = sym (k .same other d) ∙ m .label }
 
-    leaf-on : {other : List ℕ} {r : Process} {c : Part} {j : Info} → path ≢ other → LeafAt L st t other r c j → LeafAt L st (k .tree) other r c j
+    leaf-on : {other : List ℕ} {r : Process} {c : Part} {j : Info} → path ≢ other → LeafAt L st t other r c j
+        → LeafAt L st (k .tree) other r c j
     leaf-on {other} d m = record { found = m .found; leaf = m .leaf; label = k .same other d ∙ m .label }
 
     owned-on : {c : Site} {v : ℕ} → Owned L st t c v → Owned L st (k .tree) c v
@@ -231,7 +241,8 @@ module _ (L : Loaded) where
       (record { placed = placed; few = few }))) out h lines
 
   -- one that is left out is not queued
-  pub unqueued : {st : State} {t : Tree (S L) (root L) (st .process)} {Out : List ℕ → Type 0} {ws : List ℕ} {path : List ℕ} {q : Process} {b : Part}
+  pub unqueued : {st : State} {t : Tree (S L) (root L) (st .process)} {Out : List ℕ → Type 0} {ws : List ℕ}
+      {path : List ℕ} {q : Process} {b : Part}
       {i : Info} → LeafAt L st t path q b i → Out path → Lined L st t Out ws → member (i .w) ws ≡ false
   unqueued {Out = Out} {ws} {i = i} at out lines =
       by-bool (member (i .w) ws)

@@ -42,7 +42,8 @@ use Rattle.model.proofs.Reals.{size-is, real-state, real-cpu}
 use Rattle.model.proofs.Sched.{settle}
 use Rattle.model.proofs.Finish.{goes-on, step-settles, silent}
 use Rattle.model.proofs.Meets.{rest-below, real-below, clean-below}
-use Rattle.model.proofs.Forks.{Branch, branch-of, forkTree, forkState, fork-branch, fork-rest, fork-lined, which, a-branch, aside-one}
+use Rattle.model.proofs.Forks.{Branch, branch-of, forkTree, forkState, fork-branch, fork-rest, fork-lined, which, a-branch}
+use Rattle.model.proofs.Forks.{aside-one}
 
 -- what is known of the k-th of some branches
 later-at : {ss : Stmts} {d b k : ℕ} {r : Stmt} {e f : ℕ} → Later ss d b k r e f → (stmtAt k ss ≡ some r) × (e ≡ d + distanceOf k ss)
@@ -70,7 +71,8 @@ module _ (S : Setting) (a : Part) {vars chans : List Site} (w : ℕ) where
   later-comes g l-here = g .0
   later-comes g (l-next h) = later-comes (g .1) h
 
-module _ (L : Loaded) {s : World} {st : State} {μ : Mem} {t : Tree (S L) (root L) (st .process)} {path : List ℕ} {p : ℕ} {d : Stmt} {ds : Stmts}
+module _ (L : Loaded) {s : World} {st : State} {μ : Mem} {t : Tree (S L) (root L) (st .process)} {path : List ℕ}
+    {p : ℕ} {d : Stmt} {ds : Stmts}
     {k : List Frame} {b : Part} {i : Info} {ws : List ℕ} {at hi : ℕ}
     (A : Acting L s st μ t path (before (PAR p (stmt d ds)) k) b i (Only path) ws at hi) (clean : Unmarked (S L) b i st μ) where
   abbrev w : ℕ
@@ -88,7 +90,9 @@ module _ (L : Loaded) {s : World} {st : State} {μ : Mem} {t : Tree (S L) (root 
       let low-w : b .bottom ≤ w = omega (arith, c .room) in
       let below : w < w + 2 = omega arith in
       let ran : Executes L (plain I.stl 0) s (withCpu r (stored w z s)) =
-      executes (exec-stl 0 w s (omega (arith, high)) (rw (size-is L (A .real)) (omega (arith, c .placed .low, part-small L (A .leaf)))) ∙ rw v) in
+      executes
+      (exec-stl 0 w s (omega (arith, high))
+      (rw (size-is L (A .real)) (omega (arith, c .placed .low, part-small L (A .leaf)))) ∙ rw v) in
       let bound : L .off (suc (suc (suc at))) ≤ hi =
       omega (
         arith,
@@ -123,7 +127,9 @@ module _ (L : Loaded) {s : World} {st : State} {μ : Mem} {t : Tree (S L) (root 
     counted : Executes L (plain I.stl 1) s u
     unfolding functionIn operandIn
     counted =
-        executes (exec-stl 1 (w + 1) s (omega (arith, high)) (rw (size-is L (A .real)) (omega (arith, c .placed .low, part-small L (A .leaf)))) ∙ rw val)
+        executes
+        (exec-stl 1 (w + 1) s (omega (arith, high))
+        (rw (size-is L (A .real)) (omega (arith, c .placed .low, part-small L (A .leaf)))) ∙ rw val)
 
     real₀ : Real L u (forkState L (A .leaf) c) ν ws
     real₀ =
@@ -181,9 +187,11 @@ module _ (L : Loaded) {s : World} {st : State} {μ : Mem} {t : Tree (S L) (root 
           let z = later-at it in
           let g : distanceOf m (stmt d ds) ≡ e = omega (arith, z .1) in
           subst (λ y. LeafAt L (forkState L (A .leaf) c) (forkTree L (A .leaf) c) (path ++ m ∷ []) (begin r [])
-          (partOf (i .vars) (i .chans) (w - y) (joins y) r) (newInfo (S L) (i .vars) (i .chans) (w - y))) g (fork-branch L (A .leaf) c m (z .0))
+          (partOf (i .vars) (i .chans) (w - y) (joins y) r) (newInfo (S L) (i .vars) (i .chans) (w - y))) g
+          (fork-branch L (A .leaf) c m (z .0))
 
-      branch-comes : Comes (S L) (partOf (i .vars) (i .chans) (w - e) (joins e) r) (st .store) (i .vars) (i .chans) (L .off (f + size r + 2))
+      branch-comes : Comes (S L) (partOf (i .vars) (i .chans) (w - e) (joins e) r) (st .store) (i .vars) (i .chans)
+          (L .off (f + size r + 2))
           (begin r []) f (w - e)
       branch-comes = later-comes (S L) b w started-all it
 
@@ -204,7 +212,8 @@ beside n (here x) e = x (cc)
 beside n (later a) e = beside n a (cc)
 
 -- of one branch the number is 0
-only-zero : (path : List ℕ) {other : List ℕ} (d : Stmt) {r : Stmt} (l : ℕ) → stmtAt l (stmt d noStmt) ≡ some r → other ≡ path ++ l ∷ [] → path ++ 0 ∷ [] ≡ other
+only-zero : (path : List ℕ) {other : List ℕ} (d : Stmt) {r : Stmt} (l : ℕ) → stmtAt l (stmt d noStmt) ≡ some r
+    → other ≡ path ++ l ∷ [] → path ++ 0 ∷ [] ≡ other
 unfolding howMany
 only-zero path d l g x =
     let z : l ≡ 0 = omega (arith, stmt-inside l (stmt d noStmt) g) in
@@ -226,13 +235,21 @@ module _ (L : Loaded) {s : World} {st : State} {μ : Mem} {t : Tree (S L) (root 
       (settle L (real₀ L A clean c val place) leaf
       (rest-narrow L (λ other q e j m o. only-first A c m o) (rest₁ L A clean c val place))
       (lined-in L (λ other o. branch-of 0 (sym o)) (lines₁ L A clean c val place)) (whole (S L))
-      (record { run = A .run; operand = A .operand; place = A .placed ∙ ap (L .off) (sym first-is); work = sym none; inside = rw first-is (A .inside) })
+      (record {
+        run = A .run;
+        operand = A .operand;
+        place = A .placed ∙ ap (L .off)
+            (sym first-is);
+        work = sym none;
+        inside = rw first-is (A .inside);
+      })
       (branch-comes L A clean c val place l-here) (branch-unmarked L A clean c val place l-here)
       (omega (arith, rises-le (S L) (c .first + size d + 2) (length (S L .xs)) (branch-inner L A clean c val place l-here) (omega arith)))
       few)
     where
       only-first : (A : Acting L s st μ t path (before (PAR p (stmt d noStmt)) k) b i (Only path) ws at hi)
-          (c : ParCode (S L) b d noStmt (i .vars) (i .chans) k h (suc at) (cpuOf s .workspace)) → {other : List ℕ} {q : Process} {e : Part} {j : Info}
+          (c : ParCode (S L) b d noStmt (i .vars) (i .chans) k h (suc at) (cpuOf s .workspace))
+          → {other : List ℕ} {q : Process} {e : Part} {j : Info}
           → LeafAt L (forkState L (A .leaf) c) (forkTree L (A .leaf) c) other q e j → Branch path other → path ++ 0 ∷ [] ≡ other
       only-first A c m (branch-of n z) = elim (which L (A .leaf) c m) [
         | a-branch l r g x y ↦ only-zero path d l g x
@@ -240,7 +257,8 @@ module _ (L : Loaded) {s : World} {st : State} {μ : Mem} {t : Tree (S L) (root 
       ]
 
 -- the first branch of a PAR goes on to start the others
-module _ (L : Loaded) {s : World} {st : State} {μ : Mem} {t : Tree (S L) (root L) (st .process)} {path : List ℕ} {p : ℕ} {d r : Stmt} {rs : Stmts}
+module _ (L : Loaded) {s : World} {st : State} {μ : Mem} {t : Tree (S L) (root L) (st .process)} {path : List ℕ} {p : ℕ}
+    {d r : Stmt} {rs : Stmts}
     {k : List Frame} {b : Part} {i : Info} {ws : List ℕ} {at hi h : ℕ}
     (A : Acting L s st μ t path (before (PAR p (stmt d (stmt r rs))) k) b i (Only path) ws at hi) (clean : Unmarked (S L) b i st μ)
     (c : ParCode (S L) b d (stmt r rs) (i .vars) (i .chans) k h (suc at) (cpuOf s .workspace))
@@ -278,7 +296,8 @@ module _ (L : Loaded) {s : World} {st : State} {μ : Mem} {t : Tree (S L) (root 
         unmarked = branch-unmarked L A clean c val place it;
       }
 
-  all-starting : {other : List ℕ} {q : Process} {e : Part} {j : Info} → LeafAt L (forkState L (A .leaf) c) (forkTree L (A .leaf) c) other q e j
+  all-starting : {other : List ℕ} {q : Process} {e : Part} {j : Info}
+      → LeafAt L (forkState L (A .leaf) c) (forkTree L (A .leaf) c) other q e j
       → Branch path other → Starting (path ++ 0 ∷ []) births other
   unfolding howMany
   all-starting m (branch-of n z) = elim (which L (A .leaf) c m) [
@@ -310,7 +329,8 @@ module _ (L : Loaded) {s : World} {st : State} {μ : Mem} {t : Tree (S L) (root 
       let zero-plus : need d ≡ 0 + need d = omega arith in
       let seg : Seg (S L .xs) (suc at) (codeStarts (S L .word) (0 + need d) (suc at) (c .first + size d + 2) (stmt r rs)) (c .first) =
       rw (sym zero-plus) (c .starts) in
-      came X (step [] (forkState L (A .leaf) c) ∷ []) (counted L A clean c val place) (t-step (forks L A clean c val place) t-none) (silent L s X refl)
+      came X (step [] (forkState L (A .leaf) c) ∷ []) (counted L A clean c val place)
+      (t-step (forks L A clean c val place) t-none) (silent L s X refl)
       (starts births (real₀ L A clean c val place) (A .run) (branch-leaf L A clean c val place last)
       (rest-narrow L (λ other q e j m o. all-starting m o) (rest₁ L A clean c val place))
       (lined-in L (λ other o. branch-starting o) (lines₁ L A clean c val place))
@@ -325,7 +345,9 @@ module _ (L : Loaded) {s : World} {st : State} {μ : Mem} {t : Tree (S L) (root 
             (omega (arith, branch-room L A clean c val place last)) inner (omega (arith, inner))
             (rises-le (S L) (c .first) (c .first + size d + 2) (omega arith) inner) refl;
         births = each-birth;
-        own = subst (λ z. Comes (S L) (partOf (i .vars) (i .chans) (v - 0) (joins 0) d) (st .store) (i .vars) (i .chans) hi₁ (begin d []) (c .first) z)
+        own =
+            subst (λ z. Comes (S L) (partOf (i .vars) (i .chans) (v - 0) (joins 0) d) (st .store) (i .vars) (i .chans) hi₁
+            (begin d []) (c .first) z)
             none (branch-comes L A clean c val place last);
         inner = omega (arith, inner);
         near = rises-le (S L) (c .first) (c .first + size d + 2) (omega arith) inner;

@@ -600,7 +600,8 @@ look-prefix (i ∷ path) rest p e = elim (look-under i (path ++ rest) p e) [
 pub data SamePar (path : List ℕ) (p : Process) (bs : Branches) (k : List Frame) : Type 0 where
   same-par : (cs : Branches) → look path p ≡ some (inPar cs k) → left cs ≡ left bs → SamePar path p bs k
 
-pub par-above : (path other : List ℕ) (i : ℕ) (rest : List ℕ) (r p : Process) {q : Process} {bs : Branches} {k : List Frame} → path ≡ other ++ i ∷ rest
+pub par-above : (path other : List ℕ) (i : ℕ) (rest : List ℕ) (r p : Process) {q : Process} {bs : Branches} {k : List Frame}
+    → path ≡ other ++ i ∷ rest
     → look path p ≡ some q → look other (put path r p) ≡ some (inPar bs k) → SamePar other p bs k
 par-above path other i rest r p {bs = bs} {k} g e f = elim (look-prefix other (i ∷ rest) p (ap (λ z. look z p) (sym g) ∙ e)) [
   | prefixed z h n ↦ elim (look-under i rest z n) [
@@ -616,7 +617,8 @@ par-above path other i rest r p {bs = bs} {k} g e f = elim (look-prefix other (i
   ]
 ]
 
-pub par-after : (path other : List ℕ) (p : Process) {q r : Process} {bs : Branches} {k : List Frame} → look path p ≡ some q → Leaf q → Leaf r
+pub par-after : (path other : List ℕ) (p : Process) {q r : Process} {bs : Branches} {k : List Frame}
+    → look path p ≡ some q → Leaf q → Leaf r
     → look other (put path r p) ≡ some (inPar bs k) → SamePar other p bs k
 par-after path other p {q} {r} {bs} {k} e l m f = by (compare path other)
   where
@@ -669,7 +671,8 @@ live-begin s k l h = live-enter s k (resume k) l h (live-resume k l h)
 mutual
   unfolding enter enterAll
 
-  silent-enter : (s : Stmt) (k : List Frame) {p : Process} {c : Site} {v : ℕ} {f : List Frame} → p ≢ atOutput c v f → enter s k p ≢ atOutput c v f
+  silent-enter : (s : Stmt) (k : List Frame) {p : Process} {c : Site} {v : ℕ} {f : List Frame} → p ≢ atOutput c v f
+      → enter s k p ≢ atOutput c v f
   silent-enter SKIP k n e = never (cc)
   silent-enter STOP k n e = never (cc)
   silent-enter (assign x y) k n e = never (cc)

@@ -1,5 +1,5 @@
--- Where a sequential process stands: what its code goes on with, and its next significant instruction.
-use Prim.Native.Nat.{ℕ, zero, suc, _-_, _≤_, _<_}
+-- A program's code as it is found: its instructions, where each begins, the words of its names and the workspace it starts at.
+use Prim.Native.Nat.{ℕ, zero, suc, _≤_, _<_}
 use native.Mathlib.Omega.{arith}
 use mathlib.Core.Path.{_≡_}
 use mathlib.Core.List.{List, [], _∷_}

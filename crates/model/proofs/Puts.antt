@@ -1,5 +1,5 @@
 -- A process goes on to another: what words hold of the others stays.
-use Prim.Native.Nat.{ℕ, _+_, _^_, _<_}
+use Prim.Native.Nat.{ℕ, _^_, _<_}
 use native.Mathlib.Omega.{arith}
 use mathlib.Core.Path.{_≡_, refl, sym, ap, _∙_, subst}
 use mathlib.Core.Logic.{_≢_, _⊎_, inl, inr, ⊎-elim}
@@ -13,7 +13,8 @@ use Rattle.model.specs.Occam.{process, outside}
 use Rattle.model.specs.Demand.{liveIn}
 use Rattle.model.proofs.Cases.{never}
 use Rattle.model.proofs.Ways.{Mem}
-use Rattle.model.proofs.Paths.{Leaf, l-output, leaf-found, look-put-same, look-put-other, look-after, into, aside, leaves-apart, same-path}
+use Rattle.model.proofs.Paths.{Leaf, l-output, leaf-found, look-put-same, look-put-other, look-after, into, aside, leaves-apart}
+use Rattle.model.proofs.Paths.{same-path}
 use Rattle.model.proofs.Paths.{par-after, same-par}
 use Rattle.model.proofs.Parts.{Part, Within}
 use Rattle.model.proofs.Marks.{Own}
@@ -156,7 +157,9 @@ module _ (L : Loaded) {st : State} {t : Tree (S L) (root L) (st .process)} {path
             → NodeAt L (putting path r st) treeThen other (alone c k)
         node-of n = record { label = n .label }
 
-        here-process : {other : List ℕ} {p : Process} {c : Part} {k : Info} → LeafAt L (putting path r st) treeThen other p c k → path ≡ other
+        here-process : {other : List ℕ} {p : Process} {c : Part} {k : Info}
+            → LeafAt L (putting path r st) treeThen other p c k → path ≡ other
             → p ≡ r
         here-process n e =
-            some-process (sym (n .found) ∙ ap (λ z. look z (put path r (st .process))) (sym e) ∙ look-put-same path (st .process) r (at .found))
+            some-process
+            (sym (n .found) ∙ ap (λ z. look z (put path r (st .process))) (sym e) ∙ look-put-same path (st .process) r (at .found))

@@ -49,14 +49,16 @@ module _ (L : Loaded) {s : World} {st : State} {μ : Mem} {t : Tree (S L) (root 
       → Did L (Executes L x s) s st (bytesLeft (S L) t)
   pass-quiet g calm way settled clean =
       let r = load (g (regsOf (cpuOf s))) (cpuOf s) in
-      goes-on L A (withCpu r s) (executes (calm s (A .placed))) refl (real-cpu L r refl refl refl (A .real)) (A .run) (A .operand) (A .rest) (A .lined) (suc at) hi
+      goes-on L A (withCpu r s) (executes (calm s (A .placed))) refl (real-cpu L r refl refl refl (A .real)) (A .run) (A .operand)
+      (A .rest) (A .lined) (suc at) hi
       (A .placed) (A .inside) (omega arith) way settled clean
 
   pub pass-alt : {x : Instruction} (g : Regs → Regs) → Quiet (L .off (suc at)) (functionIn x) (operandIn (L .off) x) g
       → AltGoes (S L) b st (i .vars) (i .chans) q hi μ (suc at) (g (regsOf (cpuOf s))) → Did L (Executes L x s) s st (bytesLeft (S L) t)
   pass-alt g calm way =
       let r = load (g (regsOf (cpuOf s))) (cpuOf s) in
-      alt-goes-on L A (withCpu r s) (executes (calm s (A .placed))) refl (real-cpu L r refl refl refl (A .real)) (A .run) (A .operand) (A .rest) (A .lined)
+      alt-goes-on L A (withCpu r s) (executes (calm s (A .placed))) refl (real-cpu L r refl refl refl (A .real)) (A .run)
+      (A .operand) (A .rest) (A .lined)
       (suc at) hi (A .placed) (A .inside) (omega arith) way
 
   -- LDL
@@ -75,14 +77,16 @@ module _ (L : Loaded) {s : World} {st : State} {μ : Mem} {t : Tree (S L) (root 
         → Unmarked (S L) b i st μ → Did L (Executes L (plain I.ldl o) s) s st (bytesLeft (S L) t)
     pass-loads way settled clean =
         let r = push (st .store y) (cpuOf s) in
-        goes-on L A (withCpu r s) did-load refl (real-cpu L r refl refl refl (A .real)) (A .run) (A .operand) (A .rest) (A .lined) (suc at) hi
+        goes-on L A (withCpu r s) did-load refl (real-cpu L r refl refl refl (A .real)) (A .run) (A .operand)
+        (A .rest) (A .lined) (suc at) hi
         (A .placed) (A .inside) (omega arith) way settled clean
 
     pub pass-alt-loads : AltGoes (S L) b st (i .vars) (i .chans) q hi μ (suc at) (pushing (st .store y) (regsOf (cpuOf s)))
         → Did L (Executes L (plain I.ldl o) s) s st (bytesLeft (S L) t)
     pass-alt-loads way =
         let r = push (st .store y) (cpuOf s) in
-        alt-goes-on L A (withCpu r s) did-load refl (real-cpu L r refl refl refl (A .real)) (A .run) (A .operand) (A .rest) (A .lined) (suc at) hi
+        alt-goes-on L A (withCpu r s) did-load refl (real-cpu L r refl refl refl (A .real)) (A .run) (A .operand)
+        (A .rest) (A .lined) (suc at) hi
         (A .placed) (A .inside) (omega arith) way
 
   -- the byte that a distance from here reaches
@@ -99,21 +103,25 @@ module _ (L : Loaded) {s : World} {st : State} {μ : Mem} {t : Tree (S L) (root 
   unfolding functionIn operandIn
   pass-falls {k} h z f way settled clean =
       let r = goto (low (cpuOf s .place + less (L .off k) (L .off (suc at)))) (cpuOf s) in
-      goes-on L A (withCpu r s) (executes (exec-cj-jumps _ s z)) refl (real-cpu L r refl refl refl (A .real)) (A .run) (A .operand) (A .rest) (A .lined) k hi
+      goes-on L A (withCpu r s) (executes (exec-cj-jumps _ s z)) refl (real-cpu L r refl refl refl (A .real)) (A .run) (A .operand)
+      (A .rest) (A .lined) k hi
       (target k h) h (omega arith) way settled clean
 
   pub pass-alt-falls : {k : ℕ} → k ≤ length (S L .xs) → cpuOf s .a ≡ 0 → L .off (suc at) ≤ L .off k
-      → AltGoes (S L) b st (i .vars) (i .chans) q hi μ k (regsOf (cpuOf s)) → Did L (Executes L (distance I.cj k at) s) s st (bytesLeft (S L) t)
+      → AltGoes (S L) b st (i .vars) (i .chans) q hi μ k (regsOf (cpuOf s))
+      → Did L (Executes L (distance I.cj k at) s) s st (bytesLeft (S L) t)
   unfolding functionIn operandIn
   pass-alt-falls {k} h z f way =
       let r = goto (low (cpuOf s .place + less (L .off k) (L .off (suc at)))) (cpuOf s) in
-      alt-goes-on L A (withCpu r s) (executes (exec-cj-jumps _ s z)) refl (real-cpu L r refl refl refl (A .real)) (A .run) (A .operand) (A .rest)
+      alt-goes-on L A (withCpu r s) (executes (exec-cj-jumps _ s z)) refl (real-cpu L r refl refl refl (A .real))
+      (A .run) (A .operand) (A .rest)
       (A .lined) k hi (target k h) h (omega arith) way
 
   -- J
   module _ {k hi′ : ℕ} (h : k ≤ length (S L .xs)) (placed : Placed (S L) b (cpuOf s .workspace) (i .vars) (i .chans))
       (reach : hi′ + L .off (suc at) ≤ hi + L .off k)
-      (way : (ν : Mem) (r : Regs) → r .w ≡ cpuOf s .workspace → Goes (S L) b (st .store) (i .vars) (i .chans) q hi′ ν k r) (settled : Settled q)
+      (way : (ν : Mem) (r : Regs) → r .w ≡ cpuOf s .workspace → Goes (S L) b (st .store) (i .vars) (i .chans) q hi′ ν k r)
+      (settled : Settled q)
       (clean : Unmarked (S L) b i st μ) where
     abbrev w : ℕ
     w = cpuOf s .workspace
@@ -123,7 +131,8 @@ module _ (L : Loaded) {s : World} {st : State} {μ : Mem} {t : Tree (S L) (root 
     unfolding functionIn operandIn
     jumps-on c =
         let r = goto (low (cpuOf s .place + less (L .off k) (L .off (suc at)))) (cpuOf s) in
-        goes-on L A (withCpu r s) (executes (exec-j _ s c)) refl (real-cpu L r refl refl refl (A .real)) (A .run) (A .operand) (A .rest) (A .lined) k hi′
+        goes-on L A (withCpu r s) (executes (exec-j _ s c)) refl (real-cpu L r refl refl refl (A .real)) (A .run) (A .operand)
+        (A .rest) (A .lined) k hi′
         (target k h) h reach (way μ (regsOf (cpuOf s)) refl) settled clean
 
     high : b .top ≤ S L .top

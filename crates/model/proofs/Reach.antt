@@ -10,7 +10,8 @@ use Rattle.model.proofs.Ways.{Regs, Mem, Way, arrived, through, quiet, 
 use Rattle.model.proofs.Points.{Setting}
 use Rattle.model.proofs.Arrive.{inside, up}
 use Rattle.model.proofs.Parts.{Part}
-use Rattle.model.proofs.Marks.{Enables, e-input, e-skip, Disables, d-input, d-skip, AltPoint, pt-enable, pt-wait, pt-disable, pt-choose}
+use Rattle.model.proofs.Marks.{Enables, e-input, e-skip, Disables, d-input, d-skip, AltPoint, pt-enable, pt-wait, pt-disable}
+use Rattle.model.proofs.Marks.{pt-choose}
 use Rattle.model.proofs.Marks.{Point, pt-stop, pt-assign, pt-var, pt-chan, pt-taken, pt-none, pt-while, pt-in, pt-out, pt-par-place}
 use Rattle.model.proofs.Marks.{pt-par-count, pt-end, pt-alt, StartPoint}
 

@@ -39,8 +39,8 @@ Only path other = path ≡ other
 abbrev pub Nobody : List ℕ → Type 0
 Nobody other = ⊥
 
--- the branches that a PAR has still to start: the branch s at distance d, its code at index b, and those behind it. `par` is the PAR's path,
--- `next` the number of the branch s, w the PAR's workspace, where the code of the first branch is at index `first`
+-- the branches that a PAR has still to start: the branch s at distance d, its code at index b, and those behind it. `par` is the PAR's
+-- path, `next` the number of the branch s, w the PAR's workspace, where the code of the first branch is at index `first`
 pub record Births : Type 0 where
   pub par : List ℕ
   pub next : ℕ
@@ -136,7 +136,8 @@ module _ (L : Loaded) where
     runs : {μ : Mem} {t : Tree (S L) (root L) (st .process)} {path : List ℕ} {q : Process} {b : Part} {i : Info} {ws : List ℕ}
         → Real L s st μ ws → cpuOf s .running ≡ true → LeafAt L st t path q b i → Rest L st μ t (Only path) ws
         → Lined L st t (Only path) ws → Now s st μ b i q → Inv s st (bytesLeft (S L) t)
-    starts : {μ : Mem} {t : Tree (S L) (root L) (st .process)} {path : List ℕ} {q : Process} {b : Part} {i : Info} {ws : List ℕ} (B : Births)
+    starts : {μ : Mem} {t : Tree (S L) (root L) (st .process)} {path : List ℕ} {q : Process} {b : Part} {i : Info}
+        {ws : List ℕ} (B : Births)
         → Real L s st μ ws → cpuOf s .running ≡ true → LeafAt L st t path q b i → Rest L st μ t (Starting path B) ws
         → Lined L st t (Starting path B) ws → NowStarts s st μ t path q b i B → Inv s st (bytesLeft (S L) t)
     idle : {μ : Mem} {t : Tree (S L) (root L) (st .process)} → Real L s st μ [] → cpuOf s .running ≡ false → cpuOf s .operand ≡ 0

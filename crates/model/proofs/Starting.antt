@@ -1,5 +1,5 @@
 -- The start: a program whose code is in a machine, and the invariant that holds once the machine was started.
-use Prim.Native.Nat.{ℕ, zero, suc, _+_, _-_, _≤_, _<_}
+use Prim.Native.Nat.{ℕ, zero, suc, _+_, _≤_, _<_}
 use native.Mathlib.Omega.{arith}
 use native.Mathlib.Nat.{add-zero, zero-add}
 use mathlib.Core.Path.{_≡_, refl, sym, ap, _∙_, subst}
@@ -185,4 +185,5 @@ module _ (L : Loaded) (memory : List ℕ) (room : size L ≤ length memory) wher
   settled =
       let same : whole (S L) ≤ whole (S L) = omega arith in
       settle L real leaf rest (record { each = λ w m. absurd (List·Memᴰ·not-nil m); once = apart-none }) (whole (S L))
-      (record { run = refl; operand = refl; place = sym (L .realises .begins); work = refl; inside = omega arith }) comes-first clean (omega arith) same
+      (record { run = refl; operand = refl; place = sym (L .realises .begins); work = refl; inside = omega arith })
+      comes-first clean (omega arith) same
