@@ -37,8 +37,7 @@ use Rattle.model.proofs.Parts.{need-two, sum-first, Part, the-end, join
 use Rattle.model.proofs.Conts.{Placed, placed-down, Cont, c-end, c-join, c-seq, c-var, c-chan, c-up, c-while, c-hop}
 use Rattle.model.proofs.Conts.{cont-inside, cont-low, cont-placed, cont-bound}
 use Rattle.model.proofs.Marks.{Skips, Settled, s-none, s-skip, s-if, s-par, AltCode, Opening, ParCode, Clear, Point, pt-stop}
-use Rattle.model.proofs.Marks.{pt-assign}
-use Rattle.model.proofs.Marks.{pt-var, pt-chan, pt-taken, pt-none, pt-while, pt-in, pt-out, pt-par-place, pt-end, pt-alt}
+use Rattle.model.proofs.Marks.{pt-assign, pt-var, pt-chan, pt-taken, pt-none, pt-while, pt-in, pt-out, pt-par-place, pt-end, pt-alt}
 
 -- two stretches of instructions, one behind the other
 pub seg-join : {xs ys zs : List Instruction} {i m i′ : ℕ} → Seg xs i ys m → Seg xs m zs i′ → Seg xs i (ys ++ zs) i′

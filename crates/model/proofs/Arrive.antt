@@ -7,8 +7,7 @@ use mathlib.Core.Path.{_≡_, _∙_}
 use mathlib.Core.Logic.{⊎-elim}
 use mathlib.Core.List.{List, [], _∷_, _++_, List·Memᴰ, List·Memᴰ·append-cases, List·Memᴰ·eq-of-singleton, List·Memᴰ·not-nil}
 use lib.ListN.{length, length-append}
-use Rattle.model.specs.Syntax.{Site, declared, Whole, Stmt, WHILE}
-use Rattle.model.specs.Syntax.{Pairs, pair}
+use Rattle.model.specs.Syntax.{Site, declared, Whole, Stmt, WHILE, Pairs, pair}
 use Rattle.model.specs.Reader.{numbered, names}
 use Rattle.model.specs.Instruction.{cj, stl, Instruction, plain, distance}
 use Rattle.model.specs.Instruction as I

@@ -17,9 +17,8 @@ use Rattle.model.proofs.Ways.{Mem}
 use Rattle.model.proofs.Points.{Setting}
 use Rattle.model.proofs.Paths.{l-output, leaf-par, leaf-begin, live-begin, silent-begin, left, left-branches, same-path, stmtAt}
 use Rattle.model.proofs.Paths.{begun, started-found, look-started, look-put-same, look-put-other, look-put-below, look-after, into}
-use Rattle.model.proofs.Paths.{aside}
-use Rattle.model.proofs.Paths.{Compared, equal, below, above, apart, compare, leaves-apart, Apart, apart-differ, same-par, par-above}
-use Rattle.model.proofs.Paths.{leaf-below}
+use Rattle.model.proofs.Paths.{aside, Compared, equal, below, above, apart, compare, leaves-apart, Apart, apart-differ, same-par}
+use Rattle.model.proofs.Paths.{par-above, leaf-below}
 use Rattle.model.proofs.Parts.{Part, joins, partOf}
 use Rattle.model.proofs.Marks.{Own, ParCode}
 use Rattle.model.proofs.Trees.{some-same, distanceOf, Label, alone, parted, Info, newInfo, Tree, labelAt, rebuild}

@@ -18,8 +18,7 @@ use Rattle.model.proofs.Parts.{Part, joins}
 use Rattle.model.proofs.FineParts.{outsideNames}
 use Rattle.model.proofs.Arrivals.{Sound}
 use Rattle.model.proofs.Trees.{some-same, Label, alone, alone-part, alone-parted, Info, Tree, t-leaf, t-par, Forest, f-none, f-live}
-use Rattle.model.proofs.Trees.{f-over}
-use Rattle.model.proofs.Trees.{labelAt, labelIn}
+use Rattle.model.proofs.Trees.{f-over, labelAt, labelIn}
 use Rattle.model.proofs.Zones.{zoneOf, zone-under}
 use Rattle.model.proofs.Kernel.{Loaded, S, root, size, LeafAt, NodeAt, Rest}
 use Rattle.model.proofs.Writes.{node, part-small}

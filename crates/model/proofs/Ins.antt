@@ -50,8 +50,7 @@ use Rattle.model.proofs.Finish.{then-settles, silent}
 use Rattle.model.proofs.Advance.{Silent, goes-as, leaves-as}
 use Rattle.model.proofs.Basics.{before-silent}
 use Rattle.model.proofs.Channels.{Holder, holds-input, holds-output, holds-wait, holds-woken, holds-out, holder, Sends, sends}
-use Rattle.model.proofs.Channels.{sender-at}
-use Rattle.model.proofs.Channels.{held-at, not-held, held-here}
+use Rattle.model.proofs.Channels.{sender-at, held-at, not-held, held-here}
 use Rattle.model.proofs.Meets.{Both, not-own, clear-chan, mark-chan, chan-above, rest-below, real-below, partner-goes}
 use Rattle.model.proofs.Moving.{same-leaf, rest-out, lined-out}
 

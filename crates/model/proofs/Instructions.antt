@@ -19,8 +19,7 @@ use Rattle.model.proofs.Points.{At}
 use Rattle.model.proofs.Arrive.{inside}
 use Rattle.model.proofs.Parts.{Part}
 use Rattle.model.proofs.Marks.{Point, pt-stop, pt-assign, pt-var, pt-chan, pt-taken, pt-none, pt-while, pt-in, pt-out, pt-par-place}
-use Rattle.model.proofs.Marks.{pt-par-count}
-use Rattle.model.proofs.Marks.{pt-end, pt-alt, Settled}
+use Rattle.model.proofs.Marks.{pt-par-count, pt-end, pt-alt, Settled}
 use Rattle.model.proofs.Arrivals.{Goes, Comes}
 use Rattle.model.proofs.Onwards.{AltGoes, Starts}
 use Rattle.model.proofs.Trees.{Info, Tree, bytesLeft}

@@ -18,10 +18,8 @@ use Rattle.model.proofs.Ways.{Mem}
 use Rattle.model.proofs.Points.{Setting}
 use Rattle.model.proofs.Paths.{l-output, leaf-par, leaf-resume, leaf-below, leaf-found, look-append, look-prefix, prefixed}
 use Rattle.model.proofs.Paths.{look-under, under, par-whole, look-put-same, look-put-other, look-after, into, aside, look-end-same}
-use Rattle.model.proofs.Paths.{look-end-other}
-use Rattle.model.proofs.Paths.{Compared, equal, below, above, apart, compare, Apart, here, apart-append, apart-under, apart-differ}
-use Rattle.model.proofs.Paths.{left}
-use Rattle.model.proofs.Paths.{only-left, same-path, same-par, par-above, live-resume, silent-resume, stmtAt}
+use Rattle.model.proofs.Paths.{look-end-other, Compared, equal, below, above, apart, compare, Apart, here, apart-append, apart-under}
+use Rattle.model.proofs.Paths.{apart-differ, left, only-left, same-path, same-par, par-above, live-resume, silent-resume, stmtAt}
 use Rattle.model.proofs.Parts.{sum-first, Part, joins}
 use Rattle.model.proofs.Marks.{Own, ParCode}
 use Rattle.model.proofs.Arrivals.{cont-live}

@@ -17,8 +17,7 @@ use Rattle.model.specs.Code.{operandIn}
 use Rattle.model.specs.Execute.{enabling, ready, noneSelected}
 use Rattle.model.specs.Machine.{stateWord}
 use Rattle.model.specs.Occam.{Store, value, isTrue, Frame, inWhile, Process, before, atInput, atOutput, atStop, atAlt, inPar}
-use Rattle.model.specs.Occam.{finished, resume, begin, firstTrue}
-use Rattle.model.specs.Occam.{State, Sender}
+use Rattle.model.specs.Occam.{finished, resume, begin, firstTrue, State, Sender}
 use Rattle.model.proofs.Ways.{Regs, Mem}
 use Rattle.model.proofs.Expr.{Seg}
 use Rattle.model.proofs.Points.{Setting, whole, At}

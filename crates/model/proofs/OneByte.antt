@@ -33,8 +33,7 @@ use Rattle.model.proofs.Writes.{sits-at}
 use Rattle.model.proofs.Grounds.{code-end}
 use Rattle.model.proofs.Traces.{t-none}
 use Rattle.model.proofs.Running.{Only, Births, Starting, Here, within, at-end, off-small, Now, now-goes, now-alt, NowStarts, Inv}
-use Rattle.model.proofs.Running.{runs, starts, idle}
-use Rattle.model.proofs.Running.{Did, came, Executes, executes, Acting}
+use Rattle.model.proofs.Running.{runs, starts, idle, Did, came, Executes, executes, Acting}
 use Rattle.model.proofs.Moving.{relaid, relabelled, relabel}
 use Rattle.model.proofs.Reals.{real-cpu}
 use Rattle.model.proofs.Reach.{way-far, point-in, alt-in, start-in}

@@ -27,13 +27,11 @@ use Rattle.model.proofs.Parts.{FineBranches}
 use Rattle.model.proofs.Conts.{Scoped, scoped-below, placed-down, Cont, c-end, c-join, c-chan, c-up, c-hop, cont-inside, cont-low}
 use Rattle.model.proofs.Conts.{cont-scoped, cont-bound}
 use Rattle.model.proofs.Marks.{Ready, r-input, r-skip, r-past-input, r-past-skip, Picks, p-input, p-skip, p-past-input, p-past-skip}
-use Rattle.model.proofs.Marks.{Rest, rest-all, rest-input, rest-skip, Noticed, n-none, n-input, n-skip}
-use Rattle.model.proofs.Marks.{AltCode, ParCode, Enabling, e-input, e-skip, Disabling}
-use Rattle.model.proofs.Marks.{d-input, d-skip, AltPoint, pt-enable, pt-wait, pt-disable, pt-choose, StartPoint}
-use Rattle.model.proofs.Marks.{Guarded, g-here, g-past-input, g-past-skip}
+use Rattle.model.proofs.Marks.{Rest, rest-all, rest-input, rest-skip, Noticed, n-none, n-input, n-skip, AltCode, ParCode, Enabling}
+use Rattle.model.proofs.Marks.{e-input, e-skip, Disabling, d-input, d-skip, AltPoint, pt-enable, pt-wait, pt-disable, pt-choose}
+use Rattle.model.proofs.Marks.{StartPoint, Guarded, g-here, g-past-input, g-past-skip}
 use Rattle.model.proofs.Cases.{never}
-use Rattle.model.proofs.Arrivals.{seg-join, Sound, Comes, comes}
-use Rattle.model.proofs.Arrivals.{enters, enters-all, arrives}
+use Rattle.model.proofs.Arrivals.{seg-join, Sound, Comes, comes, enters, enters-all, arrives}
 
 -- past one instruction
 seg-tail : {xs ys : List Instruction} {y : Instruction} {i i′ : ℕ} → Seg xs i (y ∷ ys) i′ → Seg xs (suc i) ys i′

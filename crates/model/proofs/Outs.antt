@@ -33,8 +33,7 @@ use Rattle.model.proofs.Effects.{cpuOf, stored}
 use Rattle.model.proofs.Acts.{parked, exec-out-wait, exec-out-alt, exec-out-receiver, notify-waiting, notify-other}
 use Rattle.model.proofs.Kernel.{Loaded, S, root, size, LeafAt, owned, Rest, Lined, Real}
 use Rattle.model.proofs.Writes.{upd-same, upd-other, changed, after-leaf, after-lined, node, apart-parts, apart-zones, own-one}
-use Rattle.model.proofs.Writes.{part-small}
-use Rattle.model.proofs.Writes.{sits-at, write-var, write-chan}
+use Rattle.model.proofs.Writes.{part-small, sits-at, write-var, write-chan}
 use Rattle.model.proofs.Puts.{putting, treeThen, here-then, other-then, lined-then, rest-then, sender-then}
 use Rattle.model.proofs.Grounds.{var-in, chan-in, small-size, sound-at}
 use Rattle.model.proofs.Traces.{Trace, t-none, t-step}

@@ -8,14 +8,12 @@ use mathlib.Core.Option.{Option, some}
 use Rattle.model.specs.Word.{notProcess}
 use Rattle.model.specs.Syntax.{Site}
 use Rattle.model.specs.Machine.{linkWord}
-use Rattle.model.specs.Occam.{Frame, Process, atOutput, framesOf, look, put, State, Sender}
-use Rattle.model.specs.Occam.{process, outside}
+use Rattle.model.specs.Occam.{Frame, Process, atOutput, framesOf, look, put, State, Sender, process, outside}
 use Rattle.model.specs.Demand.{liveIn}
 use Rattle.model.proofs.Cases.{never}
 use Rattle.model.proofs.Ways.{Mem}
 use Rattle.model.proofs.Paths.{Leaf, l-output, leaf-found, look-put-same, look-put-other, look-after, into, aside, leaves-apart}
-use Rattle.model.proofs.Paths.{same-path}
-use Rattle.model.proofs.Paths.{par-after, same-par}
+use Rattle.model.proofs.Paths.{same-path, par-after, same-par}
 use Rattle.model.proofs.Parts.{Part, Within}
 use Rattle.model.proofs.Marks.{Own}
 use Rattle.model.proofs.Trees.{some-same, Label, alone, alone-part, alone-info, alone-parted, Info, Sits, Tree, labelAt, kept}

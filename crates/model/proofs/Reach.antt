@@ -11,9 +11,8 @@ use Rattle.model.proofs.Points.{Setting}
 use Rattle.model.proofs.Arrive.{inside, up}
 use Rattle.model.proofs.Parts.{Part}
 use Rattle.model.proofs.Marks.{Enables, e-input, e-skip, Disables, d-input, d-skip, AltPoint, pt-enable, pt-wait, pt-disable}
-use Rattle.model.proofs.Marks.{pt-choose}
-use Rattle.model.proofs.Marks.{Point, pt-stop, pt-assign, pt-var, pt-chan, pt-taken, pt-none, pt-while, pt-in, pt-out, pt-par-place}
-use Rattle.model.proofs.Marks.{pt-par-count, pt-end, pt-alt, StartPoint}
+use Rattle.model.proofs.Marks.{pt-choose, Point, pt-stop, pt-assign, pt-var, pt-chan, pt-taken, pt-none, pt-while, pt-in, pt-out}
+use Rattle.model.proofs.Marks.{pt-par-place, pt-par-count, pt-end, pt-alt, StartPoint}
 
 -- a process that begins a statement, is at an ALT, or has finished
 pub data Moving : Process → Type 0 where

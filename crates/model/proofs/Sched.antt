@@ -5,8 +5,7 @@ use native.Mathlib.Decide.{ℕ-discrete}
 use mathlib.Core.Path.{_≡_, refl, sym, ap, _∙_, subst}
 use mathlib.Core.Logic.{_≢_, inl, ⊎-elim}
 use mathlib.Core.Bool.{true, false}
-use mathlib.Core.List.{List, [], _∷_, _++_, List·Memᴰ·head, List·Memᴰ·tail, List·Memᴰ·append-cases}
-use mathlib.Core.List.{List·Memᴰ·eq-of-singleton}
+use mathlib.Core.List.{List, [], _∷_, _++_, List·Memᴰ·head, List·Memᴰ·tail, List·Memᴰ·append-cases, List·Memᴰ·eq-of-singleton}
 use lib.ListN.{length, getD, set, length-set}
 use lib.Seq.{getD-set-same, getD-set-other}
 use Rattle.model.specs.Machine.{World, done, release, join, withCpu, resumeWord, linkWord}
@@ -26,8 +25,7 @@ use Rattle.model.proofs.Leaves.{upd, member, Unmarked, Held, h-queued, 
 use Rattle.model.proofs.Stays.{Calm}
 use Rattle.model.proofs.Effects.{cpuOf}
 use Rattle.model.proofs.Queues.{LinksIn, Apart, apart, released, joined, lastOf, release-queue, released-queue, release-queue-none}
-use Rattle.model.proofs.Queues.{idle-queue}
-use Rattle.model.proofs.Queues.{join-queue, joined-queue, apart-snoc, link-injective, last-in}
+use Rattle.model.proofs.Queues.{idle-queue, join-queue, joined-queue, apart-snoc, link-injective, last-in}
 use Rattle.model.proofs.Kernel.{Loaded, S, root, size, LeafAt, Rest, whose, Lined, Real}
 use Rattle.model.proofs.Writes.{upd-same, upd-other, node, apart-zones, part-small, sits-at, write-own, link}
 use Rattle.model.proofs.Puts.{putting, treeThen, here-then, lined-then, rest-then, moved}

@@ -15,11 +15,9 @@ use Rattle.model.proofs.Points.{Setting}
 use Rattle.model.proofs.Parts.{Part, FineWhole, FinePairs, FineGuards}
 use Rattle.model.proofs.Conts.{cont-low}
 use Rattle.model.proofs.Marks.{Own, Ready, r-input, r-skip, r-past-input, r-past-skip, Picks, p-input, p-skip, p-past-input}
-use Rattle.model.proofs.Marks.{p-past-skip}
-use Rattle.model.proofs.Marks.{Guarded, g-here, g-past-input, g-past-skip, Noticed, n-none, n-input, n-skip, Marked}
-use Rattle.model.proofs.Marks.{Disabling}
-use Rattle.model.proofs.Marks.{Point, pt-stop, pt-assign, pt-var, pt-chan, pt-taken, pt-none, pt-while, pt-in}
-use Rattle.model.proofs.Marks.{pt-out, pt-par-place, pt-par-count, pt-end, pt-alt}
+use Rattle.model.proofs.Marks.{p-past-skip, Guarded, g-here, g-past-input, g-past-skip, Noticed, n-none, n-input, n-skip, Marked}
+use Rattle.model.proofs.Marks.{Disabling, Point, pt-stop, pt-assign, pt-var, pt-chan, pt-taken, pt-none, pt-while, pt-in, pt-out}
+use Rattle.model.proofs.Marks.{pt-par-place, pt-par-count, pt-end, pt-alt}
 use Rattle.model.proofs.Arrivals.{Goes, Comes, comes}
 use Rattle.model.proofs.Onwards.{guarded-fine}
 use Rattle.model.proofs.Trees.{Info, Sits}
