@@ -1,29 +1,25 @@
 -- A process takes a step and goes on: the names in scope may be others.
-use Prim.Native.Nat.{ℕ, suc, _+_, _^_, _≤_, _<_}
+use Prim.Native.Nat.{ℕ, _+_, _^_, _≤_, _<_}
 use native.Mathlib.Omega.{arith}
-use mathlib.Core.Path.{_≡_, refl, sym, ap, _∙_, subst}
-use mathlib.Core.Logic.{_≢_, _⊎_, inl, inr}
-use mathlib.Core.List.{List, [], _∷_, _++_, map, List·Memᴰ}
-use mathlib.Core.Option.{some}
-use lib.ListN.{length}
+use mathlib.Core.Path.{_≡_, refl, sym, subst}
+use mathlib.Core.Logic.{_⊎_}
+use mathlib.Core.List.{List, _++_, map, List·Memᴰ}
 use Rattle.model.specs.Word.{notProcess}
 use Rattle.model.specs.Syntax.{Site}
 use mathlib.Core.Bool.{false}
 use Rattle.model.specs.Machine.{World, done, release}
-use Rattle.model.specs.Occam.{Store, Frame, Process, atOutput, framesOf, put, State, Communication, Step}
+use Rattle.model.specs.Occam.{Frame, Process, atOutput, framesOf, put, State, Communication, Step}
 use Rattle.model.specs.Demand.{liveIn, talkOf}
 use Rattle.model.proofs.Ways.{Mem}
-use Rattle.model.proofs.Points.{Setting, whole}
+use Rattle.model.proofs.Points.{whole}
 use Rattle.model.proofs.Paths.{Leaf}
 use Rattle.model.proofs.Parts.{Part, Within}
 use Rattle.model.proofs.Conts.{Placed}
-use Rattle.model.proofs.Marks.{Own}
 use Rattle.model.proofs.Arrivals.{Comes}
-use Rattle.model.proofs.Trees.{Info, Sits, Tree, bytesLeft}
+use Rattle.model.proofs.Trees.{Info, Sits, Tree}
 use Rattle.model.proofs.Leaves.{Unmarked, Held}
 use Rattle.model.proofs.Effects.{cpuOf}
 use Rattle.model.proofs.Kernel.{Loaded, S, root, setup, LeafAt, Owned, Rest, Lined, Real}
-use Rattle.model.proofs.Writes.{node}
 use Rattle.model.proofs.Puts.{putting, treeThen, here-then, lined-then, rest-then}
 use Rattle.model.proofs.Running.{Only, Nobody, Did}
 use Rattle.model.proofs.Reals.{real-state}
@@ -76,5 +72,6 @@ module _ (L : Loaded) {u : World} {st : State} {ν : Mem} {t : Tree (S L) (root 
       let unheld = unqueued L {Out = Only path} here refl lined in
       step-lets-go L one ran talk
       (lets-go L operand (real-state L (put path p (st .process)) (st .store) real)
-      (rest-in L {Out′ = Nobody} here (subst (λ f. Held (S L) b j (putting path p st) ν f p) (sym unheld) held) (λ other d e. absurd (d e)) rest)
+      (rest-in L {Out′ = Nobody} here (subst (λ f. Held (S L) b j (putting path p st) ν f p) (sym unheld) held)
+      (λ other d e. absurd (d e)) rest)
       (lined-in L (λ other o. absurd o) lined))

@@ -36,8 +36,8 @@ use Rattle.model.proofs.Arrive.{inside, up, rises-le, init-at, tested, 
 use Rattle.model.proofs.Parts.{need-two, sum-first, Part, the-end, joins, Words, Within, FineWhole, Fine, FineAll, FinePairs}
 use Rattle.model.proofs.Conts.{Placed, placed-down, Cont, c-end, c-join, c-seq, c-var, c-chan, c-up, c-while, c-hop}
 use Rattle.model.proofs.Conts.{cont-inside, cont-low, cont-placed, cont-bound}
-use Rattle.model.proofs.Marks.{Skips, Settled, s-none, s-skip, s-if, s-par, AltCode, Opening, ParCode, Clear, Point, pt-stop, pt-assign}
-use Rattle.model.proofs.Marks.{pt-var, pt-chan, pt-taken, pt-none, pt-while, pt-in, pt-out, pt-par-place, pt-end, pt-alt}
+use Rattle.model.proofs.Marks.{Skips, Settled, s-none, s-skip, s-if, s-par, AltCode, Opening, ParCode, Clear, Point, pt-stop}
+use Rattle.model.proofs.Marks.{pt-assign, pt-var, pt-chan, pt-taken, pt-none, pt-while, pt-in, pt-out, pt-par-place, pt-end, pt-alt}
 
 -- two stretches of instructions, one behind the other
 pub seg-join : {xs ys zs : List Instruction} {i m i′ : ℕ} → Seg xs i ys m → Seg xs m zs i′ → Seg xs i (ys ++ zs) i′
@@ -155,7 +155,9 @@ module _ (S : Setting) (a : Part) where
             let near-on : hi′ ≤ whole S + S .off test = omega (arith, rises-le S i test (omega arith) (omega (arith, inside S d))) in
             let ahead : suc test ≤ suc m = omega arith in
             through-expr (before (WHILE e s) k) e (f .1) g₁ q (λ r′ val q′.
-            arrived (onto r′ q′ (pt-while x ahead (f .1) val g₂ (f .2) back near-back (subst (λ z. Cont S a hi′ vars chans k z w) p cont) near-on)) bound)
+            arrived
+            (onto r′ q′
+            (pt-while x ahead (f .1) val g₂ (f .2) back near-back (subst (λ z. Cont S a hi′ vars chans k z w) p cont) near-on)) bound)
       ]
 
       -- at the CJ of a pair: its branch is taken, or the path goes on by `other`
@@ -204,7 +206,8 @@ module _ (S : Setting) (a : Part) where
             omega (arith, rises-le S i (suc m) (omega arith) (omega (arith, inside S d))) in
             let hop : S .off (suc test) ≤ S .off (suc m) = rises-le S (suc test) (suc m) later (inside S d) in
             through-expr (before (IF all) k) e (f .0) g₁ q (λ r′ val q′.
-            pair-way all e s (pair e₂ s₂ ps) two fa (f .1) same near-on x g₂ d (omega (arith, seg-length g₃)) val q′ (eqb (value σ e) 0) refl
+            pair-way all e s (pair e₂ s₂ ps) two fa (f .1) same near-on x g₂ d
+            (omega (arith, seg-length g₃)) val q′ (eqb (value σ e) 0) refl
             (λ z none.
             falls x (inside S d) z hop (pairs-way all e₂ s₂ ps g₃ two fa (f .2) none near-next μ r′ q′)))
       ]
@@ -214,7 +217,8 @@ module _ (S : Setting) (a : Part) where
       opened : At S i (plain ajw (minus n)) → Opening S a f p n s vars chans k hi (suc i) (w - n) → Opened f p n s vars chans k hi i w
 
     open-pick : {hi i d m i′ w p n : ℕ} {f : Instruction} {s : Stmt} {vars chans : List Site} {k : List Frame} → n ≤ w
-        → a .bottom + n + 2 ≤ w → Words (S .word) p n (w - n) → hi ≤ whole S + S .off i → Seg (S .xs) i (plain ajw (minus n) ∷ initialise f n) d
+        → a .bottom + n + 2 ≤ w → Words (S .word) p n (w - n) → hi ≤ whole S + S .off i
+        → Seg (S .xs) i (plain ajw (minus n) ∷ initialise f n) d
         → Seg (S .xs) (suc i + (n + n)) (code (S .word) (w - n) (suc i + (n + n)) s) m → Seg (S .xs) m (plain ajw n ∷ []) i′
         → Cont S a hi vars chans k i′ w → Opened f p n s vars chans k hi i w
     open-pick {i} {m} {w} {p} {n} {f} {k} fits room sites near (at x g₁) g₂ (at b nil) c =
@@ -232,7 +236,8 @@ module _ (S : Setting) (a : Part) where
 
     open-parts : {hi i i′ w p n : ℕ} {f : Instruction} {s : Stmt} {vars chans : List Site} {k : List Frame}
         → Seg (S .xs) i (plain ajw (minus n) ∷ initialise f n ++ code (S .word) (w - n) (i + 1 + (n + n)) s ++ plain ajw n ∷ []) i′
-        → n ≤ w → a .bottom + n + 2 ≤ w → Words (S .word) p n (w - n) → Cont S a hi vars chans k i′ w → hi ≤ whole S + S .off i → Opened f p n s vars chans k hi i w
+        → n ≤ w → a .bottom + n + 2 ≤ w → Words (S .word) p n (w - n) → Cont S a hi vars chans k i′ w → hi ≤ whole S + S .off i
+        → Opened f p n s vars chans k hi i w
     open-parts {hi} {i} {w} {p} {n} {f} {s} {k} g fits room sites c near =
         let inits = plain ajw (minus n) ∷ initialise f n in
         let m = i + 1 + (n + n) in
@@ -305,7 +310,12 @@ module _ (S : Setting) (a : Part) where
         let mid = operation I.altwt ∷ codeDisable (S .word) (w - 1) choice (choice + 1) gs in
         let over = choice + 1 + sizeBranches gs in
         let (g₁, g₂) = cut (front ++ mid) choice
-        (omega (arith, length-append front mid, enable-length (S .word) (w - 1) gs, disable-length (S .word) (w - 1) choice (choice + 1) gs)) g in
+        (omega (
+          arith,
+          length-append front mid,
+          enable-length (S .word) (w - 1) gs,
+          disable-length (S .word) (w - 1) choice (choice + 1) gs,
+        )) g in
         let (g₃, g₄) = cut front (i + 2 + sizeEnable gs) (omega (arith, enable-length (S .word) (w - 1) gs)) g₁ in
         let p : over ≡ i′ = omega (arith, seg-length g₂, branches-length (S .word) w (choice + 1) over gs) in
         alt-pick refl g₃ g₄
@@ -332,7 +342,8 @@ module _ (S : Setting) (a : Part) where
         → Seg (S .xs) m (plain ldlp 0 ∷ operation I.endp ∷ codeEnds (S .word) (w - 2) (need s) (first + size s + 2) ss) over
         → Seg (S .xs) over (plain ajw 2 ∷ []) i′ → Fine (S .word) a vars chans w (PAR p (stmt s ss)) → Cont S a hi vars chans k i′ w
         → hi ≤ whole S + S .off i → ParOpened s ss vars chans k hi i w
-    par-pick p {s} {ss} {vars} {chans} {k} {hi} {i} {w} {first} {over} (at x₁ (at x₂ (at x₃ (at x₄ (at x₅ (at x₆ g)))))) body ends (at y nil) f c near =
+    par-pick p {s} {ss} {vars} {chans} {k} {hi} {i} {w} {first} {over}
+        (at x₁ (at x₂ (at x₃ (at x₄ (at x₅ (at x₆ g)))))) body ends (at y nil) f c near =
         let e : i + 6 ≡ suc (suc (suc (suc (suc (suc i))))) = omega arith in
         let e₂ : i + 2 ≡ suc (suc i) = omega arith in
         let q : w ≡ w - 2 + 2 = omega (arith, f .0) in
@@ -340,7 +351,8 @@ module _ (S : Setting) (a : Part) where
         par-opened (record {
           first = first;
           over = over;
-          starts = subst (λ n. Seg (S .xs) (suc (suc (suc (suc (suc (suc i)))))) (codeStarts (S .word) (need s) n (first + size s + 2) ss) first) e g;
+          starts = subst
+              (λ n. Seg (S .xs) (suc (suc (suc (suc (suc (suc i)))))) (codeStarts (S .word) (need s) n (first + size s + 2) ss) first) e g;
           branches = seg-join body ends;
           fine = f .1;
           room = omega (arith, f .0);
@@ -370,7 +382,8 @@ module _ (S : Setting) (a : Part) where
         let l₁ = starts-length (S .word) (need s) (i + 6) (first + size s + 2) ss in
         let l₂ = code-length (S .word) (w - 2) first s in
         let l₃ = ends-length (S .word) (w - 2) (need s) (first + size s + 2) ss in
-        let (g₁, g₂) = cut (front ++ body ++ ends) over (omega (arith, length-append (front ++ body) ends, length-append front body, l₁, l₂, l₃)) g in
+        let (g₁, g₂) = cut (front ++ body ++ ends) over
+        (omega (arith, length-append (front ++ body) ends, length-append front body, l₁, l₂, l₃)) g in
         let (g₃, g₄) = cut (front ++ body) (first + size s) (omega (arith, length-append front body, l₁, l₂)) g₁ in
         let (g₅, g₆) = cut front first (omega (arith, l₁)) g₃ in
         par-pick p g₅ g₆ g₄ g₂ f c near
@@ -490,7 +503,9 @@ module _ (S : Setting) (a : Part) where
             quiet (moving (minus 2)) x₁ (quiet-ajw (minus 2))
             (quiet (pushing o) x₂ (quiet-ldc o)
             (quiet (placing (S .off (suc (suc (suc i))))) x₃ quiet-ldpi
-            (arrived (onto (placing (S .off (suc (suc (suc i)))) (pushing o (moving (minus 2) r))) down (pt-par-place x₄ x₅ x₆ t place same)) bound))))
+            (arrived
+            (onto (placing (S .off (suc (suc (suc i)))) (pushing o (moving (minus 2) r))) down (pt-par-place x₄ x₅ x₆ t place same))
+            bound))))
       ]
 
       alt-comes : (gs : Guards) → Seg (S .xs) i (code (S .word) w i (ALT gs)) i′ → Fine (S .word) a vars chans w (ALT gs)

@@ -1,25 +1,20 @@
--- From where a part of a program is over, or begins, its code leads to the next significant instruction.
-use Prim.Native.Nat.{ℕ, zero, suc, _+_, _-_, _≤_, _<_}
+-- What stands where in a program's code: places rise with indices; the parts of a test, of a loop, of a pair and of an initialisation.
+use Prim.Native.Nat.{ℕ, zero, suc, _+_, _≤_, _<_}
 use native.Mathlib.Omega.{arith}
 use native.Mathlib.Numerals.{add-one}
 use native.Mathlib.Decide.{ℕ-discrete}
-use mathlib.Core.Path.{_≡_, sym, ap, _∙_}
+use mathlib.Core.Path.{_≡_, _∙_}
 use mathlib.Core.Logic.{⊎-elim}
 use mathlib.Core.List.{List, [], _∷_, _++_, List·Memᴰ, List·Memᴰ·append-cases, List·Memᴰ·eq-of-singleton, List·Memᴰ·not-nil}
 use lib.ListN.{length, length-append}
-use Rattle.model.specs.Word.{minus}
-use Rattle.model.specs.Syntax.{Site, declared, Whole, Stmt, VAR, WHILE}
-use Rattle.model.specs.Syntax.{Pairs, pair}
+use Rattle.model.specs.Syntax.{Site, declared, Whole, Stmt, WHILE, Pairs, pair}
 use Rattle.model.specs.Reader.{numbered, names}
-use Rattle.model.specs.Instruction.{ldc, cj, ajw, stl, Instruction, plain, distance}
+use Rattle.model.specs.Instruction.{cj, stl, Instruction, plain, distance}
 use Rattle.model.specs.Instruction as I
 use Rattle.model.specs.Scheme.{initialise, wholeSize, size, wholeCode, code, codePairs}
-use Rattle.model.specs.Occam.{Frame}
-use Rattle.model.specs.Demand.{liveIn}
-use Rattle.model.proofs.Expr.{Seg, nil, at, cut, seg-length}
+use Rattle.model.proofs.Expr.{Seg, nil, at, cut}
 use Rattle.model.proofs.Sizes.{code-length, expr-length, initialise-length}
-use Rattle.model.proofs.Points.{Fine, Setting, whole, getElem-inside, At, Cont, c-end, c-seq, c-var}
-use Rattle.model.proofs.Points.{c-while, c-hop, Opening}
+use Rattle.model.proofs.Points.{Setting, getElem-inside, At}
 
 -- the names of a VAR
 pub data Named (p n : ℕ) (x : Site) : Type 0 where
@@ -47,57 +42,6 @@ module _ (S : Setting) where
       by : Dec (i ≡ k) → S .off i ≤ S .off k
       by (yes e) = rw e (omega arith)
       by (no e) = omega (arith, S .rises i k (omega arith) l)
-
-  pub cont-inside : {hi i w : ℕ} {k : List Frame} → Cont S hi k i w → i ≤ length (S .xs)
-  cont-inside c-end = omega arith
-  cont-inside (c-seq g f c) = omega (arith, seg-length g, cont-inside c)
-  cont-inside (c-var e h c) = omega (arith, cont-inside c)
-  cont-inside (c-while g f n b c) = omega (arith, cont-inside c)
-  cont-inside (c-hop e h l c) = omega (arith, cont-inside c)
-
-  pub cont-low : {hi i w : ℕ} {k : List Frame} → Cont S hi k i w → w ≤ S .top
-  cont-low c-end = omega arith
-  cont-low (c-seq g f c) = cont-low c
-  cont-low (c-var e h c) = omega (arith, cont-low c)
-  cont-low (c-while g f n b c) = cont-low c
-  cont-low (c-hop e h l c) = cont-low c
-
-  -- the words of live variables are at and above the workspace
-  pub live-words : {hi i w : ℕ} {k : List Frame} → Cont S hi k i w → (x : Site) → List·Memᴰ x (liveIn k)
-      → (w ≤ S .word x) × (S .word x < S .top)
-  live-words c-end x m = absurd (List·Memᴰ·not-nil m)
-  live-words (c-seq g f c) x m = live-words c x m
-  live-words (c-var {w} {p} {n} {k} e h c) x m =
-      ⊎-elim
-      (λ m. elim (named-in p n {x = x} m) [ named j b q ↦ rw q (omega (arith, h j b), omega (arith, h j b, cont-low c)) ])
-      (λ m. let d = live-words c x m in (omega arith, d .1))
-      (List·Memᴰ·append-cases (names p n) m)
-  live-words (c-while g f n b c) x m = live-words c x m
-  live-words (c-hop e h l c) x m = live-words c x m
-
-  -- live variables have words of their own
-  pub live-distinct : {hi i w : ℕ} {k : List Frame} → Cont S hi k i w → (x y : Site) → List·Memᴰ x (liveIn k) → List·Memᴰ y (liveIn k)
-      → S .word x ≡ S .word y → x ≡ y
-  live-distinct c-end x y m l e = absurd (List·Memᴰ·not-nil m)
-  live-distinct (c-seq g f c) x y m l e = live-distinct c x y m l e
-  live-distinct (c-var {w} {p} {n} {k} a h c) x y m l e =
-      ⊎-elim
-      (λ m. elim (named-in p n {x = x} m) [
-        | named i b q ↦ ⊎-elim
-            (λ l. elim (named-in p n {x = y} l) [
-              | named j d r ↦
-                  let z : i ≡ j = omega (arith, h i b, h j d, ap (S .word) q, ap (S .word) r) in q ∙ ap (declared p) z ∙ sym r
-            ])
-            (λ l. absurd (omega (arith, h i b, ap (S .word) q, live-words c y l .0)))
-            (List·Memᴰ·append-cases (names p n) l)
-      ])
-      (λ m. ⊎-elim
-      (λ l. elim (named-in p n {x = y} l) [ named j d r ↦ absurd (omega (arith, h j d, ap (S .word) r, live-words c x m .0)) ])
-      (λ l. live-distinct c x y m l e)
-      (List·Memᴰ·append-cases (names p n) l))
-      (List·Memᴰ·append-cases (names p n) m)
-  live-distinct (c-while g f n b c) x y m l e = live-distinct c x y m l e
-  live-distinct (c-hop a h l′ c) x y m l e = live-distinct c x y m l e
 
   -- a condition, CJ past the J, a statement, and a J to t: in a WHILE, and for each pair of an IF
   pub data Tested (w i t i′ : ℕ) (e : Whole) (s : Stmt) (zs : ℕ → List Instruction) : Type 0 where
@@ -141,21 +85,6 @@ module _ (S : Setting) where
   unfolding codePairs
   pair-parts {w} {over} e s ps g = test-parts e s (λ m. codePairs (S .word) w m over ps) g
 
-  pub cont-bound : {hi i w : ℕ} {k : List Frame} → Cont S hi k i w → S .off i ≤ hi
-  cont-bound c-end = omega arith
-  cont-bound (c-seq {i} {i′} g f c) = omega (arith, cont-bound c, rises-le i i′ (omega (arith, seg-length g)) (cont-inside c))
-  cont-bound (c-var {i} e h c) = omega (arith, cont-bound c, up e)
-  cont-bound (c-while {i} {b} {e} {s} g f n l c) = elim (loop-parts e s g) [
-    | tested m g₁ a g₂ d g₃ ↦
-        omega (
-          arith,
-          l,
-          S .rises i (suc i) (omega arith) (cont-inside c),
-          rises-le b (suc (b + wholeSize e)) (omega arith) (omega (arith, seg-length g₂, seg-length g₃, cont-inside c)),
-        )
-  ]
-  cont-bound (c-hop {i} {t} e h l c) = omega (arith, cont-bound c, rises-le (suc i) t l (cont-inside c), up e)
-
   -- the words of a VAR's initialisation
   pub init-at : {c c′ : ℕ} (f : Instruction) (n : ℕ) → Seg (S .xs) c (initialise f n) c′ → (j : ℕ) → j < n
       → At S (c + (j + j)) f × At S (suc (c + (j + j))) (plain stl j)
@@ -172,37 +101,3 @@ module _ (S : Setting) where
           → Seg (S .xs) (c + (n + n)) (f ∷ plain stl n ∷ []) c′ → At S (c + (j + j)) f × At S (suc (c + (j + j))) (plain stl j)
       by (yes e) rec t = rw e (two t)
       by (no e) rec t = rec (omega arith)
-
-  pub data Opened (p n : ℕ) (s : Stmt) (k : List Frame) (hi i w : ℕ) : Type 0 where
-    opened : At S i (plain ajw (minus n)) → Opening S p n s k hi (suc i) (w - n) → Opened p n s k hi i w
-
-  var-pick : {hi i d m i′ w p n : ℕ} {s : Stmt} {k : List Frame} → Fine (S .word) (liveIn k) w (VAR p n s) → hi ≤ whole S + S .off i
-      → Seg (S .xs) i (plain ajw (minus n) ∷ initialise (plain ldc 0) n) d
-      → Seg (S .xs) (suc i + (n + n)) (code (S .word) (w - n) (suc i + (n + n)) s) m → Seg (S .xs) m (plain ajw n ∷ []) i′
-      → Cont S hi k i′ w
-      → Opened p n s k hi i w
-  var-pick {i} {m} {w} {p} {n} {k} f near (at a g₁) g₂ (at b nil) c =
-      let q : w ≡ w - n + n = omega (arith, f .1) in
-      opened a (record {
-        inits = init-at (plain ldc 0) n g₁;
-        close = m;
-        body = g₂;
-        closes = b;
-        sites = f .2;
-        fine = f .3;
-        after = rw q at c;
-        near = omega (arith, up a);
-      })
-
-  pub var-parts : {hi i i′ w p n : ℕ} {s : Stmt} {k : List Frame} → Seg (S .xs) i (code (S .word) w i (VAR p n s)) i′
-      → Fine (S .word) (liveIn k) w (VAR p n s) → Cont S hi k i′ w → hi ≤ whole S + S .off i → Opened p n s k hi i w
-  unfolding code
-  var-parts {hi} {i} {w} {p} {n} {s} {k} g f c near =
-      let inits = plain ajw (minus n) ∷ initialise (plain ldc 0) n in
-      let m = i + 1 + (n + n) in
-      let body = code (S .word) (w - n) m s in
-      let (g₁, g₂) = cut (inits ++ body) (m + size s)
-      (omega (arith, length-append inits body, initialise-length (plain ldc 0) n, code-length (S .word) (w - n) m s)) g in
-      let (g₃, g₄) = cut inits m (omega (arith, initialise-length (plain ldc 0) n)) g₁ in
-      let e : i + 1 + (n + n) ≡ suc i + (n + n) = omega arith in
-      var-pick f near g₃ (rw e at g₄) (rw e at g₂) c

@@ -1,12 +1,11 @@
 -- Assignments, the tests of IF and WHILE, STOP.
-use Prim.Native.Nat.{ℕ, zero, suc, _+_, _-_, _^_, _≤_, _<_}
+use Prim.Native.Nat.{ℕ, suc, _+_, _^_, _≤_, _<_}
 use native.Mathlib.Omega.{arith}
-use mathlib.Core.Path.{_≡_, refl, sym, ap, _∙_, subst}
-use mathlib.Core.Logic.{_≢_, _⊎_, inl, inr, ⊎-elim}
-use mathlib.Core.Bool.{Bool, true, false}
-use mathlib.Core.List.{List, [], _∷_, _++_, List·Memᴰ}
-use mathlib.Core.Option.{Option, none, some}
-use lib.ListN.{length, getD}
+use mathlib.Core.Path.{_≡_, refl, sym, _∙_, subst}
+use mathlib.Core.Logic.{_≢_}
+use mathlib.Core.Bool.{true}
+use mathlib.Core.List.{List, [], _∷_, List·Memᴰ}
+use lib.ListN.{length}
 use lib.Dec.{eqb}
 use borrow.Author.Tests.{eqb-true, eqb-false}
 use Rattle.model.specs.Word.{low, less}
@@ -15,34 +14,32 @@ use Rattle.model.specs.Instruction.{Instruction, plain, distance, operat
 use Rattle.model.specs.Instruction as I
 use Rattle.model.specs.Code.{functionIn, operandIn}
 use Rattle.model.specs.Scheme.{code}
-use Rattle.model.specs.Machine.{World, done, withCpu, goto, resumeWord}
-use Rattle.model.specs.Execute.{execute, pop}
-use Rattle.model.specs.Occam.{Store, value, isTrue, store, Frame, inWhile, Process, before, atOutput, atStop, resume, begin, go, firstTrue}
+use Rattle.model.specs.Machine.{World, withCpu, goto, resumeWord}
+use Rattle.model.specs.Execute.{pop}
+use Rattle.model.specs.Occam.{value, store, Frame, inWhile, Process, before, atStop, resume, begin, go, firstTrue}
 use Rattle.model.specs.Occam.{framesOf, put, State, Step, begins}
 use Rattle.model.specs.Demand.{liveIn}
 use Rattle.model.proofs.Cases.{never, by-bool}
-use Rattle.model.proofs.Ways.{Regs, regsOf, Mem}
+use Rattle.model.proofs.Ways.{Mem}
 use Rattle.model.proofs.Expr.{Seg, seg-length}
-use Rattle.model.proofs.Points.{Setting, whole, At}
-use Rattle.model.proofs.Arrive.{inside, up, rises-le}
+use Rattle.model.proofs.Points.{whole}
+use Rattle.model.proofs.Arrive.{inside, rises-le}
 use Rattle.model.proofs.Paths.{Leaf, l-stop, leaf-resume, leaf-begin, live-resume, live-begin, silent-resume, silent-begin}
-use Rattle.model.proofs.Parts.{Part, FineWhole, Fine, FinePairs}
+use Rattle.model.proofs.Parts.{Part, Fine}
 use Rattle.model.proofs.Conts.{Placed, Cont, cont-inside, cont-placed}
 use Rattle.model.proofs.Marks.{Own}
 use Rattle.model.proofs.Arrivals.{Comes, enters, arrives}
 use Rattle.model.proofs.Trees.{Info, Sits, Tree, bytesLeft}
-use Rattle.model.proofs.Leaves.{upd, Unmarked, Held, h-stop}
-use Rattle.model.proofs.Effects.{cpuOf, sizeOf, stored, exec-stl, exec-cj-jumps, exec-cj-goes-on}
+use Rattle.model.proofs.Leaves.{upd, Unmarked, h-stop}
+use Rattle.model.proofs.Effects.{cpuOf, stored, exec-stl, exec-cj-jumps, exec-cj-goes-on}
 use Rattle.model.proofs.Acts.{exec-stopp-general}
-use Rattle.model.proofs.Kernel.{Loaded, S, root, size, LeafAt, Rest, Lined, Real}
-use Rattle.model.proofs.Writes.{upd-same, upd-other, changed, after-leaf, after-lined, node, part-small, sits-at, write-own, write-var, left-out}
-use Rattle.model.proofs.Puts.{putting, treeThen, here-then, lined-then, rest-then}
+use Rattle.model.proofs.Kernel.{Loaded, S, root, size, LeafAt, Rest, Real}
+use Rattle.model.proofs.Writes.{upd-other, changed, after-leaf, after-lined, node, part-small, write-own, write-var, left-out}
+use Rattle.model.proofs.Puts.{putting, rest-then}
 use Rattle.model.proofs.Grounds.{var-in, small-size, sound-at}
-use Rattle.model.proofs.Running.{Only, Nobody, off-small, Did, Executes, executes, Acting}
-use Rattle.model.proofs.Moving.{rest-in, lined-in}
-use Rattle.model.proofs.Reals.{size-is, mirrored, real-state, real-cpu, real-stored, link-own, link-var}
-use Rattle.model.proofs.Sched.{Stands, lets-go}
-use Rattle.model.proofs.Finish.{step-lets-go, silent}
+use Rattle.model.proofs.Running.{Only, Did, Executes, executes, Acting}
+use Rattle.model.proofs.Reals.{size-is, real-state, real-cpu, real-stored, link-own, link-var}
+use Rattle.model.proofs.Finish.{silent}
 use Rattle.model.proofs.Advance.{Silent, advances, leaves-as}
 use Rattle.model.proofs.Quiets.{target}
 
@@ -52,8 +49,10 @@ before-silent s k c v f e = never (cc)
 
 module _ (L : Loaded) where
   -- STL: the assignment
-  module _ {s : World} {st : State} {μ : Mem} {t : Tree (S L) (root L) (st .process)} {path : List ℕ} {y : Site} {e : Whole} {k : List Frame}
-      {b : Part} {i : Info} {ws : List ℕ} {at hi h : ℕ} (A : Acting L s st μ t path (before (assign y e) k) b i (Only path) ws at hi) (o : ℕ)
+  module _ {s : World} {st : State} {μ : Mem} {t : Tree (S L) (root L) (st .process)} {path : List ℕ} {y : Site}
+      {e : Whole} {k : List Frame}
+      {b : Part} {i : Info} {ws : List ℕ} {at hi h : ℕ}
+      (A : Acting L s st μ t path (before (assign y e) k) b i (Only path) ws at hi) (o : ℕ)
       (named : low (cpuOf s .workspace + o) ≡ S L .word y) (f : Fine (S L .word) b (i .vars) (i .chans) (cpuOf s .workspace) (assign y e))
       (v : cpuOf s .a ≡ value (st .store) e) (small : value (st .store) e < 2 ^ 32)
       (c : Cont (S L) b h (i .vars) (i .chans) k (suc at) (cpuOf s .workspace)) (near : h ≤ whole (S L) + L .off at)
@@ -135,12 +134,14 @@ module _ (L : Loaded) where
     unfolding functionIn operandIn
     goes-on v ep es l live quiet c placed near =
         let r = pop (cpuOf s) in
-        steps-on (withCpu r s) _ (executes (exec-cj-goes-on _ s v)) refl (real-cpu L r refl refl refl (A .real)) (A .run) (A .operand) (A .placed)
+        steps-on (withCpu r s) _ (executes (exec-cj-goes-on _ s v)) refl (real-cpu L r refl refl refl (A .real))
+        (A .run) (A .operand) (A .placed)
         refl (A .inside) ep es l live quiet c placed near
 
     -- CJ with a false condition: a jump
     goes-to : {g h : ℕ} {p : Process} → g ≤ length (S L .xs) → cpuOf s .a ≡ 0 → go d k (st .store) .process ≡ p
-        → go d k (st .store) .store ≡ st .store → Leaf p → ((x : Site) → List·Memᴰ x (liveIn (framesOf p)) → List·Memᴰ x (i .vars)) → Silent p
+        → go d k (st .store) .store ≡ st .store → Leaf p
+        → ((x : Site) → List·Memᴰ x (liveIn (framesOf p)) → List·Memᴰ x (i .vars)) → Silent p
         → Comes (S L) b (st .store) (i .vars) (i .chans) h p g (cpuOf s .workspace)
         → Placed (S L) b (cpuOf s .workspace) (i .vars) (i .chans) → h ≤ whole (S L) + L .off g
         → Did L (Executes L (distance I.cj g at) s) s st (bytesLeft (S L) t)
@@ -239,7 +240,8 @@ module _ (L : Loaded) where
     pub did-stop : Did L (Executes L (operation I.stopp) s) s st (bytesLeft (S L) t)
     unfolding go functionIn operandIn
     did-stop =
-        let real = real-stored L v (cpuOf s .place) (omega (arith, v-high, high)) (link-own L (A .lined) (A .leaf) refl v v-low v-high) (A .real) in
+        let real = real-stored L v (cpuOf s .place) (omega (arith, v-high, high))
+        (link-own L (A .lined) (A .leaf) refl v v-low v-high) (A .real) in
         let j : Info = record { vars = i .vars; chans = i .chans; w = cpuOf s .workspace; left = whole (S L) } in
         let sits : Sits (S L) b j = record { placed = placed; few = omega arith } in
         leaves-as L real (A .leaf) (A .lined) (atStop k) l-stop j sits

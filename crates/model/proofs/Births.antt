@@ -1,24 +1,22 @@
 -- STARTP: the first branch of a PAR starts the next one.
-use Prim.Native.Nat.{ℕ, zero, suc, _+_, _-_, _^_, _≤_, _<_}
+use Prim.Native.Nat.{ℕ, zero, suc, _+_, _-_, _≤_, _<_}
 use native.Mathlib.Omega.{arith}
 use mathlib.Core.Path.{_≡_, refl, sym, ap, _∙_, subst}
-use mathlib.Core.Logic.{_≢_, _⊎_, inl, inr, ⊎-elim}
-use mathlib.Core.Bool.{Bool, true, false}
+use mathlib.Core.Logic.{_≢_, inl, inr}
+use mathlib.Core.Bool.{true}
 use mathlib.Core.List.{List, [], _∷_, _++_, List·Memᴰ}
-use mathlib.Core.Option.{Option, none, some}
-use lib.ListN.{length, getD}
+use lib.ListN.{length}
 use Rattle.model.specs.Word.{low}
-use Rattle.model.specs.Syntax.{Site, Stmt, Stmts, noStmt, stmt}
+use Rattle.model.specs.Syntax.{Stmt, Stmts, noStmt, stmt}
 use Rattle.model.specs.Counts.{need}
 use Rattle.model.specs.Scheme.{howMany, size, codeStarts}
-use Rattle.model.specs.Instruction.{Instruction, operation}
+use Rattle.model.specs.Instruction.{operation}
 use Rattle.model.specs.Instruction as I
 use Rattle.model.specs.Code.{functionIn, operandIn}
 use Rattle.model.specs.Machine.{World, resumeWord}
 use Rattle.model.specs.Occam.{Process, begin, State}
-use Rattle.model.proofs.Ways.{Regs, regsOf, Mem}
+use Rattle.model.proofs.Ways.{regsOf, Mem}
 use Rattle.model.proofs.Expr.{Seg, seg-length}
-use Rattle.model.proofs.Points.{Setting, whole}
 use Rattle.model.proofs.Arrive.{rises-le}
 use Rattle.model.proofs.Paths.{apart-under, apart-differ}
 use Rattle.model.proofs.Paths as P
@@ -30,18 +28,18 @@ use Rattle.model.proofs.Onwards.{start-path}
 use Rattle.model.proofs.Trees.{Info, newInfo, Tree, bytesLeft}
 use Rattle.model.proofs.Leaves.{upd, Unmarked, Held, h-queued}
 use Rattle.model.proofs.Stays.{unmarked-stays}
-use Rattle.model.proofs.Effects.{cpuOf, sizeOf, stored}
+use Rattle.model.proofs.Effects.{cpuOf, stored}
 use Rattle.model.proofs.Acts.{exec-startp}
 use Rattle.model.proofs.Queues.{joined}
 use Rattle.model.proofs.Kernel.{Loaded, S, root, LeafAt, Rest, Lined, Real}
 use Rattle.model.proofs.Writes.{upd-same, upd-other, part-small, sits-at}
 use Rattle.model.proofs.Grounds.{small-size, sound-at}
-use Rattle.model.proofs.Traces.{Trace, t-none}
-use Rattle.model.proofs.Running.{Only, Births, Later, l-here, l-next, Unborn, unborn, Starting, fresh, Birth, NowStarts, Inv, starts, Did}
+use Rattle.model.proofs.Traces.{t-none}
+use Rattle.model.proofs.Running.{Only, Births, Later, l-here, l-next, unborn, Starting, fresh, Birth, starts, Did}
 use Rattle.model.proofs.Running.{came, Executes, executes, Acting}
 use Rattle.model.proofs.Moving.{relaid, relabelled, relabel}
 use Rattle.model.proofs.Reals.{size-is}
-use Rattle.model.proofs.Sched.{Stands, Settles, settles, settle, wakes, Woken, linkedTo}
+use Rattle.model.proofs.Sched.{settles, settle, wakes, Woken, linkedTo}
 use Rattle.model.proofs.Finish.{silent}
 use Rattle.model.proofs.Meets.{rest-below, real-below, clean-below, chan-above}
 
@@ -55,7 +53,8 @@ later-few (l-next {ss = stmt x xs} h) = omega (arith, later-few h)
 pub branch-differ : (par : List ℕ) {m n : ℕ} → m ≢ n → par ++ m ∷ [] ≢ par ++ n ∷ []
 branch-differ par d = apart-differ (apart-under par (P.here d))
 
-module _ (L : Loaded) {s : World} {st : State} {μ : Mem} {t : Tree (S L) (root L) (st .process)} {path : List ℕ} {q : Process} {b : Part} {i : Info}
+module _ (L : Loaded) {s : World} {st : State} {μ : Mem} {t : Tree (S L) (root L) (st .process)} {path : List ℕ}
+    {q : Process} {b : Part} {i : Info}
     {ws : List ℕ} {at hi : ℕ} (B : Births) (A : Acting L s st μ t path q b i (Starting path B) ws at hi)
     (point : StartPoint (S L) (B .s) (B .ss) (B .d) (B .b) (B .first) (B .w) at (regsOf (cpuOf s)))
     (first-branch : path ≡ B .par ++ 0 ∷ []) (next-one : 1 ≤ B .next) (same-w : i .w ≡ B .w)
@@ -110,7 +109,9 @@ module _ (L : Loaded) {s : World} {st : State} {μ : Mem} {t : Tree (S L) (root 
   -- channels that are in scope for the child keep their words
   clean-child : (c : Part) (j : Info) → j .chans ≡ B .chans → Unmarked (S L) c j st μ → Unmarked (S L) c j st μ₁
   clean-child c j same h a m o =
-      h a m (subst (Own c) (upd-other μ v (L .off (B .b)) (S L .word a) (chan-above L placed v below-v a (subst (λ z. List·Memᴰ a z) same m))) o)
+      h a m
+      (subst (Own c) (upd-other μ v (L .off (B .b)) (S L .word a) (chan-above L placed v below-v a (subst (λ z. List·Memᴰ a z) same m)))
+      o)
 
   clean₁ : Unmarked (S L) b i st μ₁
   clean₁ = clean-below L i st st μ (sits-at L (A .leaf) .placed) v (L .off (B .b)) below-own clean
@@ -131,7 +132,8 @@ module _ (L : Loaded) {s : World} {st : State} {μ : Mem} {t : Tree (S L) (root 
   module _ {u : Tree (S L) (root L) (st .process)} (leaf : LeafAt L st u path q b (relaid (i .w) (i .left - 1) i))
       (rest : Rest L st μ₁ u (Starting path B) ws) (lines : Lined L st u (Starting path B) ws)
       (bytes : bytesLeft (S L) u + i .left ≡ bytesLeft (S L) t + (i .left - 1))
-      (others : (other : List ℕ) (r : Process) (c : Part) (j : Info) → path ≢ other → LeafAt L st t other r c j → LeafAt L st u other r c j) where
+      (others : (other : List ℕ) (r : Process) (c : Part) (j : Info) → path ≢ other → LeafAt L st t other r c j
+      → LeafAt L st u other r c j) where
     child-leaf : LeafAt L st u child (begin (B .s) []) part info
     child-leaf = others child (begin (B .s) []) part info apart (birth .leaf)
 
@@ -164,7 +166,9 @@ module _ (L : Loaded) {s : World} {st : State} {μ : Mem} {t : Tree (S L) (root 
       unfolding codeStarts
       last-started =
           let first-is : B .first ≡ suc at =
-          seg-length (subst (λ z. Seg (S L .xs) (suc at) (codeStarts (S L .word) (B .d + need (B .s)) (suc at) (B .b + size (B .s) + 2) z) (B .first)) e
+          seg-length
+          (subst
+          (λ z. Seg (S L .xs) (suc at) (codeStarts (S L .word) (B .d + need (B .s)) (suc at) (B .b + size (B .s) + 2) z) (B .first)) e
           (point .rest)) ∙ omega arith in
           let n = i .left - 1 in
           let calm = last-woken .calm {skip = 0} leaf refl in
@@ -247,7 +251,8 @@ module _ (L : Loaded) {s : World} {st : State} {μ : Mem} {t : Tree (S L) (root 
             inner = y .inner;
             room = y .room;
             unmarked = still-clean leaf₃ (inr (unborn k few refl))
-                (clean-child (partOf (B .vars) (B .chans) (B .w - d) (joins d) x) (newInfo (S L) (B .vars) (B .chans) (B .w - d)) refl (y .unmarked));
+                (clean-child (partOf (B .vars) (B .chans) (B .w - d) (joins d) x)
+                (newInfo (S L) (B .vars) (B .chans) (B .w - d)) refl (y .unmarked));
           }
 
       next-started : Did L (Executes L (operation I.startp) s) s st (bytesLeft (S L) t)
@@ -275,14 +280,16 @@ module _ (L : Loaded) {s : World} {st : State} {μ : Mem} {t : Tree (S L) (root 
 
   pub did-start : Did L (Executes L (operation I.startp) s) s st (bytesLeft (S L) t)
   did-start =
-      elim (relabel L (A .leaf) (inl refl) (i .w) (i .left - 1) (sits-at L (A .leaf) .placed) (omega (arith, sits-at L (A .leaf) .few)) rest₁ (A .lined)) [
+      elim (relabel L (A .leaf) (inl refl) (i .w) (i .left - 1) (sits-at L (A .leaf) .placed)
+      (omega (arith, sits-at L (A .leaf) .few)) rest₁ (A .lined)) [
         | relabelled u leaf rest lines bytes others ↦ by leaf rest lines bytes others (B .ss) refl
       ]
     where
       by : {u : Tree (S L) (root L) (st .process)} (leaf : LeafAt L st u path q b (relaid (i .w) (i .left - 1) i))
           (rest : Rest L st μ₁ u (Starting path B) ws) (lines : Lined L st u (Starting path B) ws)
           (bytes : bytesLeft (S L) u + i .left ≡ bytesLeft (S L) t + (i .left - 1))
-          (others : (other : List ℕ) (r : Process) (c : Part) (j : Info) → path ≢ other → LeafAt L st t other r c j → LeafAt L st u other r c j)
+          (others : (other : List ℕ) (r : Process) (c : Part) (j : Info) → path ≢ other → LeafAt L st t other r c j
+          → LeafAt L st u other r c j)
           (ss : Stmts) → B .ss ≡ ss → Did L (Executes L (operation I.startp) s) s st (bytesLeft (S L) t)
       by leaf rest lines bytes others noStmt e = last-started leaf rest lines bytes others e
       by leaf rest lines bytes others (stmt r rs) e = next-started leaf rest lines bytes others r rs e

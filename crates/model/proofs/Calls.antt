@@ -1,34 +1,33 @@
 -- Every list of calls: runs, offers and takes, with whatever they are lent.
-use Prim.Native.Nat.{ℕ, zero, suc, _+_, _-_, _*_, _^_, _≤_, _<_}
+use Prim.Native.Nat.{ℕ, zero, suc, _-_, _^_, _≤_, _<_}
 use native.Mathlib.Omega.{arith}
 use mathlib.Core.Path.{_≡_, refl, sym, ap, _∙_, subst}
-use mathlib.Core.Logic.{_⊎_, inl, inr, ⊎-elim}
+use mathlib.Core.Logic.{_⊎_, inl, inr}
 use mathlib.Core.Bool.{Bool, true, false, _||_, _&&_}
 use mathlib.Core.List.{List, [], _∷_, _++_, map, append-nil, append-assoc}
-use mathlib.Core.Option.{Option, none, some}
+use mathlib.Core.Option.{none, some}
 use lib.ListN as Ls
 use lib.ListN.{length, getD, drop, length-append, length-take, take-append-drop, List·getD-append}
 use lib.Dec.{ltb}
-use borrow.Author.Tests.{ltb-true, ltb-false, lt-ltb}
+use borrow.Author.Tests.{ltb-true, ltb-false}
 use Rattle.model.specs.Word.{low}
 use Rattle.model.specs.Syntax.{outputOf}
 use Rattle.model.specs.Accept.{limit}
-use Rattle.model.specs.Machine.{Talk, World, Result, done, memorySize}
+use Rattle.model.specs.Machine.{World, done, memorySize}
 use Rattle.model.specs.Run.{After, unchanged, worldOf, shortMemory, runFrom, run}
-use Rattle.model.specs.Outside.{offering, taking, offered, offerUnless, took, takeUnless, offer, take}
-use Rattle.model.specs.Occam.{State, Communication, Event, offers, takes, Sender, Outside, held, nobody}
+use Rattle.model.specs.Outside.{taking, offered, offerUnless, took, takeUnless, offer, take}
+use Rattle.model.specs.Occam.{State, Communication, Event, offers, takes, Sender, held, nobody}
 use Rattle.model.specs.Demand.{Segment, outside, talkOf}
-use Rattle.model.specs.History.{Call, callRun, callOffer, callTake, Moment, quietly, bytes, during, call, history, offerEvent, takeEvent}
+use Rattle.model.specs.History.{Call, callRun, callOffer, callTake, Moment, quietly, bytes, during, call, history, offerEvent}
+use Rattle.model.specs.History.{takeEvent}
 use Rattle.model.specs.declared.Machine.{Machine}
 use Rattle.model.specs.declared.Setup.{Setup}
 use Rattle.model.specs.declared.Kept.the-variants.{Nothing as NoFault}
-use Rattle.model.specs.declared.OfferAnswer.{OfferAnswer}
 use Rattle.model.specs.declared.OfferAnswer.the-variants.{Offered, Short as OfferShort, NoChannel as OfferNoChannel, Held}
-use Rattle.model.specs.declared.TakeAnswer.{TakeAnswer}
 use Rattle.model.specs.declared.TakeAnswer.the-variants.{Taken, Nothing, Short as TakeShort, NoChannel as TakeNoChannel}
 use Rattle.model.proofs.Cases.{never, by-bool}
 use Rattle.model.proofs.Most.{most}
-use Rattle.model.proofs.Kernel.{Loaded, S, setup, size}
+use Rattle.model.proofs.Kernel.{Loaded, setup, size}
 use Rattle.model.proofs.Traces.{Trace, t-none, t-event, trace-reach, trace-most}
 use Rattle.model.proofs.Running.{Inv}
 use Rattle.model.proofs.Finish.{inv-setup}
@@ -97,7 +96,8 @@ module _ (L : Loaded) where
       → Chain (L .prog) (bound L) (quietly m memory′ ∷ []) st ([] ∷ []) st n n
   same-moment {m} {memory} {st} {n} memory′ e inv =
       let same : n ≤ n = omega arith in
-      chain-other (follows L {s = worldOf m memory} [] (quietly m memory′) refl (e ∙ sym (append-nil memory)) refl refl t-none inv) refl refl same
+      chain-other (follows L {s = worldOf m memory} [] (quietly m memory′) refl (e ∙ sym (append-nil memory)) refl refl t-none inv) refl
+      refl same
       chain-nil
 
   -- what a call comes to
@@ -109,11 +109,13 @@ module _ (L : Loaded) where
   data Heard {Answer : Type 0} (said : Answer → List Event) (rest : List ℕ) (st : State) (n : ℕ) (r : After Answer) : Type 0 where
     heard : (gs : List Segment) (s : Sim (r .machine) (r .memory ++ rest))
         → Chain (L .prog) (bound L)
-        (record { instruction = false; machine = r .machine; memory = r .memory ++ rest; talk = r .talk; events = said (r .answer) } ∷ []) st gs
+        (record { instruction = false; machine = r .machine; memory = r .memory ++ rest; talk = r .talk; events = said (r .answer) } ∷ [])
+        st gs
         (stateOf s) n (leftOf s)
         → Heard said rest st n r
 
-  module _ {m : Machine} {memory : List ℕ} {st : State} {n : ℕ} (inv : Inv L (worldOf m memory) st n) (few : most (st .process) ≤ limit) where
+  module _ {m : Machine} {memory : List ℕ} {st : State} {n : ℕ} (inv : Inv L (worldOf m memory) st n)
+      (few : most (st .process) ≤ limit) where
     ok : m .fault ≡ NoFault
     ok = inv-no-fault L inv
 
@@ -135,12 +137,15 @@ module _ (L : Loaded) where
         let same : n ≤ n = omega arith in
         subst (λ y. Heard said rest st n y) (sym z)
         (heard ([] ∷ []) (sim st n kept few)
-        (chain-other (follows L {s = worldOf m (part ++ rest)} [] _ refl (sym (append-nil (part ++ rest))) refl q t-none kept) refl refl same
+        (chain-other (follows L {s = worldOf m (part ++ rest)} [] _ refl (sym (append-nil (part ++ rest))) refl q t-none kept) refl refl
+        same
         chain-nil))
 
     -- what Occam does with an offer or a take, and the machine over a part of the memory
-    told : {Answer : Type 0} {said : Answer → List Event} (rest : List ℕ) (u : World) {st′ : State} {k : ℕ} {cs : List Communication} {e : Event}
-        (g : Segment) (a : Answer) → Trace st g st′ cs (e ∷ []) → u .talk ≡ map (talkOf (L .prog)) cs → said a ≡ e ∷ [] → Inv L u st′ k → k ≤ n
+    told : {Answer : Type 0} {said : Answer → List Event} (rest : List ℕ) (u : World) {st′ : State} {k : ℕ}
+        {cs : List Communication} {e : Event}
+        (g : Segment) (a : Answer) → Trace st g st′ cs (e ∷ []) → u .talk ≡ map (talkOf (L .prog)) cs
+        → said a ≡ e ∷ [] → Inv L u st′ k → k ≤ n
         → {r : After Answer} → r ≡ record { answer = a; machine = u .machine; memory = u .memory; talk = u .talk } → Heard said rest st n r
     told {said = said} rest u {st′} {k} g a ms talk q inv′ le {r} z =
         let fits : size L ≤ length (u .memory ++ rest) = omega (arith, inv-room L inv′, length-append (u .memory) rest) in
@@ -169,7 +174,11 @@ module _ (L : Loaded) where
         where
           below : k < L .prog .inputs
           below =
-              omega (arith, ltb-true k (m .setup .inputs) (and-left (ltb k (m .setup .inputs)) (ltb k 8) c), ap (λ (u : Setup). u .inputs) set)
+              omega (
+                arith,
+                ltb-true k (m .setup .inputs) (and-left (ltb k (m .setup .inputs)) (ltb k 8) c),
+                ap (λ (u : Setup). u .inputs) set,
+              )
 
           part-inv : Inv L (worldOf m part) st n
           part-inv = lent-part part rest e b
@@ -183,7 +192,8 @@ module _ (L : Loaded) where
 
           first : getD (m .held) k false ≡ false → Heard (offerEvent k v) rest st n (offer m part k v)
           first h = elim (offers-does L part-inv k v below small h) [
-            | answers u g d ms talk inv′ le ↦ told rest u g Offered ms talk refl inv′ le (offer-open k v b ∙ rw (c, h) (ap (λ r. offered r m part) d))
+            | answers u g d ms talk inv′ le ↦
+                told rest u g Offered ms talk refl inv′ le (offer-open k v b ∙ rw (c, h) (ap (λ r. offered r m part) d))
           ]
 
       call-offers : (k v : ℕ) → v < 2 ^ 32 → Heard (offerEvent k v) rest st n (offer m part k v)
@@ -208,15 +218,18 @@ module _ (L : Loaded) where
               → Heard (takeEvent k) rest st n (take m part k)
           by (inl (d, nobody-there)) =
               let same : n ≤ n = omega arith in
-              told rest (worldOf m part) (outside (takes k Nothing) [] st ∷ []) Nothing (t-event (nobody nobody-there) t-none) refl refl part-inv same
+              told rest (worldOf m part) (outside (takes k Nothing) [] st ∷ []) Nothing
+              (t-event (nobody nobody-there) t-none) refl refl part-inv same
               (take-open k b ∙ rw c (ap (λ r. took r m part) d))
-          by (inr (v, answers u g d ms talk inv′ le)) = told rest u g (Taken v) ms talk refl inv′ le (take-open k b ∙ rw c (ap (λ r. took r m part) d))
+          by (inr (v, answers u g d ms talk inv′ le)) =
+              told rest u g (Taken v) ms talk refl inv′ le (take-open k b ∙ rw c (ap (λ r. took r m part) d))
 
       call-takes : (k : ℕ) → Heard (takeEvent k) rest st n (take m part k)
       unfolding take
       call-takes k =
           by-bool (shortMemory m part) (λ b. refused {part = part} {rest = rest} (TakeShort (memorySize (m .setup))) refl e (rw b))
-          (λ b. by-bool (ltb k (m .setup .outputs)) (λ c. take-goes k b c) (λ c. refused {part = part} {rest = rest} TakeNoChannel refl e (take-open k b ∙ rw c)))
+          (λ b. by-bool (ltb k (m .setup .outputs)) (λ c. take-goes k b c)
+          (λ c. refused {part = part} {rest = rest} TakeNoChannel refl e (take-open k b ∙ rw c)))
 
     -- a run's moments around those of its bytes
     data RunEnd (rest : List ℕ) (dur : List Moment) (m′ : Machine) (part : List ℕ) : Type 0 where
@@ -225,11 +238,13 @@ module _ (L : Loaded) where
           → RunEnd rest dur m′ part
 
     run-ends : {st′ : State} {k : ℕ} {dur : List Moment} {gs : List Segment} (rest : List ℕ) (t : World)
-        → Chain (L .prog) (bound L) dur st gs st′ n k → Inv L t st′ k → most (st′ .process) ≤ limit → RunEnd rest dur (t .machine) (t .memory)
+        → Chain (L .prog) (bound L) dur st gs st′ n k → Inv L t st′ k → most (st′ .process) ≤ limit
+        → RunEnd rest dur (t .machine) (t .memory)
     run-ends {st′} {k} {gs = gs} rest t c inv′ few′ =
         let fits : size L ≤ length (t .memory ++ rest) = omega (arith, inv-room L inv′, length-append (t .memory) rest) in
         let on : Inv L (worldOf (t .machine) (t .memory ++ rest)) st′ k =
-        inv-lent L {s = t} (t .memory ++ rest) [] fits (λ a h. List·getD-append (t .memory) rest 0 a (omega (arith, inv-room L inv′))) inv′ in
+        inv-lent L {s = t} (t .memory ++ rest) [] fits
+        (λ a h. List·getD-append (t .memory) rest 0 a (omega (arith, inv-room L inv′))) inv′ in
         run-end (([] ∷ []) ++ gs ++ ([] ∷ [])) (sim st′ k on few′)
         (chain-append (chain-append (same-moment memory refl inv) c) (same-moment (t .memory ++ rest) refl on))
 
@@ -266,7 +281,12 @@ module _ (L : Loaded) where
           let a = or-left (ltb (length code) (m .setup .code)) (shortMemory m part) z in
           let b = or-right (ltb (length code) (m .setup .code)) (shortMemory m part) z in
           let long : length (L .code) ≤ codeLent =
-          omega (arith, ltb-false (length code) (m .setup .code) a, length-take codeLent (L .code ++ behind), code-is L (worldOf m memory) set) in
+          omega (
+            arith,
+            ltb-false (length code) (m .setup .code) a,
+            length-take codeLent (L .code ++ behind),
+            code-is L (worldOf m memory) set,
+          ) in
           let front : code ≡ L .code ++ Ls.take (codeLent - length (L .code)) behind = take-past (L .code) behind codeLent long in
           subst (λ l. RunEnd rest (during m l part rest budget) (run m l part budget .machine) (run m l part budget .memory)) (sym front)
           (run-whole (Ls.take (codeLent - length (L .code)) behind) (rw front at a) b))

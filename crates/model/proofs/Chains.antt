@@ -1,5 +1,5 @@
 -- The segments of a run, moment by moment, and the bytes that may be left until its next step.
-use Prim.Native.Nat.{ℕ, zero, suc, _≤_, _<_}
+use Prim.Native.Nat.{ℕ, _≤_, _<_}
 use native.Mathlib.Omega.{arith}
 use native.Mathlib.Decide.{ℕ-discrete}
 use mathlib.Core.Path.{_≡_, sym, _∙_, subst}
@@ -73,6 +73,7 @@ falls-progress {most} bound h k f before window after e size =
     by a g (no z) = omega arith
 
 -- any more instructions than may be left hold a step
-pub chain-progress : {p : Program} {most : ℕ} {ms : List Moment} {st st′ : State} {gs : List Segment} {n l : ℕ} (bound : ℕ) → most < bound → n ≤ most
+pub chain-progress : {p : Program} {most : ℕ} {ms : List Moment} {st st′ : State} {gs : List Segment} {n l : ℕ} (bound : ℕ)
+    → most < bound → n ≤ most
     → Chain p most ms st gs st′ n l → Progress bound (perInstruction ms gs)
 chain-progress bound h k c = falls-progress bound h k (chain-falls c)

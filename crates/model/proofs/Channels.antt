@@ -1,15 +1,13 @@
 -- Who is at a channel: the process whose name the channel's word holds, and the sender.
-use Prim.Native.Nat.{ℕ, suc, _+_, _-_, _^_, _≤_, _<_}
+use Prim.Native.Nat.{ℕ, _+_, _-_, _^_, _≤_, _<_}
 use native.Mathlib.Omega.{arith}
 use mathlib.Core.Path.{_≡_, refl, sym, ap, _∙_, subst}
-use mathlib.Core.Logic.{_≢_, _⊎_, inl, inr, ⊎-elim}
-use mathlib.Core.Bool.{Bool, true, false, _&&_}
-use mathlib.Core.List.{List, [], _∷_, _++_, List·Memᴰ}
-use mathlib.Core.Option.{Option, none, some}
-use lib.ListN.{length, getD}
-use lib.Dec.{leb, ltb}
+use mathlib.Core.Logic.{_⊎_, inl, inr, ⊎-elim}
+use mathlib.Core.Bool.{Bool, true, false}
+use mathlib.Core.List.{List, List·Memᴰ}
+use mathlib.Core.Option.{none, some}
+use lib.ListN.{getD}
 use borrow.Author.Tests.{lt-ltb, le-ltb, le-leb, lt-leb}
-use Rattle.model.specs.Word.{notProcess}
 use Rattle.model.specs.Syntax.{Site, inputOf, outputOf, Guards}
 use Rattle.model.specs.Scheme.{sizeEnable}
 use Rattle.model.specs.Layout.{base, wordOf}
@@ -19,22 +17,22 @@ use Rattle.model.specs.Occam.{Frame, Process, atInput, atOutput, atAlt, 
 use Rattle.model.specs.declared.Setup.{Setup}
 use Rattle.model.proofs.Cases.{never}
 use Rattle.model.proofs.Ways.{Mem}
-use Rattle.model.proofs.Paths.{Leaf, l-output}
+use Rattle.model.proofs.Paths.{l-output}
 use Rattle.model.proofs.Parts.{Part, Target}
-use Rattle.model.proofs.Marks.{Own, Ready, Guarded, AltCode, Marked, Disabling, Settled}
-use Rattle.model.proofs.Arrivals.{Comes, comes}
+use Rattle.model.proofs.Marks.{Own, Ready, Guarded, AltCode, Marked, Disabling}
+use Rattle.model.proofs.Arrivals.{comes}
 use Rattle.model.proofs.Onwards.{guarded-fine}
 use Rattle.model.proofs.Trees.{Label, Info, Tree, labelled, label-alone}
 use Rattle.model.proofs.Zones.{zoneOf}
 use Rattle.model.proofs.Leaves.{member, Resumes, Waits, Held, h-queued, h-woken, h-input, h-output, h-stop, h-wait}
-use Rattle.model.proofs.Kernel.{Loaded, S, root, size, LeafAt, NodeAt, Owned, owned, Rest, Real, Offer, no-offer, held-offer}
-use Rattle.model.proofs.Writes.{node, sits-at, part-small}
-use Rattle.model.proofs.Grounds.{OutsideAt, an-input, an-output, channel-at, small-size}
+use Rattle.model.proofs.Kernel.{Loaded, S, root, LeafAt, NodeAt, Owned, owned, Rest, Real, Offer, no-offer, held-offer}
+use Rattle.model.proofs.Grounds.{OutsideAt, an-input, an-output, channel-at}
 use Rattle.model.proofs.Moving.{skips-silent}
 
 module _ (L : Loaded) where
   -- the process at a channel
-  pub data Holder (st : State) (μ : Mem) (t : Tree (S L) (root L) (st .process)) (Out : List ℕ → Type 0) (ws : List ℕ) (c : Site) : Type 0 where
+  pub data Holder (st : State) (μ : Mem) (t : Tree (S L) (root L) (st .process)) (Out : List ℕ → Type 0) (ws : List ℕ)
+      (c : Site) : Type 0 where
     holds-input : {path : List ℕ} {x : Site} {k : List Frame} {b : Part} {i : Info} {at hi : ℕ} → LeafAt L st t path (atInput c x k) b i
         → (Out path → ⊥) → member (i .w) ws ≡ false → Waits (S L) b i st μ c k at hi (S L .word x) → Target b (i .vars) x
         → List·Memᴰ c (b .inputs) → (Sender st c → ⊥) → Holder st μ t Out ws c
@@ -56,7 +54,8 @@ module _ (L : Loaded) where
     holds-out : {path : List ℕ} {q : Process} {b : Part} {i : Info} → LeafAt L st t path q b i → Out path → List·Memᴰ c (i .chans)
         → Own b (μ (S L .word c)) → Holder st μ t Out ws c
 
-  module _ {st : State} {μ : Mem} {t : Tree (S L) (root L) (st .process)} {Out : List ℕ → Type 0} {ws : List ℕ} (rest : Rest L st μ t Out ws)
+  module _ {st : State} {μ : Mem} {t : Tree (S L) (root L) (st .process)} {Out : List ℕ → Type 0} {ws : List ℕ}
+      (rest : Rest L st μ t Out ws)
     where
       -- by what a process waits for
       by-held : {path : List ℕ} {q : Process} {b : Part} {i : Info} {f : Bool} (c : Site) → LeafAt L st t path q b i → (Out path → ⊥)
@@ -65,12 +64,15 @@ module _ (L : Loaded) where
       by-held {b = b} {i} c k n e m o (h-woken a r s d) =
           let g = d .marks c m o in
           holds-woken k n e a r s d (g .0) (g .1) (guarded-fine (S L .word) b (i .vars) (i .chans) (i .w + 1) (g .1) (a .fine .1) .1)
-      by-held c k n e m o (h-input w x inp free) = subst (λ z. Holder st μ t Out ws z) (sym (w .only c m o)) (holds-input k n e w x inp free)
-      by-held c k n e m o (h-output w out l v z) = subst (λ z. Holder st μ t Out ws z) (sym (w .only c m o)) (holds-output k n e w out l v z)
+      by-held c k n e m o (h-input w x inp free) = subst (λ z. Holder st μ t Out ws z) (sym (w .only c m o))
+          (holds-input k n e w x inp free)
+      by-held c k n e m o (h-output w out l v z) = subst (λ z. Holder st μ t Out ws z) (sym (w .only c m o))
+          (holds-output k n e w out l v z)
       by-held c k n e m o (h-stop u) = absurd (u c m o)
       by-held {b = b} {i} c k n e m o (h-wait a r s v all free d) =
           let g = d c m o in
-          holds-wait k n e a r s v all free d (g .0) (g .1) (guarded-fine (S L .word) b (i .vars) (i .chans) (i .w + 1) (g .1) (a .fine .1) .1)
+          holds-wait k n e a r s v all free d (g .0) (g .1)
+          (guarded-fine (S L .word) b (i .vars) (i .chans) (i .w + 1) (g .1) (a .fine .1) .1)
 
       -- the process whose name a channel's word holds
       pub holder : ((other : List ℕ) → Out other ⊎ (Out other → ⊥)) → {c : Site} {n : ℕ} → Owned L st t c n → μ (S L .word c) ≡ n
@@ -89,7 +91,8 @@ module _ (L : Loaded) where
       sends-held l n (h-queued (comes sk settled sub way) r h u) = absurd (skips-silent sk settled refl)
       sends-held l n (h-output w out z v s) = sends l n (w .here) out (w .scope)
 
-      pub sender-at : (c : Site) → ((path : List ℕ) (v : ℕ) (k : List Frame) → look path (st .process) ≡ some (atOutput c v k) → Out path → ⊥)
+      pub sender-at : (c : Site)
+          → ((path : List ℕ) (v : ℕ) (k : List Frame) → look path (st .process) ≡ some (atOutput c v k) → Out path → ⊥)
           → Sender st c → Sends c ⊎ ((n : ℕ) × (v : ℕ) × (c ≡ inputOf n) × (st .offers n ≡ some v))
       sender-at c silent (process path {v} {k} e) =
           elim (label-alone (S L) t path e l-output) [
@@ -129,7 +132,10 @@ module _ (L : Loaded) where
     held-above a h =
         let eb = ap (λ (u : Setup). u .base) (real .setup-kept) in
         let ei = ap (λ (u : Setup). u .inputs) (real .setup-kept) in
-        rw (le-leb (s .machine .setup .base) a (omega arith), le-ltb (a - s .machine .setup .base) (s .machine .setup .inputs) (omega arith))
+        rw (
+          le-leb (s .machine .setup .base) a (omega arith),
+          le-ltb (a - s .machine .setup .base) (s .machine .setup .inputs) (omega arith),
+        )
 
     held-is : (n : ℕ) → n < L .prog .inputs → isHeld (base (L .prog) + n) (s .machine) ≡ getD (s .machine .held) n false
     held-is n h =
@@ -144,7 +150,8 @@ module _ (L : Loaded) where
 
     pub held-here : {t : Tree (S L) (root L) (st .process)} {path : List ℕ} {l : Label} → NodeAt L st t path l → (c : Site)
         → List·Memᴰ c (zoneOf l .chans) → HeldAt s st c
-    held-here n c m = ⊎-elim from-outside (λ h. not-held (held-below (S L .word c) h) (λ k e. never (inside-input h e))) (channel-at L n c m)
+    held-here n c m = ⊎-elim from-outside
+        (λ h. not-held (held-below (S L .word c) h) (λ k e. never (inside-input h e))) (channel-at L n c m)
       where
         from-offer : (k : ℕ) → k < L .prog .inputs → c ≡ inputOf k → S L .word c ≡ base (L .prog) + k → Offer L s st k → HeldAt s st c
         from-offer k h e w (no-offer f o) =

@@ -1,5 +1,5 @@
 -- What a process goes on with where a part of its program is over: the code behind it, frame by frame, to the end of its part.
-use Prim.Native.Nat.{ℕ, zero, suc, _+_, _-_, _≤_, _<_}
+use Prim.Native.Nat.{ℕ, suc, _+_, _≤_, _<_}
 use native.Mathlib.Omega.{arith}
 use mathlib.Core.Path.{_≡_, sym, ap, _∙_}
 use mathlib.Core.Logic.{_⊎_, inl, inr, ⊎-elim}
@@ -14,7 +14,7 @@ use Rattle.model.specs.Occam.{Frame, inSeq, inVar, inWhile}
 use Rattle.model.proofs.Expr.{Seg, seg-length}
 use Rattle.model.proofs.Points.{Setting, whole, At}
 use Rattle.model.proofs.Arrive.{named, named-in, inside, rises-le, up, tested, loop-parts}
-use Rattle.model.proofs.Parts.{Part, Ending, the-end, joins, Words, Within, Fine, FineAll}
+use Rattle.model.proofs.Parts.{Part, the-end, joins, Words, Within, Fine, FineAll}
 
 module _ (S : Setting) where
   -- the names in scope: their words are at and above w, and each has its own
@@ -58,7 +58,8 @@ module _ (S : Setting) where
         ]
 
     -- names onto others, whose words are above
-    above-on : (l : List Site) → ((x : Site) → List·Memᴰ x l → w + n ≤ S .word x) → (x : Site) → List·Memᴰ x (names p n ++ l) → w ≤ S .word x
+    above-on : (l : List Site) → ((x : Site) → List·Memᴰ x l → w + n ≤ S .word x) → (x : Site)
+        → List·Memᴰ x (names p n ++ l) → w ≤ S .word x
     above-on l h x m =
         ⊎-elim (λ m. names-here x m .0) (λ m. omega (arith, h x m)) (List·Memᴰ·append-cases (names p n) m)
 

@@ -1,24 +1,26 @@
 -- What instructions do to a world in which the words that they touch are in memory.
-use Prim.Native.Nat.{ℕ, _+_, _≤_, _<_}
-use native.Mathlib.Omega.{arith}
-use mathlib.Core.Path.{_≡_, refl}
+use Prim.Native.Nat.{ℕ, _+_, _<_}
+use mathlib.Core.Path.{_≡_}
 use mathlib.Core.Bool.{true, false}
-use lib.ListN.{length, getD, set}
-use lib.Seq.{getD-set-same}
-use borrow.Author.Tests.{lt-ltb, le-ltb, le-leb, eq-eqb, ne-eqb}
+use lib.ListN.{getD, set}
+use borrow.Author.Tests.{lt-ltb, eq-eqb, ne-eqb}
 use Rattle.model.specs.Word.{low}
-use Rattle.model.specs.Instruction.{ldl, cj, stl, opr, stopp, operationCode, operationOf, coded}
+use Rattle.model.specs.Instruction.{ldl, cj, stl}
 use Rattle.model.specs.Instruction as I
-use Rattle.model.specs.Machine.{World, done, withCpu, withMemory, memorySize, peek, poke, testPlace, resume, takeFront, release, join}
+use Rattle.model.specs.Machine.{World, done, withCpu, withMemory, memorySize, peek, poke, resume, join}
 use Rattle.model.specs.Machine.{goto, work, running, counting, queueing, resumeWord}
-use Rattle.model.specs.Execute.{execute, operate, push, pop, jump, loadLocal, storeLocal, conditionalJump, stopProcess}
+use Rattle.model.specs.Execute.{execute, push, pop, jump, loadLocal, storeLocal, conditionalJump}
 use Rattle.model.specs.declared.Cpu.{Cpu}
+use Rattle.model.proofs.Ways.{Mem}
 
 abbrev pub cpuOf : World → Cpu
 cpuOf s = s .machine .cpu
 
 abbrev pub sizeOf : World → ℕ
 sizeOf s = memorySize (s .machine .setup)
+
+abbrev pub memOf : World → Mem
+memOf s = λ a. getD (s .memory) a 0
 
 abbrev pub stored : ℕ → ℕ → World → World
 stored a v s = withMemory (set (s .memory) a v) s
@@ -49,13 +51,6 @@ pub exec-cj-goes-on : (n : ℕ) (s : World) → (cpuOf s .a ≡ 0 → ⊥) → e
 unfolding execute conditionalJump
 exec-cj-goes-on n s e = rw (ne-eqb _ _ e)
 
--- a process that stops, with nobody queued
-pub exec-stopp : (s : World) → resumeWord (cpuOf s .workspace) < sizeOf s → cpuOf s .queued ≡ false
-    → execute opr (operationCode stopp) s
-    ≡ done tt (withCpu (running false (cpuOf s)) (stored (resumeWord (cpuOf s .workspace)) (cpuOf s .place) s))
-unfolding execute operate operationOf operationCode coded stopProcess release
-exec-stopp s h q = rw (poke-in _ _ s h, q)
-
 pub exec-j : (n : ℕ) (s : World) → cpuOf s .count < s .machine .setup .slice
     → execute I.j n s ≡ done tt (withCpu (goto (low (cpuOf s .place + n)) (cpuOf s)) s)
 unfolding execute jump
@@ -71,35 +66,3 @@ pub join-empty : (w : ℕ) (s : World) → cpuOf s .running ≡ true → cpuOf s
     → join w s ≡ done tt (withCpu (queueing w w true (cpuOf s)) s)
 unfolding join
 join-empty w s r q = rw (r, q)
-
--- taking the only process that is queued
-release-last : (w : ℕ) (s : World) → release (withCpu (queueing w w true (cpuOf s)) s) ≡ resume w (withCpu (queueing w w false (cpuOf s)) s)
-unfolding release takeFront
-release-last w s = rw (eq-eqb w w refl)
-
--- the slice is over and nobody else is queued: the process is taken again at once
-abbrev pub again : ℕ → World → World
-again t s =
-    let w = cpuOf s .workspace in
-    withCpu (running true (counting 0 (goto t (work w (queueing w w false (cpuOf s)))))) (stored (resumeWord w) t s)
-
-pub exec-j-sliced : (n t : ℕ) (s : World) → s .machine .setup .slice ≤ cpuOf s .count → low (cpuOf s .place + n) ≡ t
-    → t ≤ s .machine .setup .code
-    → resumeWord (cpuOf s .workspace) < sizeOf s → sizeOf s ≤ length (s .memory) → cpuOf s .running ≡ true → cpuOf s .queued ≡ false
-    → execute I.j n s ≡ done tt (again t s)
-unfolding execute jump testPlace
-exec-j-sliced n t s h e p a m r q =
-    let w = cpuOf s .workspace in
-    let s₁ = stored (resumeWord w) t s in
-    let got : getD (s₁ .memory) (resumeWord w) 0 ≡ t = getD-set-same (s .memory) (resumeWord w) t 0 (omega arith) in
-    rw (
-      le-ltb _ _ h,
-      e,
-      poke-in _ t s a,
-      join-empty w s₁ r q,
-      release-last w s₁,
-      resume-in w
-          (withCpu (queueing w w false (cpuOf s₁)) s₁) a,
-      got,
-      le-leb _ _ p,
-    )

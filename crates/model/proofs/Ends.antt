@@ -1,48 +1,48 @@
 -- ENDP: the last branch of a PAR goes on as the PAR, another leaves the processor.
-use Prim.Native.Nat.{ℕ, zero, suc, _+_, _-_, _^_, _≤_, _<_}
+use Prim.Native.Nat.{ℕ, _+_, _-_, _≤_, _<_}
 use native.Mathlib.Omega.{arith}
 use native.Mathlib.Decide.{ℕ-discrete}
 use mathlib.Core.Path.{_≡_, refl, sym, ap, _∙_, subst}
 use mathlib.Core.Logic.{_≢_}
 use mathlib.Core.List.{List, [], _∷_, _++_}
-use mathlib.Core.Option.{Option, none, some}
-use lib.ListN.{length, getD}
+use mathlib.Core.Option.{some}
 use Rattle.model.specs.Word.{low, less}
-use Rattle.model.specs.Syntax.{Site, Stmt, Stmts, noStmt, stmt}
-use Rattle.model.specs.Counts.{need, sumNeed}
-use Rattle.model.specs.Instruction.{Instruction, operation}
+use Rattle.model.specs.Syntax.{Site, Stmt, Stmts}
+use Rattle.model.specs.Counts.{sumNeed}
+use Rattle.model.specs.Instruction.{operation}
 use Rattle.model.specs.Instruction as I
 use Rattle.model.specs.Code.{functionIn, operandIn}
 use Rattle.model.specs.Machine.{World, withCpu, work, goto}
-use Rattle.model.specs.Occam.{Frame, Process, finished, inPar, Branches, branchAt, endBranch, resume, closed, look, put, State, Step, ends}
+use Rattle.model.specs.Occam.{Frame, finished, inPar, Branches, branchAt, endBranch, resume, look, put, State, Step, ends}
 use Rattle.model.proofs.Cases.{never}
 use Rattle.model.proofs.Ways.{Mem}
 use Rattle.model.proofs.Expr.{seg-length}
 use Rattle.model.proofs.Points.{Setting, whole}
 use Rattle.model.proofs.Arrive.{rises-le}
-use Rattle.model.proofs.Paths.{left, left-end, left-found, closed-last, closed-more, stmtAt}
-use Rattle.model.proofs.Parts.{need-two, Part, joins, partOf}
-use Rattle.model.proofs.Conts.{Placed, cont-placed, cont-inside}
+use Rattle.model.proofs.Paths.{left, left-end, closed-last, closed-more}
+use Rattle.model.proofs.Parts.{need-two, Part, joins}
+use Rattle.model.proofs.Conts.{cont-placed, cont-inside}
 use Rattle.model.proofs.Marks.{ParCode}
-use Rattle.model.proofs.Arrivals.{Comes, arrives}
-use Rattle.model.proofs.Trees.{distanceOf, BranchPart, branch-part, Label, parted, Info, Sits, Tree, Forest, f-none, f-live, f-over, labelAt, partAt, bytesLeft}
+use Rattle.model.proofs.Arrivals.{arrives}
+use Rattle.model.proofs.Trees.{distanceOf, branch-part, parted, Info, Sits, Tree, Forest, f-none, f-live, f-over, labelAt, partAt}
+use Rattle.model.proofs.Trees.{bytesLeft}
 use Rattle.model.proofs.Zones.{zone-under}
 use Rattle.model.proofs.Leaves.{upd, Unmarked}
-use Rattle.model.proofs.Effects.{cpuOf, sizeOf, stored}
+use Rattle.model.proofs.Effects.{cpuOf, stored}
 use Rattle.model.proofs.Acts.{exec-endp-last, exec-endp-more}
-use Rattle.model.proofs.Kernel.{Loaded, S, root, size as memory, LeafAt, Rest, Lined, Real}
-use Rattle.model.proofs.Writes.{part-small}
+use Rattle.model.proofs.Kernel.{Loaded, S, root, size as memory, Real}
 use Rattle.model.proofs.Puts.{putting}
 use Rattle.model.proofs.Grounds.{small-size, sound-at}
 use Rattle.model.proofs.Running.{Only, Did, Executes, executes, Acting}
 use Rattle.model.proofs.Reals.{size-is, mirrored, real-state, real-cpu, real-stored}
 use Rattle.model.proofs.Sched.{settle, lets-go}
 use Rattle.model.proofs.Finish.{step-settles, step-lets-go, silent}
-use Rattle.model.proofs.Joins.{Father, father, father-of, distance-in, par-node, lastInfo, lastState, lastTree, last-leaf, last-rest, last-lined}
-use Rattle.model.proofs.Joins.{last-clean, moreState, moreTree, more-rest, more-lined, link-off}
+use Rattle.model.proofs.Joins.{father, father-of, distance-in, par-node, last-leaf, last-rest, last-lined}
+use Rattle.model.proofs.Joins.{last-clean, more-rest, more-lined, link-off}
 
 -- each branch needs words
-few-left : {S : Setting} {vars chans : List Site} {w d : ℕ} {ss : Stmts} {bs : Branches} → Forest S vars chans w d ss bs → left bs ≤ sumNeed ss
+few-left : {S : Setting} {vars chans : List Site} {w d : ℕ} {ss : Stmts} {bs : Branches}
+    → Forest S vars chans w d ss bs → left bs ≤ sumNeed ss
 unfolding left sumNeed
 few-left f-none = omega arith
 few-left (f-live {s} t f) = omega (arith, few-left f, need-two s)
@@ -78,7 +78,8 @@ module _ (L : Loaded) {s : World} {st : State} {μ : Mem} {t : Tree (S L) (root 
         let leaf = last-leaf L (A .leaf) ρ n c is par branch part label one (whole (S L)) sits in
         let rest = last-rest L (A .leaf) ρ n c is par branch part label one (whole (S L)) sits (A .rest) clean in
         let real : Real L u st₁ μ ws =
-        real-state L (put ρ (resume k) (st .process)) (st .store) (real-cpu L (goto (L .off (c .over)) (work w (cpuOf s))) refl refl refl (A .real)) in
+        real-state L (put ρ (resume k) (st .process)) (st .store)
+        (real-cpu L (goto (L .off (c .over)) (work w (cpuOf s))) refl refl refl (A .real)) in
         let same : whole (S L) ≤ whole (S L) = omega arith in
         let ran : Executes L (operation I.endp) s u =
         executes
@@ -90,7 +91,8 @@ module _ (L : Loaded) {s : World} {st : State} {μ : Mem} {t : Tree (S L) (root 
         rises-le (S L) m (c .over) (omega (arith, seg-length (c .starts), seg-length (c .branches))) over-in in
         step-settles L
         (subst (λ z. Step st [] (putting ρ z st)) (closed-last n bs k branch one) (ends ρ n par branch)) ran (silent L s u refl)
-        (settle L real leaf rest (last-lined L (A .leaf) ρ n c is par branch part label one (whole (S L)) sits (A .rest) clean (A .lined)) (whole (S L))
+        (settle L real leaf rest (last-lined L (A .leaf) ρ n c is par branch part label one (whole (S L)) sits (A .rest) clean (A .lined))
+        (whole (S L))
         (record { run = A .run; operand = A .operand; place = refl; work = refl; inside = over-in })
         (arrives (S L) a (st .store) (c .after) (omega (arith, c .near, ahead)) (sound-at L rest leaf))
         (last-clean L (A .leaf) ρ n c is par branch part label one (whole (S L)) sits (A .rest) clean) (omega (arith, c .near, ahead)) same)
@@ -105,7 +107,8 @@ module _ (L : Loaded) {s : World} {st : State} {μ : Mem} {t : Tree (S L) (root 
         let st₁ = putting ρ (inPar (endBranch n bs) k) st in
         let real : Real L u st₁ (upd μ (w + 1) z) ws =
         real-state L (put ρ (inPar (endBranch n bs) k) (st .process)) (st .store)
-        (real-stored L (w + 1) z in-memory (link-off L (A .leaf) ρ n c is par branch part label more (A .rest) clean (A .lined)) (A .real)) in
+        (real-stored L (w + 1) z in-memory
+        (link-off L (A .leaf) ρ n c is par branch part label more (A .rest) clean (A .lined)) (A .real)) in
         step-lets-go L (subst (λ z. Step st [] (putting ρ z st)) (closed-more n bs k branch more) (ends ρ n par branch))
         (λ x f g. executes
         (exec-endp-more w (w + 1) (left bs) s ea second (rw (size-is L (A .real)) in-memory)
@@ -123,10 +126,12 @@ module _ (L : Loaded) {s : World} {st : State} {μ : Mem} {t : Tree (S L) (root 
         let at-w : cpuOf s .a ≡ w = ea ∙ omega (arith, same-d, same-top, distance-in n _ x, c .room) in
         let top : w + 2 ≤ S L .top = zone-under (S L) t ρ label .below in
         let few : left bs ≤ w = omega (arith, few-left f, c .room) in
-        by (ℕ-discrete (left bs) 1) (last-end ρ n c is par branch part label at-w top few) (more-end ρ n c is par branch part label at-w top few)
+        by (ℕ-discrete (left bs) 1) (last-end ρ n c is par branch part label at-w top few)
+        (more-end ρ n c is par branch part label at-w top few)
   ]
     where
       by : {n : ℕ} → Dec (n ≡ 1) → (n ≡ 1 → Did L (Executes L (operation I.endp) s) s st (bytesLeft (S L) t))
-          → (n ≢ 1 → Did L (Executes L (operation I.endp) s) s st (bytesLeft (S L) t)) → Did L (Executes L (operation I.endp) s) s st (bytesLeft (S L) t)
+          → (n ≢ 1 → Did L (Executes L (operation I.endp) s) s st (bytesLeft (S L) t))
+          → Did L (Executes L (operation I.endp) s) s st (bytesLeft (S L) t)
       by (yes z) f g = f z
       by (no z) f g = g z

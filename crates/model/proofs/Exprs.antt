@@ -1,11 +1,8 @@
--- Paths with a bound on their bytes, and the path through an expression's code: it leaves the value in A and keeps
--- 3 - registers of what was below.
+-- The path through an expression's code: it leaves the value in A and keeps 3 - registers of what was below.
 use Prim.Native.Nat.{ℕ, suc, _+_, _*_, _^_, _≤_, _<_}
 use native.Mathlib.Omega.{arith}
-use mathlib.Core.Path.{_≡_, refl, ap, ap₂, _∙_, subst}
+use mathlib.Core.Path.{_≡_, refl, ap, ap₂, _∙_}
 use mathlib.Core.List.{List, [], _∷_, _++_, List·Memᴰ}
-use mathlib.Core.Option.{some}
-use lib.ListN.{length, getElem?}
 use lib.Bits.{bitAnd, bitOr, bitXor}
 use lib.Dec.{eqb}
 use Rattle.model.specs.Word.{low, less, truth}
@@ -47,7 +44,8 @@ module _ (xs : List Instruction) (off : ℕ → ℕ) (word : Site → ℕ) (Poin
 
   module _ {hi : ℕ} {μ : Mem} where
     -- one operation on two values
-    reduced : {i i′ n l k : ℕ} {r : Regs} (f : ℕ → ℕ → ℕ) → Seg xs i (plain opr n ∷ []) i′ → ((p : ℕ) → Quiet p opr n (reducing f)) → r .b ≡ l → r .a ≡ k
+    reduced : {i i′ n l k : ℕ} {r : Regs} (f : ℕ → ℕ → ℕ) → Seg xs i (plain opr n ∷ []) i′
+        → ((p : ℕ) → Quiet p opr n (reducing f)) → r .b ≡ l → r .a ≡ k
         → ((r′ : Regs) → r′ .a ≡ f l k → r′ .b ≡ r .c → r′ .w ≡ r .w → Goes hi μ i′ r′) → Goes hi μ i r
     unfolding functionIn operandIn
     reduced {i} {r} f (at e nil) q p s next = quiet (reducing f) e (q (off (suc i))) (next (reducing f r) (ap₂ f p s) refl refl)
@@ -79,7 +77,8 @@ module _ (xs : List Instruction) (off : ℕ → ℕ) (word : Site → ℕ) (Poin
     module _ (w : ℕ) (wide : w < 2 ^ 32) (words : (x : Site) → List·Memᴰ x vars → word x < 2 ^ 32)
         (values : (x : Site) → List·Memᴰ x vars → σ x < 2 ^ 32)
       where
-        pub evaluates : (e : Expr) {i i′ : ℕ} {r : Regs} → Seg xs i (exprCode word w e) i′ → FineExpr vars e → FineExpr reads e → registers e ≤ 3 → r .w ≡ w
+        pub evaluates : (e : Expr) {i i′ : ℕ} {r : Regs} → Seg xs i (exprCode word w e) i′ → FineExpr vars e → FineExpr reads e
+            → registers e ≤ 3 → r .w ≡ w
             → ((r′ : Regs) → Evaluated σ e r r′ → Goes hi μ i′ r′) → Goes hi μ i r
         unfolding exprCode eval registers deny functionIn operandIn
         evaluates (constant n) {r} (at e nil) f g k p next =

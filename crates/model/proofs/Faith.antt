@@ -1,13 +1,13 @@
 -- Demand 3, for every table: the machine's history is a run of the Occam program.
 use Prim.Native.Nat.{ℕ, zero, suc, _+_, _*_, _≤_, _<_}
 use native.Mathlib.Omega.{arith}
-use mathlib.Core.Path.{_≡_, refl, sym, ap, _∙_, subst}
+use mathlib.Core.Path.{_≡_, refl, sym, ap, subst}
 use mathlib.Core.Bool.{_&&_}
-use mathlib.Core.List.{List, [], _∷_, _++_, append-nil}
+use mathlib.Core.List.{List, [], _∷_, append-nil}
 use mathlib.Core.Option.{some}
 use native.Mathlib.Decide.{decLt}
 use lib.ListN.{length, getElem?}
-use lib.Seq.{slice, length-slice}
+use lib.Seq.{slice}
 use lib.Dec.{leb}
 use borrow.Author.Tests.{leb-true}
 use Rattle.model.specs.Syntax.{Program}
@@ -17,7 +17,7 @@ use Rattle.model.specs.Instruction.{Instruction}
 use Rattle.model.specs.Prefix.{decode}
 use Rattle.model.specs.Layout.{base}
 use Rattle.model.specs.Scheme.{scheme}
-use Rattle.model.specs.Code.{placeOf, Realises, compiled, compile}
+use Rattle.model.specs.Code.{placeOf, Realises}
 use Rattle.model.specs.Machine.{memorySize}
 use Rattle.model.specs.Run.{After, start, worldOf, fresh, cleared}
 use Rattle.model.specs.Occam.{initial}
@@ -32,15 +32,14 @@ use Rattle.model.proofs.Accepts.{accept-reads, accept-passed, compile-a
 use Rattle.model.proofs.Realise.{code-realises}
 use Rattle.model.proofs.FineParts.{accepted-fine, accepted-one-way, accepted-one-way-in}
 use Rattle.model.proofs.Most.{most, initial-most}
-use Rattle.model.proofs.Kernel.{Loaded, S, setup, size}
+use Rattle.model.proofs.Kernel.{Loaded, setup, size}
 use Rattle.model.proofs.Traces.{trace-reach, trace-most}
 use Rattle.model.proofs.Sched.{Settles, settles}
 use Rattle.model.proofs.Chains.{chain-matches, chain-other, chain-progress}
 use Rattle.model.proofs.Lending.{inv-few}
-use Rattle.model.proofs.Histories.{bound, follows}
+use Rattle.model.proofs.Histories.{follows}
 use Rattle.model.proofs.Calls.{Sim, sim, run-from, run-grows, linked, run-matches}
 use Rattle.model.proofs.Starting.{first, begun, settled}
-use Rattle.model.proofs.Trees.{bytesLeft}
 
 -- what a start that was accepted leaves
 data Begun (memory : List ℕ) (u : Setup) (s : After StartAnswer) : Type 0 where
@@ -85,7 +84,8 @@ realised-rise code xs off r i h = by (decLt (off i) (off (suc i)))
         let (x, e) = found xs i h in
         never (cc (r .each i x e, ap (decode 0) (slice-none (off i) (off (suc i)) code (omega arith))))
 
-realised-rises : (code : List ℕ) (xs : List Instruction) (off : ℕ → ℕ) → Realises code xs off → (i k : ℕ) → i < k → k ≤ length xs → off i < off k
+realised-rises : (code : List ℕ) (xs : List Instruction) (off : ℕ → ℕ) → Realises code xs off → (i k : ℕ) → i < k
+    → k ≤ length xs → off i < off k
 realised-rises code xs off r i zero h l = absurd (omega arith)
 realised-rises code xs off r i (suc k) h l = by (decLt i k) (λ g. realised-rises code xs off r i k g (omega arith))
   where
@@ -120,7 +120,8 @@ loaded-faithful L memory room = by (settled L memory room)
         }
 
 -- demand 3 for every code that realises the scheme of an accepted table
-pub realised-faithful : (table : List ℕ) (p : Program) → accept table ≡ program p → memoryWords p ≤ 4096 → (code : List ℕ) → length code ≤ 16384
+pub realised-faithful : (table : List ℕ) (p : Program) → accept table ≡ program p → memoryWords p ≤ 4096
+    → (code : List ℕ) → length code ≤ 16384
     → (off : ℕ → ℕ) → Realises code (scheme p) off → (slice : ℕ) (memory : List ℕ) (s : After StartAnswer)
     → start code memory (base p) (p .inputs) (p .outputs) slice ≡ s → s .answer ≡ Started → Faithful p code (s .machine) (s .memory)
 realised-faithful table p accepted small code short off realises slice memory s e a =
@@ -152,4 +153,5 @@ demand-3 table room slice memory p code s e b a =
     let (accepted, same, small, short, fits) = compile-accepts table room p code e in
     let well = read-well table p (accept-reads table p accepted) .0 in
     realised-faithful table p accepted small code short (placeOf (scheme p))
-    (subst (λ z. Realises z (scheme p) (placeOf (scheme p))) (sym same) (code-realises p well (omega arith) (rw same at short))) slice memory s b a
+    (subst (λ z. Realises z (scheme p) (placeOf (scheme p))) (sym same) (code-realises p well (omega arith) (rw same at short))) slice
+    memory s b a

@@ -270,7 +270,8 @@ module _ (word : Site → ℕ) where
       fine (PAR p ss) a sc vars chans lo hi w k h pl l c f d n t =
           let (apart, inner) = clash-par p ss f in (
             omega arith,
-            fine-branches ss a sc vars chans lo hi (w - 2) 0 (w - 2) (omega arith) k (h .1) pl l c apart inner d (omega arith) (omega arith),
+            fine-branches ss a sc vars chans lo hi (w - 2) 0 (w - 2) (omega arith) k (h .1) pl l c apart inner d
+                (omega arith) (omega arith),
           )
       fine (IF ps) a sc vars chans lo hi w k h pl l c f d n t = (
         omega arith,

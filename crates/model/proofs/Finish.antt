@@ -1,27 +1,23 @@
 -- How an instruction's case ends: the process goes on without a step, a step was taken and it settles, or it leaves the processor.
-use Prim.Native.Nat.{ℕ, zero, suc, _+_, _-_, _^_, _≤_, _<_}
+use Prim.Native.Nat.{ℕ, suc, _+_, _-_, _≤_, _<_}
 use native.Mathlib.Omega.{arith}
-use mathlib.Core.Path.{_≡_, refl, sym, ap, _∙_, subst}
-use mathlib.Core.Logic.{_≢_, _⊎_, inl, inr, ⊎-elim}
-use mathlib.Core.Bool.{Bool, true, false}
-use mathlib.Core.List.{List, [], _∷_, _++_, map, append-nil, List·Memᴰ}
-use mathlib.Core.Option.{Option, none, some}
-use lib.ListN.{length, getD}
-use Rattle.model.specs.Syntax.{Site}
+use mathlib.Core.Path.{_≡_, refl, sym, _∙_, subst}
+use mathlib.Core.Logic.{_⊎_, inl, inr, ⊎-elim}
+use mathlib.Core.Bool.{true}
+use mathlib.Core.List.{List, [], _∷_, _++_, map, append-nil}
+use lib.ListN.{length}
 use Rattle.model.specs.Machine.{World, done, release}
 use Rattle.model.specs.Occam.{Process, State, Communication, Step}
 use Rattle.model.specs.Demand.{step, Segment, steps, talkOf}
-use Rattle.model.proofs.Ways.{Regs, regsOf, Mem}
-use Rattle.model.proofs.Points.{Setting, whole}
+use Rattle.model.proofs.Ways.{regsOf, Mem}
 use Rattle.model.proofs.Parts.{Part}
-use Rattle.model.proofs.Conts.{Placed}
 use Rattle.model.proofs.Marks.{Settled}
 use Rattle.model.proofs.Arrivals.{Goes}
 use Rattle.model.proofs.Onwards.{AltGoes}
 use Rattle.model.proofs.Trees.{Info, Tree, bytesLeft}
 use Rattle.model.proofs.Leaves.{Unmarked}
 use Rattle.model.proofs.Effects.{cpuOf}
-use Rattle.model.proofs.Kernel.{Loaded, S, root, setup, LeafAt, Rest, Lined, Real}
+use Rattle.model.proofs.Kernel.{Loaded, S, root, setup, Rest, Lined, Real}
 use Rattle.model.proofs.Writes.{sits-at}
 use Rattle.model.proofs.Traces.{Trace, t-none, t-step, trace-then, steps-then}
 use Rattle.model.proofs.Running.{Only, fresh, Now, now-goes, now-alt, Inv, runs, starts, idle, Did, came, Acting}
@@ -47,7 +43,8 @@ module _ (L : Loaded) where
   pub step-settles : {did : World → Type 0} {s u : World} {st st₁ : State} {cs : List Communication} {m k n n₀ : ℕ} → Step st cs st₁
       → did u → u .talk ≡ s .talk ++ map (talkOf (L .prog)) cs → Settles L u st₁ m k n → Did L did s st n₀
   step-settles {did} {s} {u} {st} {st₁} {cs} one ran talk h =
-      then-settles {g = step cs st₁ ∷ []} (subst (λ z. Trace st (step cs st₁ ∷ []) st₁ z []) (append-nil cs) (t-step one t-none)) (omega arith)
+      then-settles {g = step cs st₁ ∷ []}
+      (subst (λ z. Trace st (step cs st₁ ∷ []) st₁ z []) (append-nil cs) (t-step one t-none)) (omega arith)
       ran talk h
 
   -- moves were made, and the processor is let go; without a step fewer bytes are left
@@ -55,10 +52,12 @@ module _ (L : Loaded) where
       → Trace st g st₁ cs [] → (m < n) ⊎ (0 < steps g) → ((v : World) → release u ≡ done tt v → v .machine .setup ≡ setup L → did v)
       → u .talk ≡ s .talk ++ map (talkOf (L .prog)) cs → LetGo L u st₁ m → Did L did s st n
   then-lets-go {g = g} ms fewer ran talk (let-go v h e f ns inv) =
-      came v (g ++ h) (ran v e (inv-setup inv)) (trace-then ms ns) (f ∙ talk) inv (⊎-elim (λ l. inl l) (λ l. inr (omega (arith, steps-then g h))) fewer)
+      came v (g ++ h) (ran v e (inv-setup inv)) (trace-then ms ns) (f ∙ talk) inv
+      (⊎-elim (λ l. inl l) (λ l. inr (omega (arith, steps-then g h))) fewer)
 
   pub step-lets-go : {did : World → Type 0} {s u : World} {st st₁ : State} {cs : List Communication} {m n : ℕ} → Step st cs st₁
-      → ((v : World) → release u ≡ done tt v → v .machine .setup ≡ setup L → did v) → u .talk ≡ s .talk ++ map (talkOf (L .prog)) cs → LetGo L u st₁ m → Did L did s st n
+      → ((v : World) → release u ≡ done tt v → v .machine .setup ≡ setup L → did v) → u .talk ≡ s .talk ++ map (talkOf (L .prog)) cs
+      → LetGo L u st₁ m → Did L did s st n
   step-lets-go {st = st} {st₁} {cs} one ran talk h =
       then-lets-go {g = step cs st₁ ∷ []} (subst (λ z. Trace st (step cs st₁ ∷ []) st₁ z []) (append-nil cs) (t-step one t-none))
       (inr (omega arith)) ran talk h

@@ -1,35 +1,32 @@
 -- A PAR is started: each branch is a process, and nothing of it is in memory yet.
-use Prim.Native.Nat.{ℕ, zero, suc, _+_, _-_, _^_, _≤_, _<_}
+use Prim.Native.Nat.{ℕ, suc, _+_, _-_, _^_, _<_}
 use native.Mathlib.Omega.{arith}
 use mathlib.Core.Path.{_≡_, refl, sym, ap, _∙_, subst}
 use mathlib.Core.Logic.{_≢_, _⊎_, inl, inr, ⊎-elim}
-use mathlib.Core.Bool.{Bool, true, false}
-use mathlib.Core.List.{List, [], _∷_, _++_, append-nil, append-assoc, List·Memᴰ, List·Memᴰ·not-nil}
-use mathlib.Core.Option.{Option, none, some}
-use lib.ListN.{length, getD}
+use mathlib.Core.List.{List, [], _∷_, _++_, append-nil, List·Memᴰ, List·Memᴰ·not-nil}
+use mathlib.Core.Option.{Option, some}
 use Rattle.model.specs.Word.{notProcess}
-use Rattle.model.specs.Syntax.{Site, Stmt, PAR, Stmts, noStmt, stmt}
-use Rattle.model.specs.Counts.{need, sumNeed}
+use Rattle.model.specs.Syntax.{Site, Stmt, PAR, Stmts, stmt}
 use Rattle.model.specs.Scheme.{howMany}
 use Rattle.model.specs.Machine.{linkWord}
-use Rattle.model.specs.Occam.{Frame, Process, before, atOutput, inPar, Branches, begin, branches, framesOf, look, put, State, Sender, process, outside}
+use Rattle.model.specs.Occam.{Frame, Process, before, atOutput, inPar, Branches, begin, branches, framesOf, look, put, State, Sender}
+use Rattle.model.specs.Occam.{process, outside}
 use Rattle.model.specs.Demand.{liveIn}
 use Rattle.model.proofs.Cases.{never}
 use Rattle.model.proofs.Ways.{Mem}
-use Rattle.model.proofs.Points.{Setting, whole}
-use Rattle.model.proofs.Paths.{Leaf, l-output, leaf-par, leaf-begin, leaf-ends, live-begin, silent-begin, left, left-branches, same-path, stmtAt, Begun}
-use Rattle.model.proofs.Paths.{begun, started-found, look-started, look-put-same, look-put-other, look-put-below, look-after, into, aside}
-use Rattle.model.proofs.Paths.{Compared, equal, below, above, apart, compare, leaves-apart, Apart, apart-differ, SamePar, same-par, par-above, leaf-below}
-use Rattle.model.proofs.Parts as Parts
-use Rattle.model.proofs.Parts.{Part, joins, partOf, Within}
-use Rattle.model.proofs.Conts.{Placed}
+use Rattle.model.proofs.Points.{Setting}
+use Rattle.model.proofs.Paths.{l-output, leaf-par, leaf-begin, live-begin, silent-begin, left, left-branches, same-path, stmtAt}
+use Rattle.model.proofs.Paths.{begun, started-found, look-started, look-put-same, look-put-other, look-put-below, look-after, into}
+use Rattle.model.proofs.Paths.{aside, Compared, equal, below, above, apart, compare, leaves-apart, Apart, apart-differ, same-par}
+use Rattle.model.proofs.Paths.{par-above, leaf-below}
+use Rattle.model.proofs.Parts.{Part, joins, partOf}
 use Rattle.model.proofs.Marks.{Own, ParCode}
-use Rattle.model.proofs.Trees.{some-same, distanceOf, Label, alone, parted, alone-parted, Info, newInfo, Sits, Tree, labelAt, running, rebuild}
-use Rattle.model.proofs.Trees.{Rebuilt, started, started-label, started-scope, started-alone, bytesLeft}
+use Rattle.model.proofs.Trees.{some-same, distanceOf, Label, alone, parted, Info, newInfo, Tree, labelAt, rebuild}
+use Rattle.model.proofs.Trees.{Rebuilt, started, started-label, started-scope, started-alone}
 use Rattle.model.proofs.Zones.{Zone, zoneOf}
-use Rattle.model.proofs.Leaves.{upd, member, Unmarked, Held}
+use Rattle.model.proofs.Leaves.{Unmarked}
 use Rattle.model.proofs.Stays.{Calm, held-stays}
-use Rattle.model.proofs.Kernel.{Loaded, S, root, LeafAt, NodeAt, Owned, owned, Rest, Whose, whose, Lined}
+use Rattle.model.proofs.Kernel.{Loaded, S, root, LeafAt, NodeAt, Owned, owned, Rest, whose, Lined}
 use Rattle.model.proofs.Writes.{node, part-small, sits-at}
 use Rattle.model.proofs.Puts.{putting}
 use Rattle.model.proofs.Running.{Only}
@@ -49,7 +46,8 @@ pub same-branches : {bs cs : Branches} {k l : List Frame} → _≡_ {A = Option 
 same-branches e = cc
 
 -- what holds of a PAR's words holds of the same PAR's
-pub parted-same : (S : Setting) (μ : Mem) {n : ℕ} {a b : Part} {vs us cs ds : List Site} {v w on to : ℕ} → parted a vs cs v on ≡ parted b us ds w to
+pub parted-same : (S : Setting) (μ : Mem) {n : ℕ} {a b : Part} {vs us cs ds : List Site} {v w on to : ℕ}
+    → parted a vs cs v on ≡ parted b us ds w to
     → (μ v ≡ S .off on) × (μ (v + 1) ≡ n) → (μ w ≡ S .off to) × (μ (w + 1) ≡ n)
 parted-same S μ e (p, q) =
     let x = parted-w e in
@@ -60,7 +58,8 @@ parted-same S μ e (p, q) =
 pub data Branch (path : List ℕ) (other : List ℕ) : Type 0 where
   branch-of : (i : ℕ) → other ≡ path ++ i ∷ [] → Branch path other
 
-module _ (L : Loaded) {st : State} {t : Tree (S L) (root L) (st .process)} {path : List ℕ} {p : ℕ} {s : Stmt} {ss : Stmts} {k : List Frame} {b : Part}
+module _ (L : Loaded) {st : State} {t : Tree (S L) (root L) (st .process)} {path : List ℕ} {p : ℕ} {s : Stmt} {ss : Stmts}
+    {k : List Frame} {b : Part}
     {i : Info} (at : LeafAt L st t path (before (PAR p (stmt s ss)) k) b i) {hi n w : ℕ}
     (c : ParCode (S L) b s ss (i .vars) (i .chans) k hi n w) where
   abbrev parted-process : Process
@@ -152,7 +151,8 @@ module _ (L : Loaded) {st : State} {t : Tree (S L) (root L) (st .process)} {path
   sender-fork : {a : Site} → Sender st a → Sender forkState a
   sender-fork (process other {v} {k = f} e) =
       ⊎-elim (λ x. never (cc (sym (at .found), ap (λ y. look y (st .process)) x, e)))
-      (λ x. process other (look-put-other parted-process (st .process) (leaves-apart path other (st .process) (at .found) (at .leaf) e l-output x) ∙ e))
+      (λ x. process other
+      (look-put-other parted-process (st .process) (leaves-apart path other (st .process) (at .found) (at .leaf) e l-output x) ∙ e))
       (same-path path other)
   sender-fork (outside e) = outside e
 
@@ -167,7 +167,8 @@ module _ (L : Loaded) {st : State} {t : Tree (S L) (root L) (st .process)} {path
       inner (m ∷ rest) y = elim (started-found m rest (stmt s ss) k y .1) [ begun r x z ↦ absurd (silent-begin r [] (sym z)) ]
   sender-unfork (outside e) = outside e
 
-  module _ {μ : Mem} {ws : List ℕ} (rest : Rest L st μ t (Only path) ws) (clean : Unmarked (S L) b i st μ) (place : μ w ≡ S L .off (c .over))
+  module _ {μ : Mem} {ws : List ℕ} (rest : Rest L st μ t (Only path) ws) (clean : Unmarked (S L) b i st μ)
+      (place : μ w ≡ S L .off (c .over))
       (count : μ (w + 1) ≡ suc (howMany ss)) where
     fork-owned : {a : Site} {v : ℕ} → μ (S L .word a) ≡ v → Owned L st t a v → Owned L forkState forkTree a v
     fork-owned {a} {v} e (owned {path = other} h m o) =
@@ -196,12 +197,14 @@ module _ (L : Loaded) {st : State} {t : Tree (S L) (root L) (st .process)} {path
         by : Compared path other → (μ v ≡ S L .off on) × (μ (v + 1) ≡ left bs)
         by (equal x) =
             let z = some-same (sym fork-here ∙ ap (labelAt (S L) forkTree) x ∙ h .label) in
-            let y = same-branches (sym (look-put-same path (st .process) parted-process (at .found)) ∙ ap (λ o. look o (forkState .process)) x ∙ e) in
+            let y = same-branches
+            (sym (look-put-same path (st .process) parted-process (at .found)) ∙ ap (λ o. look o (forkState .process)) x ∙ e) in
             parted-same (S L) μ z (place, count ∙ sym (left-branches (stmt s ss)) ∙ ap left y)
         by (below m rest x) =
             never (started-alone (S L) c m rest (sym (forked .below (m ∷ rest)) ∙ ap (labelAt (S L) forkTree) (sym x) ∙ h .label))
         by (above m rest′ x) = elim (par-above path other m rest′ parted-process (st .process) x (at .found) e) [
-          | same-par cs′ g y ↦ let (p₁, p₂) = rest .par g (record { label = sym (forked .above other m rest′ x) ∙ h .label }) in (p₁, p₂ ∙ y)
+          | same-par cs′ g y ↦
+              let (p₁, p₂) = rest .par g (record { label = sym (forked .above other m rest′ x) ∙ h .label }) in (p₁, p₂ ∙ y)
         ]
         by (apart x) =
             rest .par (sym (look-put-other parted-process (st .process) x) ∙ e) (record { label = sym (forked .aside other x) ∙ h .label })
@@ -223,7 +226,8 @@ module _ (L : Loaded) {st : State} {t : Tree (S L) (root L) (st .process)} {path
           leaf = λ h n. elim (which h) [
             | a-branch m r e f g ↦ absurd (n (branch-of m f))
             | aside-one a y ↦
-                held-stays (S L) _ _ (omega (arith, part-small L y, S L .top-small)) (sits-at L y) (fork-calm y) (rest .leaf y (apart-differ a))
+                held-stays (S L) _ _ (omega (arith, part-small L y, S L .top-small)) (sits-at L y) (fork-calm y)
+                (rest .leaf y (apart-differ a))
           ];
           par = fork-par;
         }
@@ -233,7 +237,8 @@ module _ (L : Loaded) {st : State} {t : Tree (S L) (root L) (st .process)} {path
         record {
           each = λ v m. elim (lines .each v m) [
             | whose {path = other} h e n ↦ whose (fork-other n h) e (λ o. elim o [
-              | branch-of l x ↦ never (cc (leaf-below path l [] (st .process) (at .found) (at .leaf), ap (λ y. look y (st .process)) x, h .found))
+              | branch-of l x ↦
+                  never (cc (leaf-below path l [] (st .process) (at .found) (at .leaf), ap (λ y. look y (st .process)) x, h .found))
             ])
           ];
           once = lines .once;

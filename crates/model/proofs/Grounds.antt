@@ -1,31 +1,26 @@
 -- Where the words of a program stand: all in the machine's memory; the outside channels behind the workspace.
-use Prim.Native.Nat.{ℕ, zero, suc, _+_, _-_, _^_, _≤_, _<_}
+use Prim.Native.Nat.{ℕ, zero, suc, _+_, _≤_, _<_}
 use native.Mathlib.Omega.{arith}
-use mathlib.Core.Path.{_≡_, refl, sym, ap, _∙_, subst}
-use mathlib.Core.Logic.{_≢_, _⊎_, inl, inr, ⊎-elim}
-use mathlib.Core.Bool.{Bool, true, false}
-use mathlib.Core.List.{List, [], _∷_, _++_, List·Memᴰ, List·Memᴰ·append-cases, List·Memᴰ·not-nil, List·Memᴰ·eq-of-singleton}
-use mathlib.Core.Option.{Option, none, some}
-use lib.ListN.{length, getD}
-use borrow.Author.Tests.{lt-ltb, le-ltb, le-leb, lt-leb}
-use Rattle.model.specs.Syntax.{Site, inputOf, outputOf, declared, Stmt, Stmts, stmt}
+use mathlib.Core.Path.{_≡_, refl, subst}
+use mathlib.Core.Logic.{_⊎_, inl, inr, ⊎-elim}
+use mathlib.Core.List.{List, [], _∷_, List·Memᴰ, List·Memᴰ·append-cases, List·Memᴰ·not-nil, List·Memᴰ·eq-of-singleton}
+use mathlib.Core.Option.{some}
+use lib.ListN.{length}
+use Rattle.model.specs.Syntax.{Site, inputOf, outputOf, Stmt, Stmts, stmt}
 use Rattle.model.specs.Reader.{numbered}
 use Rattle.model.specs.Counts.{need, sumNeed}
 use Rattle.model.specs.Layout.{base, wordOf}
-use Rattle.model.specs.Machine.{World, isHeld, memorySize}
 use Rattle.model.specs.Occam.{Process, Branches, State}
-use Rattle.model.specs.declared.Setup.{Setup}
-use Rattle.model.specs.declared.Machine.{Machine}
 use Rattle.model.proofs.Cases.{never}
 use Rattle.model.proofs.Ways.{Mem}
 use Rattle.model.proofs.Points.{Setting, whole}
-use Rattle.model.proofs.Parts.{Part, Ending, the-end, joins}
+use Rattle.model.proofs.Parts.{Part, joins}
 use Rattle.model.proofs.FineParts.{outsideNames}
 use Rattle.model.proofs.Arrivals.{Sound}
-use Rattle.model.proofs.Trees.{some-same, Label, alone, alone-part, alone-parted, Info, Tree, t-leaf, t-par, Forest, f-none, f-live, f-over}
-use Rattle.model.proofs.Trees.{labelAt, labelIn}
+use Rattle.model.proofs.Trees.{some-same, Label, alone, alone-part, alone-parted, Info, Tree, t-leaf, t-par, Forest, f-none, f-live}
+use Rattle.model.proofs.Trees.{f-over, labelAt, labelIn}
 use Rattle.model.proofs.Zones.{zoneOf, zone-under}
-use Rattle.model.proofs.Kernel.{Loaded, S, root, size, setup, LeafAt, NodeAt, Rest}
+use Rattle.model.proofs.Kernel.{Loaded, S, root, size, LeafAt, NodeAt, Rest}
 use Rattle.model.proofs.Writes.{node, part-small}
 
 -- one of some numbered names
@@ -88,7 +83,8 @@ module _ (L : Loaded) where
   -- a channel in scope is an outside one, or stands in the workspace
   pub channel-at : {st : State} {t : Tree (S L) (root L) (st .process)} {path : List ℕ} {l : Label} → NodeAt L st t path l → (c : Site)
       → List·Memᴰ c (zoneOf l .chans) → OutsideAt c ⊎ (S L .word c < base (L .prog))
-  channel-at {t = t} {path} n c m = ⊎-elim (λ k. inl (outside-at c k)) (λ k. inr (k .1)) (zone-under (S L) t path (n .label) .chans-from c m)
+  channel-at {t = t} {path} n c m = ⊎-elim (λ k. inl (outside-at c k)) (λ k. inr (k .1))
+      (zone-under (S L) t path (n .label) .chans-from c m)
 
   -- names are in the machine's memory
   pub var-in : {st : State} {t : Tree (S L) (root L) (st .process)} {path : List ℕ} {l : Label} → NodeAt L st t path l → (x : Site)

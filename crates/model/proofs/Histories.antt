@@ -1,48 +1,28 @@
 -- From one byte to a run, and from a call to every list of calls: the Occam run that grows with the list.
-use Prim.Native.Nat.{ℕ, zero, suc, _+_, _*_, _^_, _≤_, _<_}
+use Prim.Native.Nat.{ℕ, zero, suc, _+_, _*_, _≤_}
 use native.Mathlib.Omega.{arith}
 use native.Mathlib.Nat.{zero-add}
-use mathlib.Core.Path.{_≡_, refl, sym, ap, _∙_, subst}
-use mathlib.Core.Logic.{_⊎_, inl, inr, ⊎-elim}
-use mathlib.Core.Bool.{Bool, true, false, _||_, _&&_}
-use mathlib.Core.List.{List, [], _∷_, _++_, map, append-nil, append-assoc}
-use mathlib.Core.Option.{Option, none, some}
-use lib.ListN as Ls
-use lib.ListN.{length, getD, drop, length-append, length-take, take-append-drop, List·getD-append}
-use lib.Seq.{take-all}
-use lib.Dec.{ltb}
-use borrow.Author.Tests.{ltb-true, ltb-false, lt-ltb}
-use Rattle.model.specs.Word.{low}
-use Rattle.model.specs.Syntax.{outputOf}
+use mathlib.Core.Path.{_≡_, refl, sym, ap, _∙_}
+use mathlib.Core.Bool.{Bool, true, false, _||_}
+use mathlib.Core.List.{List, [], _∷_, _++_, map, append-nil}
+use lib.ListN.{length}
 use Rattle.model.specs.Accept.{limit}
-use Rattle.model.specs.Machine.{Talk, World, Result, done, memorySize}
-use Rattle.model.specs.Run.{After, Finish, unchanged, worldOf, shortMemory, byte, ended, waits, runFrom, run}
-use Rattle.model.specs.Outside.{offering, taking, offer, take}
-use Rattle.model.specs.Occam.{State, Communication, Event, offers, takes, Sender, Outside, held, nobody}
-use Rattle.model.specs.Demand.{Segment, steps, talkOf, Follows, step, outside}
-use Rattle.model.specs.History.{Call, callRun, callOffer, callTake, Moment, quietly, executed, bytes, during, call, history, offerEvent, takeEvent}
-use Rattle.model.specs.declared.Machine.{Machine}
-use Rattle.model.specs.declared.Setup.{Setup}
-use Rattle.model.specs.declared.Kept.the-variants.{Nothing as NoFault}
-use Rattle.model.specs.declared.OfferAnswer.{OfferAnswer}
-use Rattle.model.specs.declared.OfferAnswer.the-variants.{Offered, Short as OfferShort, NoChannel as OfferNoChannel, Held}
-use Rattle.model.specs.declared.TakeAnswer.{TakeAnswer}
-use Rattle.model.specs.declared.TakeAnswer.the-variants.{Taken, Nothing, Short as TakeShort, NoChannel as TakeNoChannel}
+use Rattle.model.specs.Machine.{World, done}
+use Rattle.model.specs.Run.{Finish, worldOf, byte, ended, waits, runFrom}
+use Rattle.model.specs.Occam.{State, Communication, Event}
+use Rattle.model.specs.Demand.{Segment, talkOf, Follows}
+use Rattle.model.specs.History.{Moment, executed, bytes}
 use Rattle.model.proofs.Cases.{never, by-bool}
 use Rattle.model.proofs.Points.{whole}
 use Rattle.model.proofs.Most.{most}
-use Rattle.model.proofs.Kernel.{Loaded, S, setup, size, Real}
-use Rattle.model.proofs.Traces.{Trace, t-none, t-event, trace-valid, trace-reach, trace-talk, trace-events, trace-most}
-use Rattle.model.proofs.Running.{Inv, runs, starts, idle, Did, came}
+use Rattle.model.proofs.Kernel.{Loaded, S, size}
+use Rattle.model.proofs.Traces.{Trace, trace-valid, trace-reach, trace-talk, trace-events, trace-most}
+use Rattle.model.proofs.Running.{Inv, Did, came}
 use Rattle.model.proofs.Finish.{inv-setup}
 use Rattle.model.proofs.OneByte.{code-is, Byte, byte-goes}
-use Rattle.model.proofs.Wakings.{Answers, answers}
-use Rattle.model.proofs.Takes.{takes-does}
-use Rattle.model.proofs.Offerings.{offer-held}
-use Rattle.model.proofs.Offers.{offers-does}
-use Rattle.model.proofs.Agreement.{inv-agrees, inv-no-fault}
+use Rattle.model.proofs.Agreement.{inv-agrees}
 use Rattle.model.proofs.Runs.{run-behind}
-use Rattle.model.proofs.Chains.{Chain, chain-nil, chain-byte, chain-other, chain-append}
+use Rattle.model.proofs.Chains.{Chain, chain-nil, chain-byte}
 use Rattle.model.proofs.Lending.{byte-lent, inv-lent, inv-few, inv-room}
 
 pub or-left : (a c : Bool) → (a || c) ≡ false → a ≡ false
@@ -81,7 +61,8 @@ module _ (code : List ℕ) where
   bytes-go b rest s t e w d = rw (e, w, d)
 
   -- what was communicated before changes nothing of where a run comes
-  run-afresh : (b n : ℕ) (t : World) → (runFrom b code n t .world .machine ≡ runFrom b code n (worldOf (t .machine) (t .memory)) .world .machine)
+  run-afresh : (b n : ℕ) (t : World)
+      → (runFrom b code n t .world .machine ≡ runFrom b code n (worldOf (t .machine) (t .memory)) .world .machine)
       × (runFrom b code n t .world .memory ≡ runFrom b code n (worldOf (t .machine) (t .memory)) .world .memory)
   run-afresh b n t =
       let w = worldOf (t .machine) (t .memory) in
@@ -98,7 +79,8 @@ module _ (L : Loaded) where
   bound = limit * whole (S L)
 
   -- moves are a segment for a moment with their communications and events
-  pub follows : {s : World} {st st′ : State} {g : Segment} {cs : List Communication} {es : List Event} {n : ℕ} (rest : List ℕ) (now : Moment)
+  pub follows : {s : World} {st st′ : State} {g : Segment} {cs : List Communication} {es : List Event} {n : ℕ}
+      (rest : List ℕ) (now : Moment)
       → now .machine ≡ s .machine → now .memory ≡ s .memory ++ rest → now .talk ≡ map (talkOf (L .prog)) cs → now .events ≡ es
       → Trace st g st′ cs es → Inv L s st′ n → Follows (L .prog) now st g
   follows rest now em er et ee ms inv =
@@ -126,9 +108,11 @@ module _ (L : Loaded) where
         let stays = run-stays lent b n₀ s e in
         ran s c (ap (λ (w : World). w .machine) stays) (ap (λ (w : World). w .memory) stays) inv few
 
-    run-on : (b n₀ : ℕ) (s : World) {st : State} {n : ℕ} → s .talk ≡ [] → ended (s .machine) ≡ false → waits (s .machine) ≡ false → Inv L s st n
+    run-on : (b n₀ : ℕ) (s : World) {st : State} {n : ℕ} → s .talk ≡ [] → ended (s .machine) ≡ false
+        → waits (s .machine) ≡ false → Inv L s st n
         → most (st .process) ≤ limit
-        → ((t : World) (st′ : State) (k : ℕ) → t .talk ≡ [] → Inv L t st′ k → most (st′ .process) ≤ limit → Ran b (suc n₀) lent t st′ k rest)
+        → ((t : World) (st′ : State) (k : ℕ) → t .talk ≡ [] → Inv L t st′ k → most (st′ .process) ≤ limit
+        → Ran b (suc n₀) lent t st′ k rest)
         → Did L (Byte L s) s st n → Ran (suc b) n₀ lent s st n rest
     run-on b n₀ s {st} {n} z e w inv few rec (came t {st′} {m} {cs} g d ms talk inv′ fewer) =
         let d′ : byte lent s ≡ done tt t = byte-lent (L .code) more s (code-is L s (inv-setup L inv)) ∙ d in
@@ -142,10 +126,12 @@ module _ (L : Loaded) where
               let all : Chain (L .prog) bound (bytes (suc b) lent rest s) st (g ∷ gs) st₂ n k =
               rw (bytes-go lent b rest s t e w d′) (chain-byte f (trace-reach ms) refl (inv-few L inv′ few′) fewer c) in
               let goes = run-goes lent b n₀ s t e w d′ in
-              ran u all (ap (λ (r : Finish). r .world .machine) goes ∙ am ∙ em) (ap (λ (r : Finish). r .world .memory) goes ∙ ar ∙ er) inv″ few″
+              ran u all (ap (λ (r : Finish). r .world .machine) goes ∙ am ∙ em)
+              (ap (λ (r : Finish). r .world .memory) goes ∙ ar ∙ er) inv″ few″
         ]
 
-    pub run-bytes : (b n₀ : ℕ) (s : World) (st : State) (n : ℕ) → s .talk ≡ [] → Inv L s st n → most (st .process) ≤ limit → Ran b n₀ lent s st n rest
+    pub run-bytes : (b n₀ : ℕ) (s : World) (st : State) (n : ℕ) → s .talk ≡ [] → Inv L s st n → most (st .process) ≤ limit
+        → Ran b n₀ lent s st n rest
     unfolding bytes
     run-bytes zero n₀ s st n z inv few =
         let c : Chain (L .prog) bound (bytes zero lent rest s) st [] st n n = chain-nil in

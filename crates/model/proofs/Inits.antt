@@ -1,52 +1,47 @@
 -- The stores that initialise a VAR or CHAN; the last one enters it.
-use Prim.Native.Nat.{ℕ, zero, suc, _+_, _-_, _^_, _≤_, _<_}
+use Prim.Native.Nat.{ℕ, suc, _+_, _^_, _≤_, _<_}
 use native.Mathlib.Omega.{arith}
 use native.Mathlib.Decide.{ℕ-discrete, decLt}
 use mathlib.Core.Path.{_≡_, refl, sym, ap, _∙_, subst}
-use mathlib.Core.Logic.{_≢_, _⊎_, inl, inr, ⊎-elim}
-use mathlib.Core.Bool.{Bool, true, false, cond}
+use mathlib.Core.Logic.{_⊎_, inl, ⊎-elim}
 use mathlib.Core.List.{List, [], _∷_, _++_, List·Memᴰ, Memᴰ·append-left, Memᴰ·append-right, List·Memᴰ·append-cases}
-use mathlib.Core.Option.{Option, none, some}
-use lib.ListN.{length, getD}
 use Rattle.model.specs.Word.{low, notProcess}
-use Rattle.model.specs.Syntax.{Site, declared, Stmt, VAR, CHAN}
+use Rattle.model.specs.Syntax.{Site, Stmt, VAR, CHAN}
 use Rattle.model.specs.Reader.{names}
 use Rattle.model.specs.Usage.{isIn}
 use Rattle.model.specs.Instruction.{Instruction, plain, operation}
 use Rattle.model.specs.Instruction as I
 use Rattle.model.specs.Code.{functionIn, operandIn}
 use Rattle.model.specs.Scheme.{code}
-use Rattle.model.specs.Machine.{World, done, withCpu, linkWord}
-use Rattle.model.specs.Execute.{execute, pop}
-use Rattle.model.specs.Occam.{Store, zeros, Frame, inVar, Process, before, begin, go, put, State, Sender, process, outside, Step, begins}
-use Rattle.model.specs.Demand.{liveIn}
-use Rattle.model.proofs.Cases.{never, by-bool}
+use Rattle.model.specs.Machine.{World, withCpu}
+use Rattle.model.specs.Execute.{pop}
+use Rattle.model.specs.Occam.{Store, zeros, Frame, inVar, Process, before, begin, go, State, process, Step, begins}
+use Rattle.model.proofs.Cases.{by-bool}
 use Rattle.model.proofs.Sites.{isIn-mem, mem-isIn}
 use Rattle.model.proofs.Ways.{Regs, regsOf, Quiet, pushing, Mem, arrived, quiet, quiet-ldc, quiet-mint}
 use Rattle.model.proofs.Expr.{Seg, seg-length}
-use Rattle.model.proofs.Points.{Setting, whole, At}
-use Rattle.model.proofs.Arrive.{inside, up, rises-le, named, named-in}
-use Rattle.model.proofs.Paths.{Leaf, leaf-begin, live-begin, silent-begin, same-path}
-use Rattle.model.proofs.Parts.{Part, Words, Fine}
-use Rattle.model.proofs.Conts.{Placed, placed-vars, placed-chans, Cont, c-var, c-chan, cont-low, cont-inside, cont-bound, cont-placed}
+use Rattle.model.proofs.Points.{whole, At}
+use Rattle.model.proofs.Arrive.{inside, rises-le, named, named-in}
+use Rattle.model.proofs.Paths.{leaf-begin, live-begin, silent-begin, same-path}
+use Rattle.model.proofs.Parts.{Part, Fine}
+use Rattle.model.proofs.Conts.{Placed, placed-vars, placed-chans, Cont, c-var, c-chan, cont-inside, cont-bound, cont-placed}
 use Rattle.model.proofs.Marks.{Own, Settled, Opening, Point, pt-var, pt-chan}
-use Rattle.model.proofs.Arrivals.{Goes, Comes, enters, arrives}
-use Rattle.model.proofs.Trees.{some-same, Label, alone, alone-info, Info, Sits, Tree, labelAt, bytesLeft}
+use Rattle.model.proofs.Arrivals.{enters, arrives}
+use Rattle.model.proofs.Trees.{some-same, Label, alone, Info, Tree, labelAt, bytesLeft}
 use Rattle.model.proofs.Zones.{zoneOf}
 use Rattle.model.proofs.Leaves.{upd, Unmarked}
-use Rattle.model.proofs.Stays.{Calm}
-use Rattle.model.proofs.Effects.{cpuOf, sizeOf, stored, exec-stl}
-use Rattle.model.proofs.Kernel.{Loaded, S, root, size, LeafAt, NodeAt, Owned, Rest, Lined, Real}
-use Rattle.model.proofs.Writes.{upd-same, upd-other, changed, after-leaf, after-lined, node, apart-zones, part-small, sits-at, rest-same}
+use Rattle.model.proofs.Effects.{cpuOf, stored, exec-stl}
+use Rattle.model.proofs.Kernel.{Loaded, S, root, LeafAt, NodeAt, Owned, Rest, Real}
+use Rattle.model.proofs.Writes.{upd-same, upd-other, changed, after-leaf, after-lined, node, apart-zones, part-small, rest-same}
 use Rattle.model.proofs.Writes.{sender-stored, sender-kept}
-use Rattle.model.proofs.Puts.{putting, treeThen, here-then}
+use Rattle.model.proofs.Puts.{putting, here-then}
 use Rattle.model.proofs.Grounds.{small-size, sound-at}
 use Rattle.model.proofs.Running.{Only, Did, Executes, executes, Acting}
 use Rattle.model.proofs.Reals.{size-is, real-state, real-cpu}
 use Rattle.model.proofs.Finish.{goes-on, silent}
-use Rattle.model.proofs.Advance.{Silent, goes-as, advances, sits}
+use Rattle.model.proofs.Advance.{Silent, goes-as, advances}
 use Rattle.model.proofs.Basics.{before-silent}
-use Rattle.model.proofs.Meets.{not-own, chan-above, rest-below, real-below, clean-below}
+use Rattle.model.proofs.Meets.{not-own, rest-below, real-below, clean-below}
 
 module _ (L : Loaded) where
   -- names that are in scope of nobody get other values
@@ -66,7 +61,8 @@ module _ (L : Loaded) where
       (λ path a vs cs w onward n. (refl, refl))
 
   module _ {s : World} {st : State} {μ : Mem} {t : Tree (S L) (root L) (st .process)} {path : List ℕ} {q : Process} {b : Part} {i : Info}
-      {ws : List ℕ} {at hi : ℕ} (A : Acting L s st μ t path q b i (Only path) ws at hi) (clean : Unmarked (S L) b i st μ) {f : Instruction} {p n : ℕ}
+      {ws : List ℕ} {at hi : ℕ} (A : Acting L s st μ t path q b i (Only path) ws at hi) (clean : Unmarked (S L) b i st μ)
+      {f : Instruction} {p n : ℕ}
       {d : Stmt} {k : List Frame} {h c j : ℕ} (op : Opening (S L) b f p n d (i .vars) (i .chans) k h c (cpuOf s .workspace)) (l : j < n)
       (e : at ≡ suc (c + (j + j))) (v : ℕ) (val : cpuOf s .a ≡ v)
       (filled : (m : ℕ) → m < j → μ (cpuOf s .workspace + m) ≡ v) where
@@ -103,7 +99,9 @@ module _ (L : Loaded) where
     executed : Executes L (plain I.stl j) s u
     unfolding functionIn operandIn
     executed =
-        executes (exec-stl j (w + j) s (omega (arith, high)) (rw (size-is L (A .real)) (omega (arith, outer .low, part-small L (A .leaf)))) ∙ rw val)
+        executes
+        (exec-stl j (w + j) s (omega (arith, high))
+        (rw (size-is L (A .real)) (omega (arith, outer .low, part-small L (A .leaf)))) ∙ rw val)
 
     -- the words up to this one
     filled-on : (m : ℕ) → m < suc j → ν (w + m) ≡ v
@@ -128,7 +126,8 @@ module _ (L : Loaded) where
           rises-le (S L) (suc (suc (suc at))) (suc (op .close)) inner (cont-inside (S L) b (op .after)),
         ) in
         goes-on L A u executed refl real₀ (A .run) (A .operand) rest₀ (A .lined) (suc at) hi (A .placed) (A .inside) (omega arith)
-        (quiet (pushing v) at-load (calm (L .off (suc (suc at)))) (arrived (pt (pushing v (regsOf (cpuOf u))) refl refl) bound)) settled clean₀
+        (quiet (pushing v) at-load (calm (L .off (suc (suc at)))) (arrived (pt (pushing v (regsOf (cpuOf u))) refl refl) bound)) settled
+        clean₀
 
     -- a name of this declaration: its word is filled
     filled-name : suc j ≡ n → (x : Site) → List·Memᴰ x (names p n) → ν (S L .word x) ≡ v
@@ -154,7 +153,8 @@ module _ (L : Loaded) where
         )
 
   -- the last store of a VAR: its variables are 0
-  module _ {s : World} {st : State} {μ : Mem} {t : Tree (S L) (root L) (st .process)} {path : List ℕ} {p n : ℕ} {d : Stmt} {k : List Frame} {b : Part}
+  module _ {s : World} {st : State} {μ : Mem} {t : Tree (S L) (root L) (st .process)} {path : List ℕ} {p n : ℕ} {d : Stmt}
+      {k : List Frame} {b : Part}
       {i : Info} {ws : List ℕ} {at hi h c j : ℕ} (A : Acting L s st μ t path (before (VAR p n d) k) b i (Only path) ws at hi)
       (clean : Unmarked (S L) b i st μ) (op : Opening (S L) b (plain I.ldc 0) p n d (i .vars) (i .chans) k h c (cpuOf s .workspace))
       (fine : Fine (S L .word) b (names p n ++ i .vars) (i .chans) (cpuOf s .workspace) d) (l : j < n)
@@ -178,7 +178,8 @@ module _ (L : Loaded) where
               (λ (o : path ≡ other).
               let same = some-same (sym (m .label) ∙ ap (labelAt (S L) t) (sym o) ∙ A .leaf .label) in
               absurd (omega (arith, word-is, above .scoped .vars-above x (subst (λ z. List·Memᴰ x (zoneOf z .vars)) same q))))
-              (λ o. apart-zones L o (node L (A .leaf)) m .vars-in x q (omega (arith, word-is, op .room), omega (arith, word-is, above .low)))
+              (λ o. apart-zones L o (node L (A .leaf)) m .vars-in x q
+              (omega (arith, word-is, op .room), omega (arith, word-is, above .low)))
               (same-path path other)
         ]
 
@@ -221,13 +222,16 @@ module _ (L : Loaded) where
         let few : whole (S L) ≤ whole (S L) = omega arith in
         let process = begin d (inVar xs ∷ k) in
         let live = live-begin d (inVar xs ∷ k) (xs ++ i .vars)
-        (λ x m. ⊎-elim (λ g. Memᴰ·append-left (i .vars) g) (λ g. Memᴰ·append-right xs (A .rest .live (A .leaf) x g)) (List·Memᴰ·append-cases xs m)) in
+        (λ x m. ⊎-elim (λ g. Memᴰ·append-left (i .vars) g) (λ g. Memᴰ·append-right xs (A .rest .live (A .leaf) x g))
+        (List·Memᴰ·append-cases xs m)) in
         let quiet : Silent process = λ c v f e. silent-begin d (inVar xs ∷ k) e in
         let lines = after-lined L (A .lined) in
-        let now = goes-as L real leaf-var rest-var lines clean-var (before-silent (VAR p n d) k) process (leaf-begin d (inVar xs ∷ k)) inside-info
+        let now = goes-as L real leaf-var rest-var lines clean-var (before-silent (VAR p n d) k) process
+        (leaf-begin d (inVar xs ∷ k)) inside-info
         placed few (vars-ok last) (rest-var .chans (node L leaf-var)) live quiet in
         let sound = sound-at L now (here-then L leaf-var process (leaf-begin d (inVar xs ∷ k)) inside-info _) in
-        advances L real leaf-var rest-var lines clean-var (before-silent (VAR p n d) k) process (leaf-begin d (inVar xs ∷ k)) inside-info placed few
+        advances L real leaf-var rest-var lines clean-var (before-silent (VAR p n d) k) process
+        (leaf-begin d (inVar xs ∷ k)) inside-info placed few
         (vars-ok last) (rest-var .chans (node L leaf-var)) live quiet entered (executed A clean op l e 0 val filled)
         (silent L s (u A clean op l e 0 val filled) refl)
         (record { run = A .run; operand = A .operand; place = A .placed; work = refl; inside = A .inside })
@@ -235,7 +239,8 @@ module _ (L : Loaded) where
         (arrives (S L) b σ₀ after (near-close A clean op l e 0 val filled) sound)) clean-var near-on
 
   -- the last store of a CHAN: its channels are empty
-  module _ {s : World} {st : State} {μ : Mem} {t : Tree (S L) (root L) (st .process)} {path : List ℕ} {p n : ℕ} {d : Stmt} {k : List Frame} {b : Part}
+  module _ {s : World} {st : State} {μ : Mem} {t : Tree (S L) (root L) (st .process)} {path : List ℕ} {p n : ℕ} {d : Stmt}
+      {k : List Frame} {b : Part}
       {i : Info} {ws : List ℕ} {at hi h c j : ℕ} (A : Acting L s st μ t path (before (CHAN p n d) k) b i (Only path) ws at hi)
       (clean : Unmarked (S L) b i st μ) (op : Opening (S L) b (operation I.mint) p n d (i .vars) (i .chans) k h c (cpuOf s .workspace))
       (fine : Fine (S L .word) b (i .vars) (names p n ++ i .chans) (cpuOf s .workspace) d) (l : j < n) (e : at ≡ suc (c + (j + j)))
@@ -290,12 +295,14 @@ module _ (L : Loaded) where
         (arrives (S L) b (st .store) after (near-close A clean op l e notProcess val filled) sound)) (clean-chan last) near-on
 
   -- the store of a VAR's or CHAN's initialisation
-  module _ {s : World} {st : State} {μ : Mem} {t : Tree (S L) (root L) (st .process)} {path : List ℕ} {p n : ℕ} {d : Stmt} {k : List Frame} {b : Part}
+  module _ {s : World} {st : State} {μ : Mem} {t : Tree (S L) (root L) (st .process)} {path : List ℕ} {p n : ℕ} {d : Stmt}
+      {k : List Frame} {b : Part}
       {i : Info} {ws : List ℕ} {at hi h c j : ℕ} where
     pub did-var-store : (A : Acting L s st μ t path (before (VAR p n d) k) b i (Only path) ws at hi) → Unmarked (S L) b i st μ
         → Opening (S L) b (plain I.ldc 0) p n d (i .vars) (i .chans) k h c (cpuOf s .workspace)
         → Fine (S L .word) b (names p n ++ i .vars) (i .chans) (cpuOf s .workspace) d → h ≤ hi → j < n → at ≡ suc (c + (j + j))
-        → cpuOf s .a ≡ 0 → ((m : ℕ) → m < j → μ (cpuOf s .workspace + m) ≡ 0) → Did L (Executes L (plain I.stl j) s) s st (bytesLeft (S L) t)
+        → cpuOf s .a ≡ 0 → ((m : ℕ) → m < j → μ (cpuOf s .workspace + m) ≡ 0)
+        → Did L (Executes L (plain I.stl j) s) s st (bytesLeft (S L) t)
     unfolding functionIn operandIn
     did-var-store A clean op fine le l e val filled = by (decLt (suc j) n)
       where
@@ -320,7 +327,8 @@ module _ (L : Loaded) where
         by (yes more) =
             let next : suc (suc at) ≡ suc (c + (suc j + suc j)) = omega arith in
             init-next A clean op l e notProcess val filled more le (λ p. quiet-mint) tt
-            (λ r z a. subst (λ w. Point (S L) b (st .store) (i .vars) (i .chans) (before (CHAN p n d) k) hi (ν A clean op l e notProcess val filled)
+            (λ r z a. subst
+            (λ w. Point (S L) b (st .store) (i .vars) (i .chans) (before (CHAN p n d) k) hi (ν A clean op l e notProcess val filled)
             (suc (suc at)) (record { a = r .a; b = r .b; c = r .c; w = w })) (sym z)
             (pt-chan op fine le more next a (filled-on A clean op l e notProcess val filled)))
         by (no more) = did-chan A clean op fine l e val filled (omega arith)

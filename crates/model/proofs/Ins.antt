@@ -1,63 +1,64 @@
 -- IN: a process comes to an input. It takes a held offer or a sender's value, or waits.
-use Prim.Native.Nat.{ℕ, zero, suc, _+_, _-_, _^_, _≤_, _<_}
+use Prim.Native.Nat.{ℕ, suc, _+_, _-_, _^_, _≤_, _<_}
 use native.Mathlib.Omega.{arith}
 use native.Mathlib.Decide.{ℕ-discrete}
 use mathlib.Core.Path.{_≡_, refl, sym, ap, _∙_, subst}
-use mathlib.Core.Logic.{_≢_, _⊎_, inl, inr, ⊎-elim}
-use mathlib.Core.Bool.{Bool, true, false, cond}
+use mathlib.Core.Logic.{_≢_, inl, inr, ⊎-elim}
+use mathlib.Core.Bool.{true, false}
 use mathlib.Core.List.{List, [], _∷_, _++_, map, List·Memᴰ}
 use mathlib.Core.Option.{Option, none, some}
-use lib.ListN.{length, getD, set, length-set}
-use lib.Seq.{getD-set-same, getD-set-other}
+use lib.ListN.{getD}
 use lib.Dec.{eqb}
-use borrow.Author.Tests.{eq-eqb, ne-eqb}
+use borrow.Author.Tests.{ne-eqb}
 use Rattle.model.specs.Word.{notProcess}
-use Rattle.model.specs.Syntax.{Site, inputOf, Stmt, input}
-use Rattle.model.specs.Instruction.{Instruction, operation}
+use Rattle.model.specs.Syntax.{Site, inputOf, input}
+use Rattle.model.specs.Instruction.{operation}
 use Rattle.model.specs.Instruction as I
 use Rattle.model.specs.Code.{functionIn, operandIn}
 use Rattle.model.specs.Layout.{base}
-use Rattle.model.specs.Machine.{World, done, withCpu, withOffers, communicate, isHeld, resumeWord, stateWord, linkWord}
-use Rattle.model.specs.Occam.{Store, store, Frame, Process, before, atInput, atOutput, resume, go, look, put, State, Communication}
+use Rattle.model.specs.Machine.{World, isHeld, resumeWord, stateWord}
+use Rattle.model.specs.Occam.{store, Frame, before, atInput, atOutput, resume, go, look, put, State}
 use Rattle.model.specs.Occam.{over-channel, Sender, process, outside, Step, begins, communicates, receives}
-use Rattle.model.specs.Demand.{step, Segment, steps, talkOf}
+use Rattle.model.specs.Demand.{step, talkOf}
 use Rattle.model.specs.declared.Setup.{Setup}
 use Rattle.model.proofs.Cases.{never, by-bool}
-use Rattle.model.proofs.Ways.{Regs, regsOf, Mem}
-use Rattle.model.proofs.Points.{Setting, whole, At}
-use Rattle.model.proofs.Arrive.{inside, up, rises-le}
-use Rattle.model.proofs.Paths.{Leaf, l-input, l-output, leaf-resume, live-resume, silent-resume, same-path, look-put-same, put-put-same}
+use Rattle.model.proofs.Ways.{Mem}
+use Rattle.model.proofs.Points.{whole}
+use Rattle.model.proofs.Arrive.{inside}
+use Rattle.model.proofs.Paths.{l-input, l-output, leaf-resume, live-resume, silent-resume, same-path, look-put-same, put-put-same}
 use Rattle.model.proofs.Paths.{Apart, apart-sym as path-apart-sym, leaves-apart, look-put-other, put-put-apart}
 use Rattle.model.proofs.Parts.{Part, Fine}
-use Rattle.model.proofs.Conts.{Placed, Cont, cont-inside, cont-placed}
+use Rattle.model.proofs.Conts.{Placed, Cont, cont-placed}
 use Rattle.model.proofs.Marks.{Own}
-use Rattle.model.proofs.Arrivals.{Sound, Comes, arrives}
+use Rattle.model.proofs.Arrivals.{arrives}
 use Rattle.model.proofs.Trees.{Info, Sits, Tree, bytesLeft}
-use Rattle.model.proofs.Leaves.{upd, member, Unmarked, MarkedOnly, Waits, Held, h-input}
-use Rattle.model.proofs.Effects.{cpuOf, sizeOf, stored}
+use Rattle.model.proofs.Leaves.{upd, member, Unmarked, Waits, h-input}
+use Rattle.model.proofs.Effects.{cpuOf, stored}
 use Rattle.model.proofs.Acts.{dropped, parked, exec-in-held, exec-in-wait, exec-in-sender}
-use Rattle.model.proofs.Kernel.{Loaded, S, root, size, setup, LeafAt, NodeAt, Owned, owned, Rest, Lined, Real, Offer, no-offer, held-offer}
-use Rattle.model.proofs.Writes.{upd-same, upd-other, changed, after-leaf, after-lined, node, apart-parts, apart-zones, own-one, part-small}
-use Rattle.model.proofs.Writes.{sits-at, write-own, write-var, write-chan, left-out, change-offers}
+use Rattle.model.proofs.Kernel.{Loaded, S, root, size, setup, LeafAt, Rest, Lined, Real}
+use Rattle.model.proofs.Writes.{upd-same, upd-other, changed, after-leaf, after-lined, node, apart-parts, apart-zones, part-small}
+use Rattle.model.proofs.Writes.{sits-at, write-var, change-offers}
 use Rattle.model.proofs.Puts.{putting, treeThen, here-then, other-then, lined-then, rest-then, sender-before}
 use Rattle.model.proofs.Grounds.{var-in, chan-in, small-size, sound-at}
 use Rattle.model.proofs.Traces.{Trace, t-none, t-step}
-use Rattle.model.proofs.Running.{Only, Nobody, Did, Executes, executes, Acting}
-use Rattle.model.proofs.Reals.{size-is, mirrored, real-state, real-cpu, real-stored, real-talk, real-dropped, withoutOffer, link-own, link-var, link-chan}
-use Rattle.model.proofs.Sched.{Stands, settle, linkedTo, Woken}
+use Rattle.model.proofs.Running.{Only, Did, Executes, executes, Acting}
+use Rattle.model.proofs.Reals.{size-is, mirrored, real-state, real-stored, real-talk, real-dropped, withoutOffer, link-var}
+use Rattle.model.proofs.Reals.{link-chan}
+use Rattle.model.proofs.Sched.{settle, linkedTo, Woken}
 use Rattle.model.proofs.Queues.{joined}
 use Rattle.model.proofs.Finish.{then-settles, silent}
-use Rattle.model.proofs.Advance.{Silent, sits, goes-as, leaves-as}
+use Rattle.model.proofs.Advance.{Silent, goes-as, leaves-as}
 use Rattle.model.proofs.Basics.{before-silent}
-use Rattle.model.proofs.Channels.{Holder, holds-input, holds-output, holds-wait, holds-woken, holds-out, holder, Sends, sends, sender-at}
-use Rattle.model.proofs.Channels.{HeldAt, held-at, not-held, held-here}
-use Rattle.model.proofs.Meets.{Both, not-own, resumed, clear-chan, mark-chan, chan-above, rest-below, real-below, partner-goes}
+use Rattle.model.proofs.Channels.{Holder, holds-input, holds-output, holds-wait, holds-woken, holds-out, holder, Sends, sends}
+use Rattle.model.proofs.Channels.{sender-at, held-at, not-held, held-here}
+use Rattle.model.proofs.Meets.{Both, not-own, clear-chan, mark-chan, chan-above, rest-below, real-below, partner-goes}
 use Rattle.model.proofs.Moving.{same-leaf, rest-out, lined-out}
 
 pub output-channel : {c d : Site} {v w : ℕ} {k l : List Frame} → atOutput c v k ≡ atOutput d w l → c ≡ d
 output-channel e = cc
 
-module _ (L : Loaded) {s : World} {st : State} {μ : Mem} {t : Tree (S L) (root L) (st .process)} {path : List ℕ} {c x : Site} {k : List Frame}
+module _ (L : Loaded) {s : World} {st : State} {μ : Mem} {t : Tree (S L) (root L) (st .process)} {path : List ℕ}
+    {c x : Site} {k : List Frame}
     {b : Part} {i : Info} {ws : List ℕ} {at hi h : ℕ} (A : Acting L s st μ t path (before (input c x) k) b i (Only path) ws at hi)
     (ea : cpuOf s .a ≡ 4) (eb : cpuOf s .b ≡ S L .word c) (ec : cpuOf s .c ≡ S L .word x)
     (f : Fine (S L .word) b (i .vars) (i .chans) (cpuOf s .workspace) (input c x))
@@ -145,7 +146,8 @@ module _ (L : Loaded) {s : World} {st : State} {μ : Mem} {t : Tree (S L) (root 
         clean d m (subst (Own b) (upd-other μ (S L .word x) v (S L .word d) (λ e. placed .scoped .apart x d (f .1 .0) m (sym e))) q)
 
     -- it comes, and takes the offer
-    took : Trace st (step [] st₁ ∷ step (over-channel c v) (putting path (resume k) st₀) ∷ []) (putting path (resume k) st₀) (over-channel c v) []
+    took : Trace st (step [] st₁ ∷ step (over-channel c v) (putting path (resume k) st₀) ∷ [])
+        (putting path (resume k) st₀) (over-channel c v) []
     took =
         t-step coming
         (t-step
@@ -259,7 +261,8 @@ module _ (L : Loaded) {s : World} {st : State} {μ : Mem} {t : Tree (S L) (root 
           onward = cont;
           near = near-on;
           resumes = record {
-            place = upd-other ν₂ (stateWord w) (S L .word x) (resumeWord w) r-not-s ∙ upd-same ν₁ (resumeWord w) (cpuOf s .place) ∙ A .placed;
+            place = upd-other ν₂ (stateWord w) (S L .word x) (resumeWord w) r-not-s ∙ upd-same ν₁ (resumeWord w)
+                (cpuOf s .place) ∙ A .placed;
             soon = near-on;
           };
           space = f .0;
@@ -321,7 +324,8 @@ module _ (L : Loaded) {s : World} {st : State} {μ : Mem} {t : Tree (S L) (root 
       where
         by : Dec (S L .word a ≡ S L .word c) → (S L .word a ≢ S L .word c) × Own e (μ (S L .word a))
         by (yes z) = absurd (not-own e tall (subst (Own e) (ap η z ∙ upd-same η₁ (S L .word c) notProcess) o))
-        by (no z) = (z, subst (Own e) (upd-other η₁ (S L .word c) notProcess (S L .word a) z ∙ upd-other μ (S L .word x) v (S L .word a) n) o)
+        by (no z) =
+            (z, subst (Own e) (upd-other η₁ (S L .word c) notProcess (S L .word a) z ∙ upd-other μ (S L .word x) v (S L .word a) n) o)
 
     sender-clean : Unmarked (S L) d j st₂ η
     sender-clean a q o =
@@ -338,7 +342,8 @@ module _ (L : Loaded) {s : World} {st : State} {μ : Mem} {t : Tree (S L) (root 
         upd-other η₁ (S L .word c) notProcess (resumeWord (j .w)) (λ e. far .chans-out c (f .2) (omega (arith, e), omega (arith, e)))
         ∙ upd-other μ (S L .word x) v (resumeWord (j .w)) (λ e. far .vars-out x (f .1 .0) (omega (arith, e), omega (arith, e)))
 
-    woken : Woken L s₂ (putting other (resume l) st₂) η (treeThen L sender₂ (resume l) (leaf-resume l) j (sits-at L sender₂)) (Only path) (j .w) ws
+    woken : Woken L s₂ (putting other (resume l) st₂) η
+        (treeThen L sender₂ (resume l) (leaf-resume l) j (sits-at L sender₂)) (Only path) (j .w) ws
     woken =
         partner-goes L real₂ rest₂ lines₂ sender₂ apart (A .run) waits sender-same refl sender-clean
         (λ a y q e here p z n k o i. apart-parts L (after-leaf L (A .leaf)) k (λ w. o (inl w)) .inputs c (f .3)
@@ -364,7 +369,8 @@ module _ (L : Loaded) {s : World} {st : State} {μ : Mem} {t : Tree (S L) (root 
     apart-paths =
         leaves-apart other path (st .process) (sender .found) l-output (A .leaf .found) (A .leaf .leaf) (λ e. apart (sym e))
 
-    meets : Trace st (step [] st₁ ∷ step (over-channel c v) (putting path (resume k) st₃) ∷ []) (putting path (resume k) st₃) (over-channel c v) []
+    meets : Trace st (step [] st₁ ∷ step (over-channel c v) (putting path (resume k) st₃) ∷ [])
+        (putting path (resume k) st₃) (over-channel c v) []
     meets =
         t-step coming
         (t-step
@@ -402,7 +408,8 @@ module _ (L : Loaded) {s : World} {st : State} {μ : Mem} {t : Tree (S L) (root 
         let live = live-resume k (i .vars) (A .rest .live (A .leaf)) in
         let quiet : Silent (resume k) = λ c v f e. silent-resume k e in
         let real₃ = real-talk L (u₃ .talk) (woken .real) in
-        let now = goes-as L real₃ leaf₃ (woken .rest) (woken .lines) clean₃ (before-silent (input c x) k) (resume k) (leaf-resume k) i′ placed few
+        let now = goes-as L real₃ leaf₃ (woken .rest) (woken .lines) clean₃ (before-silent (input c x) k) (resume k)
+        (leaf-resume k) i′ placed few
         (woken .rest .vars (node L leaf₃)) (woken .rest .chans (node L leaf₃)) live quiet in
         then-settles L meets (omega arith) executed₃ refl
         (settle L (real-state L (put path (resume k) (st₃ .process)) (st₃ .store) real₃)

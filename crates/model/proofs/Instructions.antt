@@ -1,37 +1,36 @@
 -- The last byte of an instruction: whichever instruction it is, what it does is a part of a run.
-use Prim.Native.Nat.{ℕ, zero, suc, _+_, _-_, _≤_, _<_}
+use Prim.Native.Nat.{ℕ, suc, _+_, _-_, _≤_}
 use native.Mathlib.Omega.{arith}
-use mathlib.Core.Path.{_≡_, refl, sym, ap, _∙_, subst}
-use mathlib.Core.Logic.{_≢_, _⊎_, inl, inr}
+use mathlib.Core.Path.{_≡_, refl, sym, _∙_, subst}
+use mathlib.Core.Logic.{_≢_, inl}
 use mathlib.Core.Bool.{true}
 use mathlib.Core.List.{List, [], _∷_, _++_}
-use mathlib.Core.Option.{some}
 use lib.ListN.{length}
-use Rattle.model.specs.Syntax.{Site, Stmt, Stmts, noStmt, stmt}
-use Rattle.model.specs.Scheme.{size}
-use Rattle.model.specs.Instruction.{Instruction, plain, distance}
+use Rattle.model.specs.Syntax.{Stmt, noStmt, stmt}
+use Rattle.model.specs.Instruction.{Instruction, plain}
 use Rattle.model.specs.Instruction as I
 use Rattle.model.specs.Code.{functionIn, operandIn}
 use Rattle.model.specs.Word.{low, less}
 use Rattle.model.specs.Machine.{World, withCpu, goto}
 use Rattle.model.specs.declared.Cpu.{Cpu}
-use Rattle.model.specs.Occam.{Process, begin, State}
-use Rattle.model.proofs.Ways.{Regs, regsOf, load, Mem, Quiet, Way, arrived, through, quiet, loads, jumps, falls}
-use Rattle.model.proofs.Points.{Setting, whole, At}
-use Rattle.model.proofs.Arrive.{inside, up}
-use Rattle.model.proofs.Parts.{Part, joins, partOf}
-use Rattle.model.proofs.Marks.{Point, pt-stop, pt-assign, pt-var, pt-chan, pt-taken, pt-none, pt-while, pt-in, pt-out, pt-par-place, pt-par-count}
-use Rattle.model.proofs.Marks.{pt-end, pt-alt, StartPoint, Settled}
+use Rattle.model.specs.Occam.{Process, State}
+use Rattle.model.proofs.Ways.{regsOf, load, Mem, arrived, through, quiet, loads, jumps, falls}
+use Rattle.model.proofs.Points.{At}
+use Rattle.model.proofs.Arrive.{inside}
+use Rattle.model.proofs.Parts.{Part}
+use Rattle.model.proofs.Marks.{Point, pt-stop, pt-assign, pt-var, pt-chan, pt-taken, pt-none, pt-while, pt-in, pt-out, pt-par-place}
+use Rattle.model.proofs.Marks.{pt-par-count, pt-end, pt-alt, Settled}
 use Rattle.model.proofs.Arrivals.{Goes, Comes}
 use Rattle.model.proofs.Onwards.{AltGoes, Starts}
-use Rattle.model.proofs.Trees.{Info, newInfo, Tree, bytesLeft}
+use Rattle.model.proofs.Trees.{Info, Tree, bytesLeft}
 use Rattle.model.proofs.Leaves.{Unmarked}
 use Rattle.model.proofs.Effects.{cpuOf, exec-cj-jumps}
 use Rattle.model.proofs.Kernel.{Loaded, S, root, LeafAt, Rest, Lined, Real}
 use Rattle.model.proofs.Writes.{sits-at}
 use Rattle.model.proofs.Traces.{t-none}
-use Rattle.model.proofs.Running.{Only, Births, Later, Starting, Here, fresh, off-small, Birth, NowStarts, starts, Did, came, Executes, executes, Acting}
-use Rattle.model.proofs.Moving.{relaid, relabelled, relabel}
+use Rattle.model.proofs.Running.{Only, Births, Later, Starting, Here, fresh, off-small, Birth, starts, Did, came, Executes, executes}
+use Rattle.model.proofs.Running.{Acting}
+use Rattle.model.proofs.Moving.{relabelled, relabel}
 use Rattle.model.proofs.Reals.{real-cpu}
 use Rattle.model.proofs.Reach.{way-bound, start-in}
 use Rattle.model.proofs.Finish.{silent}
@@ -69,7 +68,8 @@ module _ (L : Loaded) {s : World} {st : State} {μ : Mem} {t : Tree (S L) (root 
   point-acts here A clean (pt-alt c l) = same-does L _ here (c .begins) (alt-begins L A c refl l clean)
 
   -- on the way to one
-  pub way-acts : {at hi : ℕ} {q : Process} → At (S L) at x → Acting L s st μ t path q b i (Only path) ws at hi → Settled q → Unmarked (S L) b i st μ
+  pub way-acts : {at hi : ℕ} {q : Process} → At (S L) at x → Acting L s st μ t path q b i (Only path) ws at hi → Settled q
+      → Unmarked (S L) b i st μ
       → Goes (S L) b (st .store) (i .vars) (i .chans) q hi μ at (regsOf (cpuOf s)) → Did L (Executes L x s) s st (bytesLeft (S L) t)
   way-acts here A settled clean (arrived p h) = point-acts here A clean p
   way-acts here A settled clean (through e h f) = absurd (omega (arith, inside (S L) here))
@@ -89,13 +89,15 @@ module _ (L : Loaded) {s : World} {st : State} {μ : Mem} {t : Tree (S L) (root 
   alt-acts here A (falls a t z f v) = same-does L _ here a (pass-alt-falls L A t z f v)
 
 -- the first branch of a PAR, on its way to start the next one
-module _ (L : Loaded) {s : World} {st : State} {μ : Mem} {t : Tree (S L) (root L) (st .process)} {path : List ℕ} {q : Process} {b : Part} {i : Info}
+module _ (L : Loaded) {s : World} {st : State} {μ : Mem} {t : Tree (S L) (root L) (st .process)} {path : List ℕ}
+    {q : Process} {b : Part} {i : Info}
     {ws : List ℕ} {hi : ℕ} (B : Births) (first-branch : path ≡ B .par ++ 0 ∷ []) (next-one : 1 ≤ B .next) (same-w : i .w ≡ B .w)
     (births : (k : ℕ) (r : Stmt) (d f : ℕ) → Later (stmt (B .s) (B .ss)) (B .d) (B .b) k r d f → Birth L st μ t B k r d f)
     (own : Comes (S L) b (st .store) (i .vars) (i .chans) hi q (B .first) (B .w)) (inner : B .first ≤ length (S L .xs))
     (near : L .off (B .first) ≤ hi) (clean : Unmarked (S L) b i st μ) where
   -- with other registers, and one byte less left
-  pub starts-on : {did : World → Type 0} (r : Cpu) (k : ℕ) → Real L s st μ ws → LeafAt L st t path q b i → Rest L st μ t (Starting path B) ws
+  pub starts-on : {did : World → Type 0} (r : Cpu) (k : ℕ) → Real L s st μ ws → LeafAt L st t path q b i
+      → Rest L st μ t (Starting path B) ws
       → Lined L st t (Starting path B) ws → did (withCpu r s) → r .front ≡ cpuOf s .front → r .back ≡ cpuOf s .back
       → r .queued ≡ cpuOf s .queued → r .running ≡ true → Here L k (r .place) (r .operand) → suc hi ≤ i .left + r .place → 1 ≤ i .left
       → Starts (S L) (st .store) (B .s) (B .ss) (B .d) (B .b) (B .first) (B .w) hi μ k (regsOf r) → Did L did s st (bytesLeft (S L) t)
@@ -138,7 +140,8 @@ module _ (L : Loaded) {s : World} {st : State} {μ : Mem} {t : Tree (S L) (root 
     starts-at : {x : Instruction} (r : Cpu) (k : ℕ) → Executes L x s (withCpu r s) → r .front ≡ cpuOf s .front → r .back ≡ cpuOf s .back
         → r .queued ≡ cpuOf s .queued → r .running ≡ true → r .operand ≡ 0 → r .place ≡ L .off k → k ≤ length (S L .xs)
         → L .off (suc at) ≤ L .off k
-        → Starts (S L) (st .store) (B .s) (B .ss) (B .d) (B .b) (B .first) (B .w) hi μ k (regsOf r) → Did L (Executes L x s) s st (bytesLeft (S L) t)
+        → Starts (S L) (st .store) (B .s) (B .ss) (B .d) (B .b) (B .first) (B .w) hi μ k (regsOf r)
+        → Did L (Executes L x s) s st (bytesLeft (S L) t)
     starts-at r k ran e₁ e₂ e₃ run operand place inside-k ahead way =
         let bound = way-bound (S L) (start-in (S L)) way in
         starts-on r k (A .real) (A .leaf) (A .rest) (A .lined) ran e₁ e₂ e₃ run (fresh L k (r .place) (r .operand) inside-k place operand)
@@ -148,7 +151,8 @@ module _ (L : Loaded) {s : World} {st : State} {μ : Mem} {t : Tree (S L) (root 
         → Starts (S L) (st .store) (B .s) (B .ss) (B .d) (B .b) (B .first) (B .w) hi μ at (regsOf (cpuOf s))
         → Did L (Executes L x s) s st (bytesLeft (S L) t)
     unfolding functionIn operandIn
-    starts-acts here (arrived p h) = same-does L at here (p .starts) (did-start L B A p first-branch next-one same-w births own inner near clean)
+    starts-acts here (arrived p h) =
+        same-does L at here (p .starts) (did-start L B A p first-branch next-one same-w births own inner near clean)
     starts-acts here (through e h f) = absurd f
     starts-acts here (quiet g a q v) =
         let r = load (g (regsOf (cpuOf s))) (cpuOf s) in

@@ -1,37 +1,35 @@
 -- ENDP: a branch of a PAR is over. The PAR that it is of, and what the end of a branch leaves as it is.
-use Prim.Native.Nat.{ℕ, zero, suc, _+_, _-_, _^_, _≤_, _<_}
+use Prim.Native.Nat.{ℕ, zero, suc, _+_, _^_, _≤_, _<_}
 use native.Mathlib.Omega.{arith}
 use native.Mathlib.Decide.{ℕ-discrete}
 use mathlib.Core.Path.{_≡_, refl, sym, ap, _∙_, subst}
 use mathlib.Core.Logic.{_≢_, _⊎_, inl, inr, ⊎-elim}
-use mathlib.Core.Bool.{Bool, true, false}
 use mathlib.Core.List.{List, [], _∷_, _++_, append-nil, append-assoc, List·Memᴰ}
-use mathlib.Core.Option.{Option, none, some}
-use lib.ListN.{length, getD}
+use mathlib.Core.Option.{some}
 use Rattle.model.specs.Word.{notProcess}
 use Rattle.model.specs.Syntax.{Site, Stmt, Stmts, noStmt, stmt}
-use Rattle.model.specs.Counts.{need, sumNeed}
+use Rattle.model.specs.Counts.{sumNeed}
 use Rattle.model.specs.Machine.{linkWord}
-use Rattle.model.specs.Occam.{Frame, Process, atOutput, finished, inPar, Branches, branchAt, endBranch, branchesOf, framesOf, resume, closed}
-use Rattle.model.specs.Occam.{look, put, State, Step, ends, Sender, process, outside}
+use Rattle.model.specs.Occam.{Frame, Process, finished, inPar, Branches, branchAt, endBranch, branchesOf, framesOf, resume}
+use Rattle.model.specs.Occam.{look, put, State, Sender, process, outside}
 use Rattle.model.specs.Demand.{liveIn}
 use Rattle.model.proofs.Cases.{never}
 use Rattle.model.proofs.Ways.{Mem}
-use Rattle.model.proofs.Points.{Setting, whole}
-use Rattle.model.proofs.Paths.{Leaf, l-output, l-finished, leaf-par, leaf-resume, leaf-below, leaf-found, look-in, look-nil, look-append, look-prefix, prefixed}
-use Rattle.model.proofs.Paths.{look-under, under, par-whole, look-put-same, look-put-other, look-after, into, aside, look-end-same, look-end-other}
-use Rattle.model.proofs.Paths.{Compared, equal, below, above, apart, compare, Apart, here, apart-append, apart-under, apart-differ, left, left-end}
-use Rattle.model.proofs.Paths.{only-left, same-path, SamePar, same-par, par-above, live-resume, silent-resume, closed-last, closed-more, stmtAt}
-use Rattle.model.proofs.Parts.{sum-first, Part, joins, partOf}
-use Rattle.model.proofs.Conts.{Placed, cont-placed}
+use Rattle.model.proofs.Points.{Setting}
+use Rattle.model.proofs.Paths.{l-output, leaf-par, leaf-resume, leaf-below, leaf-found, look-append, look-prefix, prefixed}
+use Rattle.model.proofs.Paths.{look-under, under, par-whole, look-put-same, look-put-other, look-after, into, aside, look-end-same}
+use Rattle.model.proofs.Paths.{look-end-other, Compared, equal, below, above, apart, compare, Apart, here, apart-append, apart-under}
+use Rattle.model.proofs.Paths.{apart-differ, left, only-left, same-path, same-par, par-above, live-resume, silent-resume, stmtAt}
+use Rattle.model.proofs.Parts.{sum-first, Part, joins}
 use Rattle.model.proofs.Marks.{Own, ParCode}
 use Rattle.model.proofs.Arrivals.{cont-live}
-use Rattle.model.proofs.Trees.{some-same, distanceOf, BranchPart, branch-part, Label, alone, parted, alone-part, alone-parted, Info, Sits, Tree, t-leaf}
-use Rattle.model.proofs.Trees.{t-par, Forest, labelAt, running, partAt, part-nil, parts-apart, label-alone, labelled, owner-of, owner, par-part, rebuild, Rebuilt, EndedAt, ended-at}
+use Rattle.model.proofs.Trees.{some-same, distanceOf, BranchPart, Label, alone, parted, alone-parted, Info, Sits, Tree, t-leaf}
+use Rattle.model.proofs.Trees.{t-par, Forest, labelAt, running, partAt, part-nil, parts-apart, label-alone, labelled, owner-of}
+use Rattle.model.proofs.Trees.{owner, par-part, rebuild, Rebuilt, EndedAt, ended-at}
 use Rattle.model.proofs.Zones.{zoneOf}
-use Rattle.model.proofs.Leaves.{upd, member, Unmarked, Held}
+use Rattle.model.proofs.Leaves.{upd, Unmarked}
 use Rattle.model.proofs.Stays.{Calm, held-stays}
-use Rattle.model.proofs.Kernel.{Loaded, S, root, LeafAt, NodeAt, Owned, owned, Rest, Whose, whose, Lined}
+use Rattle.model.proofs.Kernel.{Loaded, S, root, LeafAt, NodeAt, Owned, owned, Rest, whose, Lined}
 use Rattle.model.proofs.Writes.{upd-same, upd-other, node, own-one, apart-zones, part-small, sits-at}
 use Rattle.model.proofs.Puts.{putting}
 use Rattle.model.proofs.Running.{Only, Nobody}
@@ -69,7 +67,8 @@ pub data Father (S : Setting) {a : Part} {p : Process} (t : Tree S a p) (path : 
       → labelAt S t ρ ≡ some (parted h vars chans w (c .over)) → BranchPart vars chans w 0 (stmt s ss) n b → Father S t path q b
 
 module _ (S : Setting) {a : Part} {p : Process} (t : Tree S a p) where
-  in-par : (ρ : List ℕ) (n : ℕ) {q : Process} {b h : Part} {i : Info} {bs : Branches} {k : List Frame} → labelAt S t (ρ ++ n ∷ []) ≡ some (alone b i)
+  in-par : (ρ : List ℕ) (n : ℕ) {q : Process} {b h : Part} {i : Info} {bs : Branches} {k : List Frame}
+      → labelAt S t (ρ ++ n ∷ []) ≡ some (alone b i)
       → look ρ p ≡ some (inPar bs k) → branchAt n bs ≡ some q → (u : Tree S h (inPar bs k)) → partAt S t ρ ≡ some h
       → ((rest : List ℕ) → labelAt S t (ρ ++ rest) ≡ labelAt S u rest) → Father S t (ρ ++ n ∷ []) q b
   unfolding labelAt
@@ -111,7 +110,8 @@ module _ (L : Loaded) {st : State} {t : Tree (S L) (root L) (st .process)} {path
   leaf-off h e = never (alone-parted (some-same (sym label ∙ ap (labelAt (S L) t) e ∙ h .label)))
 
   -- nor around it
-  leaf-not-above : {other : List ℕ} {q : Process} {d : Part} {j : Info} (l : ℕ) (rest : List ℕ) → LeafAt L st t other q d j → ρ ≡ other ++ l ∷ rest
+  leaf-not-above : {other : List ℕ} {q : Process} {d : Part} {j : Info} (l : ℕ) (rest : List ℕ)
+      → LeafAt L st t other q d j → ρ ≡ other ++ l ∷ rest
       → ⊥
   leaf-not-above {other} l rest h e =
       never (cc (leaf-below other l rest (st .process) (h .found) (h .leaf), ap (λ z. look z (st .process)) e, par))
@@ -174,12 +174,14 @@ module _ (L : Loaded) {st : State} {t : Tree (S L) (root L) (st .process)} {path
             in-branch : Dec (n ≡ l) → LeafAt L lastState lastTree other q d j
             in-branch (yes z) = absurd (ne (branch-alone rest h (e ∙ ap (λ y. ρ ++ y ∷ rest) (sym z))))
             in-branch (no z) =
-                elim (look-under l rest (inPar bs k) (sym (look-append ρ (l ∷ rest) (st .process) par) ∙ ap (λ y. look y (st .process)) (sym e) ∙ h .found)) [
+                elim (look-under l rest (inPar bs k)
+                (sym (look-append ρ (l ∷ rest) (st .process) par) ∙ ap (λ y. look y (st .process)) (sym e) ∙ h .found)) [
                   | under x u v ↦ never (cc (u, only-left n l bs branch one z))
                 ]
 
     last-names : (P : List Site → List Site → Type 0) {other : List ℕ} {l : Label} → NodeAt L lastState lastTree other l
-        → ((there : List ℕ) (l′ : Label) → NodeAt L st t there l′ → P (zoneOf l′ .vars) (zoneOf l′ .chans)) → P (zoneOf l .vars) (zoneOf l .chans)
+        → ((there : List ℕ) (l′ : Label) → NodeAt L st t there l′ → P (zoneOf l′ .vars) (zoneOf l′ .chans))
+        → P (zoneOf l .vars) (zoneOf l .chans)
     unfolding labelAt
     last-names P {other} {l} h f = by (compare ρ other)
       where
@@ -210,7 +212,8 @@ module _ (L : Loaded) {st : State} {t : Tree (S L) (root L) (st .process)} {path
       last-owned : {d : Site} → Owned L st t d (μ (S L .word d)) → Owned L lastState lastTree d (μ (S L .word d))
       last-owned {d} (owned {path = other} h l o) =
           ⊎-elim
-          (λ x. absurd (let (l′, o′) = same-leaf L (λ q e (j : Info). List·Memᴰ d (j .chans) × Own e (μ (S L .word d))) (sym x) h at (l, o) in clean d l′ o′))
+          (λ x. absurd (let (l′, o′) = same-leaf L (λ q e (j : Info). List·Memᴰ d (j .chans) × Own e (μ (S L .word d)))
+          (sym x) h at (l, o) in clean d l′ o′))
           (λ x. owned (last-on x h) l o) (same-path path other)
 
       last-calm : {other : List ℕ} {q : Process} {d : Part} {j : Info} → LeafAt L st t other q d j
@@ -234,10 +237,12 @@ module _ (L : Loaded) {st : State} {t : Tree (S L) (root L) (st .process)} {path
           by (equal z) = never (alone-parted (some-same (sym (h .label) ∙ ap (labelAt (S L) lastTree) (sym z) ∙ last-leaf .label)))
           by (below l inner z) = never (cc (sym (last-built .below (l ∷ inner)) ∙ ap (labelAt (S L) lastTree) (sym z) ∙ h .label))
           by (above l inner z) = elim (par-above ρ other l inner (resume k) (st .process) z par x) [
-            | same-par cs′ g y ↦ let (p₁, p₂) = rest .par g (record { label = sym (last-built .above other l inner z) ∙ h .label }) in (p₁, p₂ ∙ y)
+            | same-par cs′ g y ↦
+                let (p₁, p₂) = rest .par g (record { label = sym (last-built .above other l inner z) ∙ h .label }) in (p₁, p₂ ∙ y)
           ]
           by (apart z) =
-              rest .par (sym (look-put-other (resume k) (st .process) z) ∙ x) (record { label = sym (last-built .aside other z) ∙ h .label })
+              rest .par (sym (look-put-other (resume k) (st .process) z) ∙ x)
+              (record { label = sym (last-built .aside other z) ∙ h .label })
 
       last-live : {other : List ℕ} {q : Process} {d : Part} {j : Info} → LeafAt L lastState lastTree other q d j → (x : Site)
           → List·Memᴰ x (liveIn (framesOf q)) → List·Memᴰ x (j .vars)
@@ -272,16 +277,19 @@ module _ (L : Loaded) {st : State} {t : Tree (S L) (root L) (st .process)} {path
       -- it holds no channel
       pub last-clean : Unmarked (S L) a lastInfo lastState μ
       last-clean d l o =
-          ⊎-elim (λ e. not-own a (omega (arith, part-small L last-leaf, small-size L)) (subst (Own a) e o)) held-by (rest .chans par-node d l)
+          ⊎-elim (λ e. not-own a (omega (arith, part-small L last-leaf, small-size L)) (subst (Own a) e o)) held-by
+          (rest .chans par-node d l)
         where
           held-by : Owned L st t d (μ (S L .word d)) → ⊥
           held-by (owned {path = other} {b = e} h m z) = by (same-path path other)
             where
               by : (path ≡ other) ⊎ (path ≢ other) → ⊥
               by (inl x) =
-                  let (m′, z′) = same-leaf L (λ q e (j : Info). List·Memᴰ d (j .chans) × Own e (μ (S L .word d))) (sym x) h at (m, z) in clean d m′ z′
+                  let (m′, z′) = same-leaf L (λ q e (j : Info). List·Memᴰ d (j .chans) × Own e (μ (S L .word d))) (sym x) h at (m, z) in
+                  clean d m′ z′
               by (inr x) =
-                  ⊎-elim (λ e. absurd (leaf-off h e)) (λ y. own-one L (parts-apart (S L) t (y .0) {c = e} part (rw (h .label))) o z) (last-back (last-on x h))
+                  ⊎-elim (λ e. absurd (leaf-off h e)) (λ y. own-one L (parts-apart (S L) t (y .0) {c = e} part (rw (h .label))) o z)
+                  (last-back (last-on x h))
 
   -- another branch: the PAR waits for the others, and its count is one less
   module _ (more : left bs ≢ 1) where
@@ -312,7 +320,8 @@ module _ (L : Loaded) {st : State} {t : Tree (S L) (root L) (st .process)} {path
           where
             in-branch : Dec (n ≡ x) → NodeAt L st t other l
             in-branch (yes z) =
-                never (cc (sym (more-ended .gone inner) ∙ ap (λ y. labelAt (S L) moreTree (ρ ++ y ∷ inner)) z ∙ ap (labelAt (S L) moreTree) (sym e) ∙ h .label))
+                never (cc (sym (more-ended .gone inner) ∙ ap (λ y. labelAt (S L) moreTree (ρ ++ y ∷ inner)) z
+                ∙ ap (labelAt (S L) moreTree) (sym e) ∙ h .label))
             in-branch (no z) = record { label = sym (more-ended .others other (beside-branch x inner z e)) ∙ h .label }
 
     -- and was another
@@ -381,14 +390,16 @@ module _ (L : Loaded) {st : State} {t : Tree (S L) (root L) (st .process)} {path
 
     -- the PAR's words are no names', and no process's own
     names-off : {other : List ℕ} {l : Label} → NodeAt L st t other l
-        → ((x : Site) → List·Memᴰ x (zoneOf l .vars) → S L .word x ≢ w + 1) × ((x : Site) → List·Memᴰ x (zoneOf l .chans) → S L .word x ≢ w + 1)
+        → ((x : Site) → List·Memᴰ x (zoneOf l .vars) → S L .word x ≢ w + 1)
+        × ((x : Site) → List·Memᴰ x (zoneOf l .chans) → S L .word x ≢ w + 1)
     names-off {other} {l} h = ⊎-elim here-names (λ d. (
       (λ x z e. apart-zones L d par-node h .vars-in x z (omega (arith, e), omega (arith, e))),
       (λ x z e. apart-zones L d par-node h .chans-in x z (omega (arith, e), omega (arith, e))),
     )) (same-path ρ other)
       where
         here-names : ρ ≡ other
-            → ((x : Site) → List·Memᴰ x (zoneOf l .vars) → S L .word x ≢ w + 1) × ((x : Site) → List·Memᴰ x (zoneOf l .chans) → S L .word x ≢ w + 1)
+            → ((x : Site) → List·Memᴰ x (zoneOf l .vars) → S L .word x ≢ w + 1)
+            × ((x : Site) → List·Memᴰ x (zoneOf l .chans) → S L .word x ≢ w + 1)
         here-names e =
             subst (λ (y : Label). ((x : Site) → List·Memᴰ x (zoneOf y .vars) → S L .word x ≢ w + 1)
             × ((x : Site) → List·Memᴰ x (zoneOf y .chans) → S L .word x ≢ w + 1))
@@ -401,10 +412,12 @@ module _ (L : Loaded) {st : State} {t : Tree (S L) (root L) (st .process)} {path
       abbrev pub ν : Mem
       ν = upd μ (w + 1) (left (endBranch n bs))
 
-      more-owned : {d : Site} → ν (S L .word d) ≡ μ (S L .word d) → Owned L st t d (μ (S L .word d)) → Owned L moreState moreTree d (ν (S L .word d))
+      more-owned : {d : Site} → ν (S L .word d) ≡ μ (S L .word d) → Owned L st t d (μ (S L .word d))
+          → Owned L moreState moreTree d (ν (S L .word d))
       more-owned {d} same (owned {path = other} {b = e} h l o) =
           ⊎-elim
-          (λ x. absurd (let (l′, o′) = same-leaf L (λ q e (j : Info). List·Memᴰ d (j .chans) × Own e (μ (S L .word d))) (sym x) h at (l, o) in clean d l′ o′))
+          (λ x. absurd (let (l′, o′) = same-leaf L (λ q e (j : Info). List·Memᴰ d (j .chans) × Own e (μ (S L .word d)))
+          (sym x) h at (l, o) in clean d l′ o′))
           (λ x. owned (more-on x h) l (subst (Own e) (sym same) o)) (same-path path other)
 
       more-calm : {other : List ℕ} {q : Process} {d : Part} {j : Info} → LeafAt L st t other q d j
@@ -432,7 +445,8 @@ module _ (L : Loaded) {st : State} {t : Tree (S L) (root L) (st .process)} {path
           elsewhere d g y =
               let (p₁, p₂) = rest .par g before in
               let far = apart-zones L d par-node before in (
-                upd-other μ (w + 1) (left (endBranch n bs)) v (λ z. far .words v (omega (arith, z), omega (arith, z)) (omega arith, omega arith)) ∙ p₁,
+                upd-other μ (w + 1) (left (endBranch n bs)) v
+                    (λ z. far .words v (omega (arith, z), omega (arith, z)) (omega arith, omega arith)) ∙ p₁,
                 upd-other μ (w + 1) (left (endBranch n bs)) (v + 1)
                     (λ z. far .words (v + 1) (omega (arith, z), omega (arith, z)) (omega arith, omega arith))
                     ∙ p₂ ∙ y,
@@ -441,7 +455,8 @@ module _ (L : Loaded) {st : State} {t : Tree (S L) (root L) (st .process)} {path
           by : (ρ ≡ other) ⊎ (ρ ≢ other) → (ν v ≡ S L .off on) × (ν (v + 1) ≡ left cs)
           by (inl z) =
               let same = some-same (sym label ∙ ap (labelAt (S L) t) z ∙ before .label) in
-              let y = same-branches (sym (look-put-same ρ (st .process) (inPar (endBranch n bs) k) par) ∙ ap (λ o. look o (moreState .process)) z ∙ x) in
+              let y = same-branches
+              (sym (look-put-same ρ (st .process) (inPar (endBranch n bs) k) par) ∙ ap (λ o. look o (moreState .process)) z ∙ x) in
               let first : w ≢ w + 1 = λ e. absurd (omega (arith, e)) in
               parted-same (S L) ν same (
                 upd-other μ (w + 1) (left (endBranch n bs)) w first ∙ rest .par par par-node .0,

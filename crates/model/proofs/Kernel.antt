@@ -1,20 +1,20 @@
 -- The machine and the processes of an Occam run: whose words hold what, who is queued, and what the outside offers.
-use Prim.Native.Nat.{ℕ, suc, _+_, _-_, _*_, _^_, _≤_, _<_}
+use Prim.Native.Nat.{ℕ, _+_, _^_, _≤_, _<_}
 use native.Mathlib.Omega.{arith}
 use mathlib.Core.Path.{_≡_}
 use mathlib.Core.Logic.{_⊎_}
-use mathlib.Core.Bool.{Bool, true, false}
-use mathlib.Core.List.{List, [], _∷_, _++_, List·Memᴰ}
-use mathlib.Core.Option.{Option, none, some}
+use mathlib.Core.Bool.{true, false}
+use mathlib.Core.List.{List, [], List·Memᴰ}
+use mathlib.Core.Option.{none, some}
 use lib.ListN.{length, getD}
 use Rattle.model.specs.Word.{notProcess}
-use Rattle.model.specs.Syntax.{Site, inputOf, outputOf, Stmt, Stmts, Program}
+use Rattle.model.specs.Syntax.{Site, inputOf, outputOf, Program}
 use Rattle.model.specs.Counts.{processes}
 use Rattle.model.specs.Accept.{limit, memoryWords}
 use Rattle.model.specs.Layout.{base, wordOf}
 use Rattle.model.specs.Code.{Realises}
 use Rattle.model.specs.Scheme.{scheme}
-use Rattle.model.specs.Machine.{World, memorySize, linkWord}
+use Rattle.model.specs.Machine.{World, memorySize}
 use Rattle.model.specs.Occam.{Frame, Process, inPar, Branches, framesOf, look, State}
 use Rattle.model.specs.Demand.{liveIn}
 use Rattle.model.specs.declared.Setup.{Setup}
@@ -27,8 +27,7 @@ use Rattle.model.proofs.FineParts.{wholePart, outsideNames}
 use Rattle.model.proofs.Marks.{Own}
 use Rattle.model.proofs.Trees.{Label, alone, parted, Info, Tree, labelAt}
 use Rattle.model.proofs.Zones.{zoneOf}
-use Rattle.model.proofs.Leaves.{nameOf, member, Held}
-use Rattle.model.proofs.Effects.{cpuOf}
+use Rattle.model.proofs.Leaves.{member, Held}
 use Rattle.model.proofs.Queues.{Queue, Apart}
 
 -- a program whose code is in a machine: the code realises the scheme, and both are small enough

@@ -26,9 +26,6 @@ upd μ v z = λ a. cond (eqb a v) z (μ a)
 abbrev pub nameOf : ℕ → ℕ
 nameOf w = w
 
-abbrev pub workspaceOf : ℕ → ℕ
-workspaceOf n = n
-
 -- whether a workspace is among some
 unfoldable pub member : ℕ → List ℕ → Bool
 member w [] = false

@@ -1,10 +1,9 @@
 -- What a call lends: the invariant looks at the machine's words only, and a byte at the code that the start had.
-use Prim.Native.Nat.{ℕ, _+_, _*_, _≤_, _<_}
+use Prim.Native.Nat.{ℕ, _*_, _≤_, _<_}
 use native.Mathlib.Omega.{arith}
 use native.Mathlib.Nat.{le-trans, mul-le-mul-right}
-use mathlib.Core.Path.{_≡_, refl, sym, ap, _∙_}
-use mathlib.Core.Bool.{true, false}
-use mathlib.Core.List.{List, [], _∷_, _++_, List·Memᴰ, List·Memᴰ·not-nil}
+use mathlib.Core.Path.{_≡_, refl, _∙_}
+use mathlib.Core.List.{List, _++_, List·Memᴰ, List·Memᴰ·not-nil}
 use lib.ListN.{length, getD, List·getD-append}
 use lib.Dec.{ltb}
 use borrow.Author.Tests.{ltb-true}
@@ -14,12 +13,12 @@ use Rattle.model.specs.Run.{fetch, byte}
 use Rattle.model.specs.Occam.{State}
 use Rattle.model.proofs.Cases.{by-bool}
 use Rattle.model.proofs.Ways.{Mem}
-use Rattle.model.proofs.Points.{Setting, whole}
+use Rattle.model.proofs.Points.{whole}
 use Rattle.model.proofs.Most.{leaves, most, leaves-most}
 use Rattle.model.proofs.Trees.{Tree, bytesLeft, bytes-few}
 use Rattle.model.proofs.Effects.{cpuOf}
 use Rattle.model.proofs.Queues.{Queue, empty, some, links-stable}
-use Rattle.model.proofs.Kernel.{Loaded, S, root, size, setup, Rest, Lined, Real}
+use Rattle.model.proofs.Kernel.{Loaded, S, root, size, setup, Real}
 use Rattle.model.proofs.Writes.{sits-at}
 use Rattle.model.proofs.Running.{Inv, runs, starts, idle}
 use Rattle.model.proofs.Reals.{links-in, offer-world}
@@ -47,8 +46,10 @@ module _ (L : Loaded) where
   abbrev pub over : World → List ℕ → List Talk → World
   over s l k = record { machine = s .machine; memory = l; talk = k }
 
-  module _ {s : World} (l : List ℕ) (k : List Talk) (fits : size L ≤ length l) (same : (a : ℕ) → a < size L → getD l a 0 ≡ getD (s .memory) a 0) where
-    real-lent : {st : State} {μ : Mem} {ws : List ℕ} → ((v : ℕ) → List·Memᴰ v ws → linkWord v < size L) → Real L s st μ ws → Real L (over s l k) st μ ws
+  module _ {s : World} (l : List ℕ) (k : List Talk) (fits : size L ≤ length l)
+      (same : (a : ℕ) → a < size L → getD l a 0 ≡ getD (s .memory) a 0) where
+    real-lent : {st : State} {μ : Mem} {ws : List ℕ} → ((v : ℕ) → List·Memᴰ v ws → linkWord v < size L) → Real L s st μ ws
+        → Real L (over s l k) st μ ws
     real-lent {ws = ws} links r =
         record {
           setup-kept = r .setup-kept;
@@ -70,9 +71,11 @@ module _ (L : Loaded) where
 
     pub inv-lent : {st : State} {n : ℕ} → Inv L s st n → Inv L (over s l k) st n
     inv-lent (runs real run leaf rest lines now) =
-        runs (real-lent (links-in L lines) real) run leaf rest lines (now-stays L same-regs (part-high L leaf) (sits-at L leaf) (calm-refl L) now)
+        runs (real-lent (links-in L lines) real) run leaf rest lines
+        (now-stays L same-regs (part-high L leaf) (sits-at L leaf) (calm-refl L) now)
     inv-lent (starts B real run leaf rest lines now) =
-        starts B (real-lent (links-in L lines) real) run leaf rest lines (starts-stays L same-regs leaf (λ path q b i k o. (k, calm-refl L)) now)
+        starts B (real-lent (links-in L lines) real) run leaf rest lines
+        (starts-stays L same-regs leaf (λ path q b i k o. (k, calm-refl L)) now)
     inv-lent (idle real stop operand rest) = idle (real-lent (λ v m. absurd (List·Memᴰ·not-nil m)) real) stop operand rest
 
   -- no more bytes are left than all processes that may be live have

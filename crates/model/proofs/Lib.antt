@@ -11,7 +11,6 @@ pub mod Fits
 pub mod Realise
 pub mod Bytes
 pub mod Sites
-pub mod Way
 pub mod Ways
 pub mod Values
 pub mod Expr
@@ -29,11 +28,8 @@ pub mod Arrivals
 pub mod Onwards
 pub mod Leaves
 pub mod Stays
-pub mod Comes
 pub mod Effects
 pub mod Acts
-pub mod Moves
-pub mod Slice
 pub mod Queues
 pub mod Kernel
 pub mod Writes

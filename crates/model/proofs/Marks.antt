@@ -1,28 +1,28 @@
 -- Where a process stands: the significant instruction that it comes to next, and what holds there.
-use Prim.Native.Nat.{ℕ, zero, suc, _+_, _-_, _^_, _≤_, _<_}
+use Prim.Native.Nat.{ℕ, suc, _+_, _-_, _^_, _≤_, _<_}
 use mathlib.Core.Path.{_≡_}
 use mathlib.Core.Logic.{_≢_, _⊎_}
 use mathlib.Core.Bool.{true, false}
-use mathlib.Core.List.{List, [], _∷_, _++_, List·Memᴰ}
-use lib.ListN.{length}
+use mathlib.Core.List.{List, _∷_, _++_, List·Memᴰ}
 use Rattle.model.specs.Word.{low, less, notProcess}
-use Rattle.model.specs.Syntax.{Site, declared, Whole, Stmt, SKIP, STOP, assign, input, output, VAR, CHAN, SEQ, PAR, IF, WHILE, ALT}
+use Rattle.model.specs.Syntax.{Site, Whole, Stmt, SKIP, STOP, assign, input, output, VAR, CHAN, SEQ, PAR, IF, WHILE, ALT}
 use Rattle.model.specs.Syntax.{Stmts, noStmt, stmt, Pairs, noPair, pair, Guards, noGuard, inputGuard, skipGuard}
 use Rattle.model.specs.Reader.{names}
 use Rattle.model.specs.Counts.{need, sumNeed}
 use Rattle.model.specs.Instruction.{ldc, ldlp, cj, ajw, stl, Instruction, plain, distance, operation}
 use Rattle.model.specs.Instruction as I
-use Rattle.model.specs.Scheme.{howMany, size, code, codeStarts, codeEnds, codeEnable, codeDisable, codeBranches, sizeEnable, sizeDisable, sizeBranches, sizeEnds}
+use Rattle.model.specs.Scheme.{howMany, size, code, codeStarts, codeEnds, codeEnable, codeDisable, codeBranches, sizeEnable}
+use Rattle.model.specs.Scheme.{sizeDisable}
 use Rattle.model.specs.Code.{operandIn}
 use Rattle.model.specs.Execute.{enabling, ready, noneSelected}
 use Rattle.model.specs.Machine.{stateWord}
-use Rattle.model.specs.Occam.{Store, value, isTrue, Frame, inVar, inWhile, Process, before, atInput, atOutput, atStop, atAlt, inPar, finished, resume, begin, firstTrue}
-use Rattle.model.specs.Occam.{State, Sender}
-use Rattle.model.proofs.Ways.{Regs, Mem, Way}
+use Rattle.model.specs.Occam.{Store, value, isTrue, Frame, inWhile, Process, before, atInput, atOutput, atStop, atAlt, inPar}
+use Rattle.model.specs.Occam.{finished, resume, begin, firstTrue, State, Sender}
+use Rattle.model.proofs.Ways.{Regs, Mem}
 use Rattle.model.proofs.Expr.{Seg}
 use Rattle.model.proofs.Points.{Setting, whole, At}
 use Rattle.model.proofs.Parts.{Part, joins, Words, FineWhole, Fine, FinePairs, FineBranches}
-use Rattle.model.proofs.Conts.{Scoped, Placed, Cont}
+use Rattle.model.proofs.Conts.{Placed, Cont}
 
 -- a guard that is ready
 pub data Ready (st : State) : Guards → Type 0 where
@@ -164,11 +164,13 @@ module _ (S : Setting) (a : Part) where
           → hi ≤ up → j < n → i ≡ suc (c + (j + j)) → r .a ≡ notProcess → ((l : ℕ) → l < j → μ (r .w + l) ≡ notProcess)
           → Point (before (CHAN p n s) k) up μ i r
       pt-taken : {ps : Pairs} (s : Stmt) {k : List Frame} {up : ℕ} {μ : Mem} {i t m hi : ℕ} {r : Regs} → At S i (distance cj t i)
-          → r .a ≢ 0 → FinePairs (S .word) a vars chans (r .w) ps → firstTrue σ ps k ≡ begin s k → Seg (S .xs) (suc i) (code (S .word) (r .w) (suc i) s) m
+          → r .a ≢ 0 → FinePairs (S .word) a vars chans (r .w) ps → firstTrue σ ps k ≡ begin s k
+          → Seg (S .xs) (suc i) (code (S .word) (r .w) (suc i) s) m
           → Fine (S .word) a vars chans (r .w) s → Cont S a hi vars chans k m (r .w) → hi ≤ whole S + S .off i
           → Point (before (IF ps) k) up μ i r
       pt-none : {ps : Pairs} {k : List Frame} {up : ℕ} {μ : Mem} {i t hi : ℕ} {r : Regs} → At S i (distance cj t i) → suc i ≤ t
-          → r .a ≡ 0 → FinePairs (S .word) a vars chans (r .w) ps → firstTrue σ ps k ≡ resume k → Cont S a hi vars chans k t (r .w) → hi ≤ whole S + S .off i
+          → r .a ≡ 0 → FinePairs (S .word) a vars chans (r .w) ps → firstTrue σ ps k ≡ resume k → Cont S a hi vars chans k t (r .w)
+          → hi ≤ whole S + S .off i
           → Point (before (IF ps) k) up μ i r
       pt-while : {e : Whole} {s : Stmt} {k : List Frame} {up : ℕ} {μ : Mem} {i t m hi hi′ : ℕ} {r : Regs} → At S i (distance cj t i)
           → suc i ≤ t → FineWhole a vars e → r .a ≡ value σ e → Seg (S .xs) (suc i) (code (S .word) (r .w) (suc i) s) m
@@ -233,7 +235,8 @@ module _ (S : Setting) (a : Part) where
           → Disables (inputGuard e c x s gs) choice b i r i′
       d-skip : {e : Whole} {s : Stmt} {gs : Guards} {choice b i i′ : ℕ} {r : Regs} → At S i (operation I.diss)
           → r .a ≡ operandIn (S .off) (distance ldc b choice) → r .b ≡ value σ e
-          → Seg (S .xs) (suc i) (codeDisable (S .word) (r .w) choice (b + 1 + size s + 1) gs) i′ → Disables (skipGuard e s gs) choice b i r i′
+          → Seg (S .xs) (suc i) (codeDisable (S .word) (r .w) choice (b + 1 + size s + 1) gs) i′
+          → Disables (skipGuard e s gs) choice b i r i′
 
     -- the significant instructions of an ALT behind its first
     pub data AltPoint : Process → (up : ℕ) → Mem → ℕ → Regs → Type 0 where
@@ -242,7 +245,8 @@ module _ (S : Setting) (a : Part) where
       pt-wait : {gs : Guards} {k : List Frame} {up : ℕ} {μ : Mem} {i hi : ℕ} {r : Regs} → AltCode gs vars chans k hi i (r .w + 1)
           → Enabling gs noGuard μ (r .w) → AltPoint (before (ALT gs) k) up μ (i + 2 + sizeEnable gs) r
       -- disabling, and the choice
-      pt-disable : {gs hs : Guards} {k : List Frame} {up : ℕ} {μ : Mem} {i j b hi : ℕ} {r : Regs} (c : AltCode gs vars chans k hi i (r .w + 1))
+      pt-disable : {gs hs : Guards} {k : List Frame} {up : ℕ} {μ : Mem} {i j b hi : ℕ} {r : Regs}
+          (c : AltCode gs vars chans k hi i (r .w + 1))
           → hi ≤ up → Rest gs (c .choice + 1) hs b → Disabling k gs hs (c .choice) μ (r .w) → Disables hs (c .choice) b j r (c .choice)
           → AltPoint (atAlt gs k) up μ j r
       pt-choose : {gs : Guards} {k : List Frame} {up : ℕ} {μ : Mem} {i hi : ℕ} {r : Regs} (c : AltCode gs vars chans k hi i (r .w + 1))

@@ -1,31 +1,27 @@
 -- Processes that meet at a channel: the one that waited is woken.
-use Prim.Native.Nat.{ℕ, zero, suc, _+_, _-_, _^_, _≤_, _<_}
+use Prim.Native.Nat.{ℕ, _≤_, _<_}
 use native.Mathlib.Omega.{arith}
-use native.Mathlib.Decide.{ℕ-discrete}
-use mathlib.Core.Path.{_≡_, refl, sym, ap, _∙_, subst}
+use mathlib.Core.Path.{_≡_, refl, sym, _∙_, subst}
 use mathlib.Core.Logic.{_≢_, _⊎_, inl, inr, ⊎-elim}
-use mathlib.Core.Bool.{Bool, true, false}
-use mathlib.Core.List.{List, [], _∷_, _++_, List·Memᴰ}
-use mathlib.Core.Option.{Option, none, some}
-use lib.ListN.{length, getD}
+use mathlib.Core.Bool.{true}
+use mathlib.Core.List.{List, List·Memᴰ}
 use Rattle.model.specs.Word.{notProcess}
 use Rattle.model.specs.Syntax.{Site}
-use Rattle.model.specs.Machine.{World, resumeWord, stateWord, linkWord}
-use Rattle.model.specs.Occam.{Frame, Process, atInput, atOutput, framesOf, put, resume, State, Sender}
+use Rattle.model.specs.Machine.{World, resumeWord}
+use Rattle.model.specs.Occam.{Frame, Process, atOutput, framesOf, put, resume, State}
 use Rattle.model.specs.Demand.{liveIn}
 use Rattle.model.proofs.Ways.{Mem}
-use Rattle.model.proofs.Points.{Setting, whole}
-use Rattle.model.proofs.Paths.{Leaf, leaf-resume, live-resume, silent-resume, same-path}
-use Rattle.model.proofs.Parts as Parts
-use Rattle.model.proofs.Parts.{Part, Within}
-use Rattle.model.proofs.Conts.{Placed, Cont, cont-inside}
+use Rattle.model.proofs.Points.{Setting}
+use Rattle.model.proofs.Paths.{leaf-resume, live-resume, silent-resume}
+use Rattle.model.proofs.Parts.{Part}
+use Rattle.model.proofs.Conts.{Placed, cont-inside}
 use Rattle.model.proofs.Marks.{Own}
 use Rattle.model.proofs.Arrivals.{Sound, arrives}
-use Rattle.model.proofs.Trees.{Info, Sits, Tree}
-use Rattle.model.proofs.Leaves.{upd, member, Unmarked, Resumes, Waits, Held, h-queued}
-use Rattle.model.proofs.Kernel.{Loaded, S, root, size, LeafAt, Owned, owned, Rest, Lined, Real}
-use Rattle.model.proofs.Writes.{upd-same, upd-other, node, apart-parts, own-one, part-small, sits-at, write-own, write-chan, left-out}
-use Rattle.model.proofs.Puts.{putting, treeThen, here-then, other-then, lined-then, rest-then}
+use Rattle.model.proofs.Trees.{Info, Tree}
+use Rattle.model.proofs.Leaves.{upd, Unmarked, Waits, Held, h-queued}
+use Rattle.model.proofs.Kernel.{Loaded, S, root, LeafAt, owned, Rest, Lined, Real}
+use Rattle.model.proofs.Writes.{upd-other, node, apart-parts, own-one, part-small, sits-at, write-own, write-chan, left-out}
+use Rattle.model.proofs.Puts.{putting, treeThen, here-then, lined-then, rest-then}
 use Rattle.model.proofs.Grounds.{small-size, sound-at}
 use Rattle.model.proofs.Running.{Only}
 use Rattle.model.proofs.Reals.{real-stored, real-state, link-own}
@@ -50,9 +46,11 @@ resumed S b i {st′ = st′} w same clean sound =
 
 module _ (L : Loaded) where
   -- a channel's word gets a name, or none, which was held by a process that is left out or by nobody
-  module _ {st : State} {μ : Mem} {t : Tree (S L) (root L) (st .process)} {Out : List ℕ → Type 0} {ws : List ℕ} {path : List ℕ} {q : Process}
+  module _ {st : State} {μ : Mem} {t : Tree (S L) (root L) (st .process)} {Out : List ℕ → Type 0} {ws : List ℕ}
+      {path : List ℕ} {q : Process}
       {b : Part} {i : Info} (leaf : LeafAt L st t path q b i) (out : Out path) (rest : Rest L st μ t Out ws) where
-    others-not : {other : List ℕ} {r : Process} {c : Part} {j : Info} → LeafAt L st t other r c j → (Out other → ⊥) → {n : ℕ} → Own b n → Own c n
+    others-not : {other : List ℕ} {r : Process} {c : Part} {j : Info} → LeafAt L st t other r c j → (Out other → ⊥)
+        → {n : ℕ} → Own b n → Own c n
         → ⊥
     others-not k n h o = own-one L (apart-parts L leaf k (λ p. n (subst Out p out))) h o
 
@@ -79,11 +77,13 @@ module _ (L : Loaded) where
         (inr (owned leaf m mine)) out
 
   -- names are above a workspace
-  pub var-above : {b : Part} {w : ℕ} {vars chans : List Site} → Placed (S L) b w vars chans → (v : ℕ) → v < w → (x : Site) → List·Memᴰ x vars
+  pub var-above : {b : Part} {w : ℕ} {vars chans : List Site} → Placed (S L) b w vars chans → (v : ℕ) → v < w
+      → (x : Site) → List·Memᴰ x vars
       → S L .word x ≢ v
   var-above placed v below x m e = absurd (omega (arith, placed .scoped .vars-above x m))
 
-  pub chan-above : {b : Part} {w : ℕ} {vars chans : List Site} → Placed (S L) b w vars chans → (v : ℕ) → v < w → (c : Site) → List·Memᴰ c chans
+  pub chan-above : {b : Part} {w : ℕ} {vars chans : List Site} → Placed (S L) b w vars chans → (v : ℕ) → v < w
+      → (c : Site) → List·Memᴰ c chans
       → S L .word c ≢ v
   chan-above placed v below c m e = absurd (omega (arith, placed .scoped .chans-above c m))
 
@@ -107,9 +107,11 @@ module _ (L : Loaded) where
       clean c m (subst (Own b) (upd-other μ v z (S L .word c) (chan-above placed v below c m)) o)
 
   -- the process that waited goes on and joins the queue, while another has the processor
-  module _ {s : World} {st : State} {μ : Mem} {t : Tree (S L) (root L) (st .process)} {path other : List ℕ} {ws : List ℕ} {r : Process} {d : Part}
+  module _ {s : World} {st : State} {μ : Mem} {t : Tree (S L) (root L) (st .process)} {path other : List ℕ}
+      {ws : List ℕ} {r : Process} {d : Part}
       {j : Info} (real : Real L s st μ ws) (rest : Rest L st μ t (Both path other) ws) (lines : Lined L st t (Both path other) ws)
-      (leaf : LeafAt L st t other r d j) (apart : path ≢ other) (run : cpuOf s .running ≡ true) {st₀ : State} {μ₀ : Mem} {c : Site} {k : List Frame}
+      (leaf : LeafAt L st t other r d j) (apart : path ≢ other) (run : cpuOf s .running ≡ true) {st₀ : State} {μ₀ : Mem}
+      {c : Site} {k : List Frame}
       {at hi m : ℕ} (waits : Waits (S L) d j st₀ μ₀ c k at hi m) (same : μ (resumeWord (j .w)) ≡ μ₀ (resumeWord (j .w)))
       (frames : framesOf r ≡ k) (clean : Unmarked (S L) d j st μ)
       (lost : (a : Site) (v : ℕ) (l : List Frame) → r ≡ atOutput a v l → (here : List ℕ) (p : Process) (e : Part) (n : Info)
@@ -119,7 +121,8 @@ module _ (L : Loaded) where
 
     pub partner-rest : Rest L then μ (treeThen L leaf (resume k) (leaf-resume k) j (sits-at L leaf)) (Both path other) ws
     partner-rest =
-        rest-then L leaf (resume k) (leaf-resume k) j (sits-at L leaf) rest (inr refl) (rest .vars (node L leaf)) (rest .chans (node L leaf))
+        rest-then L leaf (resume k) (leaf-resume k) j (sits-at L leaf) rest (inr refl) (rest .vars (node L leaf))
+        (rest .chans (node L leaf))
         (live-resume k (j .vars) (λ x m. rest .live leaf x (subst (λ z. List·Memᴰ x (liveIn z)) (sym frames) m))) (λ a m o. m) lost
         (λ a v l e here p q n y z m g o. silent-resume k e)
 

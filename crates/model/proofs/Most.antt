@@ -10,10 +10,9 @@ use Rattle.model.specs.Reader.{names}
 use Rattle.model.specs.Counts.{processes, mostProcesses, sumProcesses, pairProcesses, guardProcesses}
 use Rattle.model.specs.Occam.{Store, isTrue, Frame, inSeq, inVar, inWhile, enter, enterAll, resume, begin, branches, firstTrue, go}
 use Rattle.model.specs.Occam.{Process, before, atInput, atOutput, atStop, atAlt, inPar, finished, Branches, noBranch, branch, over}
-use Rattle.model.specs.Occam.{branchAt, setBranch, endBranch, allOver, closed, branchesOf, framesOf, look, put}
-use Rattle.model.specs.Occam.{State, Communication, Choice, by-input, by-skip, past-input, past-skip}
-use Rattle.model.specs.Occam.{Step, begins, ends, chooses, communicates, receives, Event, Outside, offered, held, taken, nobody}
-use Rattle.model.specs.Occam.{initial}
+use Rattle.model.specs.Occam.{branchAt, setBranch, endBranch, allOver, closed, branchesOf, framesOf, look, put, State, Communication}
+use Rattle.model.specs.Occam.{Choice, by-input, by-skip, past-input, past-skip, Step, begins, ends, chooses, communicates, receives}
+use Rattle.model.specs.Occam.{Event, Outside, offered, held, taken, nobody, initial}
 use Rattle.model.proofs.Cases.{never, of-cond}
 use Rattle.model.proofs.Paths.{under, look-under, put-in, par-whole, l-input, l-output, leaves-differ, look-put-other}
 

@@ -1,41 +1,29 @@
 -- Processes are left out and taken in again, get the processor and lose it, and join the queue.
-use Prim.Native.Nat.{ℕ, zero, suc, _+_, _-_, _^_, _≤_, _<_}
+use Prim.Native.Nat.{ℕ, _+_, _≤_}
 use native.Mathlib.Omega.{arith}
-use native.Mathlib.Decide.{ℕ-discrete}
 use mathlib.Core.Path.{_≡_, refl, sym, ap, _∙_, subst}
 use mathlib.Core.Logic.{_≢_, _⊎_, inl, inr, ⊎-elim}
-use mathlib.Core.Bool.{Bool, true, false, _||_}
+use mathlib.Core.Bool.{true, false, _||_}
 use mathlib.Core.List.{List, [], _∷_, _++_, List·Memᴰ, List·Memᴰ·head, List·Memᴰ·tail, List·Memᴰ·cases-cons, List·Memᴰ·not-nil}
-use mathlib.Core.List.{List·Memᴰ·append-cases, List·Memᴰ·eq-of-singleton}
-use mathlib.Core.Option.{Option, none, some}
-use lib.ListN.{length, getD}
 use lib.Dec.{eqb}
 use borrow.Author.Tests.{eq-eqb, ne-eqb, eqb-true, eqb-false}
 use Rattle.model.specs.Syntax.{Site}
-use Rattle.model.specs.Machine.{World, done, release, join, withCpu, withMemory, resumeWord, linkWord}
-use Rattle.model.specs.Machine as M
-use Rattle.model.specs.Occam.{Frame, Process, before, finished, atOutput, look, put, State}
-use Rattle.model.specs.Demand.{Segment}
+use Rattle.model.specs.Occam.{Frame, Process, before, finished, atOutput, look, State}
 use Rattle.model.proofs.Cases.{never, by-bool}
-use Rattle.model.proofs.Ways.{Regs, regsOf, Mem}
-use Rattle.model.proofs.Points.{Setting, whole}
+use Rattle.model.proofs.Ways.{Mem}
+use Rattle.model.proofs.Points.{whole}
 use Rattle.model.proofs.Paths.{Leaf, l-before, l-finished, leaf-par, put-found, same-path}
 use Rattle.model.specs.Occam.{framesOf}
 use Rattle.model.specs.Demand.{liveIn}
 use Rattle.model.proofs.Parts.{Part, Within}
 use Rattle.model.proofs.Conts.{Placed}
 use Rattle.model.proofs.Marks.{Own, Skips, s-none, s-skip, s-if, s-par, Settled}
-use Rattle.model.proofs.Arrivals.{Comes, comes}
-use Rattle.model.proofs.Trees.{some-same, Label, alone, alone-part, alone-info, Info, Sits, Tree, labelAt, bytesLeft, bytesAt, leaf-bytes}
+use Rattle.model.proofs.Trees.{some-same, Label, alone, alone-part, alone-info, Info, Tree, labelAt, bytesLeft, leaf-bytes}
 use Rattle.model.proofs.Trees.{Kept, kept}
 use Rattle.model.proofs.Zones.{zoneOf}
-use Rattle.model.proofs.Leaves.{member, Unmarked, Held, h-queued, h-woken}
-use Rattle.model.proofs.Effects.{cpuOf}
-use Rattle.model.proofs.Kernel.{Loaded, S, root, size, LeafAt, NodeAt, Owned, owned, Rest, Whose, whose, Lined, Real}
-use Rattle.model.proofs.Writes.{node, apart-parts, own-one, part-small, sits-at}
-use Rattle.model.proofs.Puts.{putting, part-is, treeThen, here-then, other-then, lined-then, rest-then, moved}
-use Rattle.model.proofs.Traces.{Trace, Moves, moves, skip-moves}
-use Rattle.model.proofs.Running.{Only, Nobody, fresh, Now, now-goes, now-alt, Inv, runs, idle}
+use Rattle.model.proofs.Leaves.{member, Held}
+use Rattle.model.proofs.Kernel.{Loaded, S, root, LeafAt, NodeAt, Owned, owned, Rest, whose, Lined}
+use Rattle.model.proofs.Writes.{node, apart-parts, own-one, sits-at}
 
 -- membership by a test
 pub member-in : (w : ℕ) (ws : List ℕ) → member w ws ≡ true → List·Memᴰ w ws
@@ -162,15 +150,23 @@ module _ (L : Loaded) where
         record {
           each = λ w m. elim (h .each w m) [
             | whose {path = other} {i = j} k g n ↦ whose k g (λ o.
-                ⊎-elim (λ p. never (cc (e, in-member (i .w) ws (subst (λ v. List·Memᴰ v ws) (sym (same-leaf (λ q b (z : Info). z .w ≡ w) (sym p) k at g)) m)))) n (f other o))
+                ⊎-elim
+                (λ p.
+                never (cc (
+                  e,
+                  in-member (i .w) ws
+                      (subst (λ v. List·Memᴰ v ws) (sym (same-leaf (λ q b (z : Info). z .w ≡ w) (sym p) k at g)) m),
+                ))) n (f other o))
           ];
           once = h .once;
         }
 
   -- what is known of a process's workspace and bytes
-  pub data Relabelled (st : State) (μ : Mem) (t : Tree (S L) (root L) (st .process)) (path : List ℕ) (q : Process) (b : Part) (i : Info) (w n : ℕ)
+  pub data Relabelled (st : State) (μ : Mem) (t : Tree (S L) (root L) (st .process)) (path : List ℕ) (q : Process)
+      (b : Part) (i : Info) (w n : ℕ)
       (Out : List ℕ → Type 0) (ws : List ℕ) : Type 0 where
-    relabelled : (u : Tree (S L) (root L) (st .process)) → LeafAt L st u path q b (relaid w n i) → Rest L st μ u Out ws → Lined L st u Out ws
+    relabelled : (u : Tree (S L) (root L) (st .process)) → LeafAt L st u path q b (relaid w n i)
+        → Rest L st μ u Out ws → Lined L st u Out ws
         → bytesLeft (S L) u + i .left ≡ bytesLeft (S L) t + n
         → ((other : List ℕ) (r : Process) (c : Part) (j : Info) → path ≢ other → LeafAt L st t other r c j → LeafAt L st u other r c j)
         → Relabelled st μ t path q b i w n Out ws
@@ -186,10 +182,12 @@ module _ (L : Loaded) where
     node-back : {other : List ℕ} {l : Label} → path ≢ other → NodeAt L st (k .tree) other l → NodeAt L st t other l
     node-back {other} d m = record { label = sym (k .same other d) ∙ m .label }
 
-    leaf-back : {other : List ℕ} {r : Process} {c : Part} {j : Info} → path ≢ other → LeafAt L st (k .tree) other r c j → LeafAt L st t other r c j
+    leaf-back : {other : List ℕ} {r : Process} {c : Part} {j : Info} → path ≢ other → LeafAt L st (k .tree) other r c j
+        → LeafAt L st t other r c j
     leaf-back {other} d m = record { found = m .found; leaf = m .leaf; label = sym (k .same other d) ∙ m .label }
 
-    leaf-on : {other : List ℕ} {r : Process} {c : Part} {j : Info} → path ≢ other → LeafAt L st t other r c j → LeafAt L st (k .tree) other r c j
+    leaf-on : {other : List ℕ} {r : Process} {c : Part} {j : Info} → path ≢ other → LeafAt L st t other r c j
+        → LeafAt L st (k .tree) other r c j
     leaf-on {other} d m = record { found = m .found; leaf = m .leaf; label = k .same other d ∙ m .label }
 
     owned-on : {c : Site} {v : ℕ} → Owned L st t c v → Owned L st (k .tree) c v
@@ -243,7 +241,8 @@ module _ (L : Loaded) where
       (record { placed = placed; few = few }))) out h lines
 
   -- one that is left out is not queued
-  pub unqueued : {st : State} {t : Tree (S L) (root L) (st .process)} {Out : List ℕ → Type 0} {ws : List ℕ} {path : List ℕ} {q : Process} {b : Part}
+  pub unqueued : {st : State} {t : Tree (S L) (root L) (st .process)} {Out : List ℕ → Type 0} {ws : List ℕ}
+      {path : List ℕ} {q : Process} {b : Part}
       {i : Info} → LeafAt L st t path q b i → Out path → Lined L st t Out ws → member (i .w) ws ≡ false
   unqueued {Out = Out} {ws} {i = i} at out lines =
       by-bool (member (i .w) ws)

@@ -1,28 +1,25 @@
 -- One byte: a prefix is gathered, or an instruction is executed. Either way the invariant goes on, and what was done is a part of a run.
-use Prim.Native.Nat.{ℕ, zero, suc, _+_, _-_, _^_, _≤_, _<_}
+use Prim.Native.Nat.{ℕ, suc, _+_, _-_, _≤_}
 use native.Mathlib.Omega.{arith}
 use mathlib.Core.Path.{_≡_, refl, sym, ap, ap₂, _∙_, subst}
-use mathlib.Core.Logic.{_≢_, _⊎_, inl, inr}
-use mathlib.Core.Bool.{Bool, true, false, _&&_}
-use mathlib.Core.List.{List, [], _∷_, _++_, map}
-use mathlib.Core.Option.{some}
+use mathlib.Core.Logic.{inl}
+use mathlib.Core.Bool.{true, false, _&&_}
+use mathlib.Core.List.{List, [], _++_, map}
 use lib.ListN.{length}
 use borrow.Author.Tests.{eq-eqb}
 use Rattle.model.specs.Word.{low}
-use Rattle.model.specs.Syntax.{Site}
 use Rattle.model.specs.Instruction.{Instruction}
 use Rattle.model.specs.Code.{functionIn, operandIn}
-use Rattle.model.specs.Machine.{World, Result, done, withCpu, gathering, next}
+use Rattle.model.specs.Machine.{World, done, withCpu, gathering, next}
 use Rattle.model.specs.Execute.{execute}
 use Rattle.model.specs.Run.{land, byte, ended, waits}
 use Rattle.model.specs.Occam.{Process, State}
 use Rattle.model.specs.Demand.{talkOf}
 use Rattle.model.specs.declared.Setup.{Setup}
-use Rattle.model.specs.declared.Cpu.{Cpu}
 use Rattle.model.proofs.Cases.{never}
 use Rattle.model.proofs.Bytes.{Standing, Turn, prefixed, last, turn, advance, lands}
 use Rattle.model.proofs.Ways.{Mem, regsOf}
-use Rattle.model.proofs.Points.{Setting, whole, At}
+use Rattle.model.proofs.Points.{At}
 use Rattle.model.proofs.Arrive.{inside}
 use Rattle.model.proofs.Parts.{Part}
 use Rattle.model.proofs.Marks.{Settled}
@@ -34,13 +31,13 @@ use Rattle.model.proofs.Effects.{cpuOf}
 use Rattle.model.proofs.Kernel.{Loaded, S, root, setup, LeafAt, Rest, Lined, Real}
 use Rattle.model.proofs.Writes.{sits-at}
 use Rattle.model.proofs.Grounds.{code-end}
-use Rattle.model.proofs.Traces.{Trace, t-none}
-use Rattle.model.proofs.Running.{Only, Births, Starting, Here, within, at-end, off-small, Now, now-goes, now-alt, NowStarts, Inv, runs, starts, idle}
-use Rattle.model.proofs.Running.{Did, came, Executes, executes, Acting}
+use Rattle.model.proofs.Traces.{t-none}
+use Rattle.model.proofs.Running.{Only, Births, Starting, Here, within, at-end, off-small, Now, now-goes, now-alt, NowStarts, Inv}
+use Rattle.model.proofs.Running.{runs, starts, idle, Did, came, Executes, executes, Acting}
 use Rattle.model.proofs.Moving.{relaid, relabelled, relabel}
 use Rattle.model.proofs.Reals.{real-cpu}
-use Rattle.model.proofs.Reach.{way-bound, way-far, point-in, alt-in, start-in}
-use Rattle.model.proofs.Finish.{silent, inv-setup}
+use Rattle.model.proofs.Reach.{way-far, point-in, alt-in, start-in}
+use Rattle.model.proofs.Finish.{silent}
 use Rattle.model.proofs.Instructions.{way-acts, alt-acts, starts-on, starts-acts}
 
 -- what lands where no process runs
@@ -68,7 +65,8 @@ module _ (L : Loaded) where
   inv-lands {s} (idle real run operand rest) = lands-idle s run
 
   -- at the code's end a machine has ended
-  at-the-end : {s : World} {st : State} {μ : Mem} {ws : List ℕ} {at : ℕ} → Real L s st μ ws → cpuOf s .running ≡ true → at ≡ length (S L .xs)
+  at-the-end : {s : World} {st : State} {μ : Mem} {ws : List ℕ} {at : ℕ} → Real L s st μ ws
+      → cpuOf s .running ≡ true → at ≡ length (S L .xs)
       → cpuOf s .place ≡ L .off at → ended (s .machine) ≡ true
   at-the-end {s} real run e h = ap₂ _&&_ run (eq-eqb _ _ (h ∙ ap (L .off) e ∙ code-end L ∙ sym (code-is s (real .setup-kept))))
 
@@ -78,7 +76,8 @@ module _ (L : Loaded) where
 
   -- the last byte of an instruction executes it
   executing : {s u : World} {st : State} {n : ℕ} {x : Instruction} → u .talk ≡ s .talk
-      → byte (L .code) s ≡ next (execute (functionIn x) (operandIn (L .off) x) u) (λ z. land) → Did L (Executes L x u) u st n → Did L (Byte s) s st n
+      → byte (L .code) s ≡ next (execute (functionIn x) (operandIn (L .off) x) u) (λ z. land)
+      → Did L (Executes L x u) u st n → Did L (Byte s) s st n
   executing same e (came t {cs} g (executes f) ms talk inv fewer) =
       came t g (e ∙ rw f (inv-lands inv)) ms (talk ∙ ap (λ l. l ++ map (talkOf (L .prog)) cs) same) inv fewer
 
@@ -90,7 +89,8 @@ module _ (L : Loaded) where
 
     turned : Turn (L .code) (L .off) at x s
     turned =
-        turn (L .code) (L .off) at x s below (omega (arith, L .code-small)) (code-is s (real .setup-kept)) run (h .from) (h .upto) (h .reads)
+        turn (L .code) (L .off) at x s below (omega (arith, L .code-small)) (code-is s (real .setup-kept)) run
+        (h .from) (h .upto) (h .reads)
 
     one-on : low (suc (cpuOf s .place)) ≡ suc (cpuOf s .place)
     one-on = omega (arith, h .upto, below, L .code-small)
@@ -117,7 +117,8 @@ module _ (L : Loaded) where
     -- a prefix leaves one byte less
     gathers : {hi : ℕ} → Rest L st μ t (Only path) ws → Lined L st t (Only path) ws → hi ≤ i .left + cpuOf s .place → L .off (suc at) ≤ hi
         → (o : ℕ) → Byte s (withCpu (gathering o (advance (cpuOf s))) s)
-        → (hi ≤ i .left - 1 + low (suc (cpuOf s .place)) → Now L (withCpu (gathering o (advance (cpuOf s))) s) st μ b (relaid (i .w) (i .left - 1) i) q)
+        → (hi ≤ i .left - 1 + low (suc (cpuOf s .place))
+        → Now L (withCpu (gathering o (advance (cpuOf s))) s) st μ b (relaid (i .w) (i .left - 1) i) q)
         → Did L (Byte s) s st (bytesLeft (S L) t)
     gathers rest lines soon far o eq now =
         let r = gathering o (advance (cpuOf s)) in
@@ -144,26 +145,30 @@ module _ (L : Loaded) where
     goes rest lines way settled clean soon (last eq pl) = executing refl eq (way-acts L e (acting rest lines soon pl) settled clean way)
 
     goes-alt : {hi : ℕ} → Rest L st μ t (Only path) ws → Lined L st t (Only path) ws
-        → AltGoes (S L) b st (i .vars) (i .chans) q hi μ at (regsOf (cpuOf s)) → hi ≤ i .left + cpuOf s .place → Turn (L .code) (L .off) at x s
+        → AltGoes (S L) b st (i .vars) (i .chans) q hi μ at (regsOf (cpuOf s)) → hi ≤ i .left + cpuOf s .place
+        → Turn (L .code) (L .off) at x s
         → Did L (Byte s) s st (bytesLeft (S L) t)
     goes-alt rest lines way soon (prefixed o eq h′) =
         gathers rest lines soon (way-far (S L) (alt-in (S L) b) (inside (S L) e) way) o eq (λ less. now-alt (onward h′) way less)
     goes-alt rest lines way soon (last eq pl) = executing refl eq (alt-acts L e (acting rest lines soon pl) way)
 
-    goes-start : (B : Births) → Rest L st μ t (Starting path B) ws → Lined L st t (Starting path B) ws → (now : NowStarts L s st μ t path q b i B)
+    goes-start : (B : Births) → Rest L st μ t (Starting path B) ws → Lined L st t (Starting path B) ws
+        → (now : NowStarts L s st μ t path q b i B)
         → now .at ≡ at → Turn (L .code) (L .off) at x s → Did L (Byte s) s st (bytesLeft (S L) t)
     goes-start B rest lines now is (prefixed o eq h′) =
         let r = gathering o (advance (cpuOf s)) in
         let far = way-far (S L) (start-in (S L)) (rw is (inside (S L) e)) (now .way) in
         let ends : L .off (suc (now .at)) ≡ L .off (suc at) = ap (λ n. L .off (suc n)) is in
-        starts-on L B (now .first-branch) (now .next-one) (now .same-w) (now .births) (now .own) (now .inner) (now .near) (now .unmarked) r at real
+        starts-on L B (now .first-branch) (now .next-one) (now .same-w) (now .births) (now .own) (now .inner) (now .near)
+        (now .unmarked) r at real
         leaf rest lines eq refl refl refl run (onward h′) (omega (arith, now .soon, one-on)) (omega (arith, now .soon, far, ends, h .upto))
         (subst (λ n. Starts (S L) (st .store) (B .s) (B .ss) (B .d) (B .b) (B .first) (B .w) (now .hi) μ n (regsOf r)) is (now .way))
     goes-start B rest lines now is (last eq pl) =
         executing refl eq
         (starts-acts L B (now .first-branch) (now .next-one) (now .same-w) (now .births) (now .own) (now .inner) (now .near) (now .unmarked)
         (acting rest lines (now .soon) pl) e
-        (subst (λ n. Starts (S L) (st .store) (B .s) (B .ss) (B .d) (B .b) (B .first) (B .w) (now .hi) μ n (regsOf (cpuOf s))) is (now .way)))
+        (subst (λ n. Starts (S L) (st .store) (B .s) (B .ss) (B .d) (B .b) (B .first) (B .w) (now .hi) μ n (regsOf (cpuOf s))) is
+        (now .way)))
 
   -- a process that has the processor takes a byte
   pub byte-goes : {s : World} {st : State} {n : ℕ} → Inv L s st n → ended (s .machine) ≡ false → waits (s .machine) ≡ false

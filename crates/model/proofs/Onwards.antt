@@ -3,7 +3,6 @@ use Prim.Native.Nat.{ℕ, suc, _+_, _-_, _^_, _≤_, _<_}
 use native.Mathlib.Omega.{arith}
 use mathlib.Core.Path.{_≡_, refl, sym, ap, _∙_, subst}
 use mathlib.Core.Bool.{true, false}
-use mathlib.Core.Logic.{_⊎_, inl, inr, ⊎-elim}
 use mathlib.Core.List.{List, [], _∷_, _++_, List·Memᴰ}
 use lib.ListN.{length, length-append}
 use Rattle.model.specs.Word.{low, less, minus}
@@ -14,25 +13,25 @@ use Rattle.model.specs.Instruction.{ldc, ldlp, ajw, Instruction, plain, 
 use Rattle.model.specs.Instruction as I
 use Rattle.model.specs.Scheme.{size, sizeEnable, sizeEnds, local, wholeCode, inputCode, code, codeAll}
 use Rattle.model.specs.Scheme.{codeStarts, codeEnds, codeEnable, codeDisable, codeBranches}
-use Rattle.model.specs.Occam.{Store, value, isTrue, Sender, Frame, Process, before, atAlt, finished, resume, begin, enter, enterAll, State}
+use Rattle.model.specs.Occam.{Store, value, isTrue, Sender, Frame, Process, before, atAlt, resume, begin, enter, enterAll, State}
 use Rattle.model.specs.Occam.{Choice, by-input, by-skip, past-input, past-skip}
 use Rattle.model.proofs.Ways.{Regs, pushing, pointing, reversing, moving, Mem, Way, arrived, quiet}
 use Rattle.model.proofs.Ways.{quiet-ldc, quiet-ajw, quiet-ldlp, quiet-rev}
 use Rattle.model.proofs.Expr.{Seg, nil, at, split, apart, cut, seg-length, local-word}
 use Rattle.model.proofs.Exprs.{evaluates}
-use Rattle.model.proofs.Sizes.{code-length, ends-length}
+use Rattle.model.proofs.Sizes.{code-length}
 use Rattle.model.proofs.Points.{Setting, whole, At}
-use Rattle.model.proofs.Arrive.{inside, up, rises-le}
-use Rattle.model.proofs.Parts.{need-two, sum-first, need-next, Part, Ending, the-end, joins, partOf, FineWhole, Fine, FineGuards, FineBranches}
-use Rattle.model.proofs.Conts.{Scoped, scoped-below, placed-down, Cont, c-end, c-join, c-chan, c-up, c-hop, cont-inside, cont-low, cont-scoped, cont-bound}
+use Rattle.model.proofs.Arrive.{inside, rises-le}
+use Rattle.model.proofs.Parts.{need-two, sum-first, need-next, Part, Ending, the-end, joins, partOf, FineWhole, Fine, FineGuards}
+use Rattle.model.proofs.Parts.{FineBranches}
+use Rattle.model.proofs.Conts.{Scoped, scoped-below, placed-down, Cont, c-end, c-join, c-chan, c-up, c-hop, cont-inside, cont-low}
+use Rattle.model.proofs.Conts.{cont-scoped, cont-bound}
 use Rattle.model.proofs.Marks.{Ready, r-input, r-skip, r-past-input, r-past-skip, Picks, p-input, p-skip, p-past-input, p-past-skip}
-use Rattle.model.proofs.Marks.{Rest, rest-all, rest-input, rest-skip, Noticed, n-none, n-input, n-skip, Skips, s-none, s-skip, s-if}
-use Rattle.model.proofs.Marks.{s-par, Settled, AltCode, ParCode, Clear, Enabling, e-input, e-skip, Disabling}
-use Rattle.model.proofs.Marks.{d-input, d-skip, AltPoint, pt-enable, pt-wait, pt-disable, pt-choose, StartPoint}
-use Rattle.model.proofs.Marks.{Guarded, g-here, g-past-input, g-past-skip}
+use Rattle.model.proofs.Marks.{Rest, rest-all, rest-input, rest-skip, Noticed, n-none, n-input, n-skip, AltCode, ParCode, Enabling}
+use Rattle.model.proofs.Marks.{e-input, e-skip, Disabling, d-input, d-skip, AltPoint, pt-enable, pt-wait, pt-disable, pt-choose}
+use Rattle.model.proofs.Marks.{StartPoint, Guarded, g-here, g-past-input, g-past-skip}
 use Rattle.model.proofs.Cases.{never}
-use Rattle.model.proofs.Arrivals.{seg-join, Sound, Comes, comes}
-use Rattle.model.proofs.Arrivals.{enters, enters-all, arrives}
+use Rattle.model.proofs.Arrivals.{seg-join, Sound, Comes, comes, enters, enters-all, arrives}
 
 -- past one instruction
 seg-tail : {xs ys : List Instruction} {y : Instruction} {i i′ : ℕ} → Seg xs i (y ∷ ys) i′ → Seg xs (suc i) ys i′
@@ -117,26 +116,6 @@ guarded-ready (g-here e) h = r-input e h
 guarded-ready (g-past-input g) h = r-past-input (guarded-ready g h)
 guarded-ready (g-past-skip g) h = r-past-skip (guarded-ready g h)
 
--- steps without code are determined, up to where they stop
-skips-meet : {p q q′ : Process} → Skips p q → Skips p q′ → Skips q q′ ⊎ Skips q′ q
-skips-meet s-none g = inl g
-skips-meet (s-skip h) s-none = inr (s-skip h)
-skips-meet (s-skip h) (s-skip g) = skips-meet h g
-skips-meet (s-if h) s-none = inr (s-if h)
-skips-meet (s-if h) (s-if g) = skips-meet h g
-skips-meet (s-par h) s-none = inr (s-par h)
-skips-meet (s-par h) (s-par g) = skips-meet h g
-
-pub settled-stays : {p q : Process} → Settled p → Skips p q → p ≡ q
-settled-stays n s-none = refl
-settled-stays n (s-skip h) = absurd n
-settled-stays n (s-if h) = absurd n
-settled-stays n (s-par h) = absurd n
-
--- they lead on to where no more is next
-pub skips-on : {p q q′ : Process} → Skips p q → Skips p q′ → Settled q′ → Skips q q′
-skips-on {q} h g n = ⊎-elim (λ m. m) (λ m. subst (λ z. Skips q z) (sym (settled-stays n m)) s-none) (skips-meet h g)
-
 -- the next branch of a PAR
 pub ends-next : (s : Stmt) (ss : Stmts) (b : ℕ) {n : ℕ} → b + sizeEnds (stmt s ss) ≤ n → b + size s + 2 + sizeEnds ss ≤ n
 unfolding sizeEnds
@@ -209,7 +188,9 @@ module _ (S : Setting) (a : Part) (st : State) where
         through-at alt-wide v (before (ALT gs) k) e (f .0) g₁ q (λ r′ val q′.
         quiet (pointing o) p₁ (quiet-ldlp o)
         (quiet reversing p₂ quiet-rev
-        (arrived (at-w (AltPoint S a st vars chans (before (ALT gs) k) hi′ μ _) (reversing (pointing o r′)) q′ (pt-enable c l n (e-input p₃ val (rw q′ vd) g₂))) bound)))
+        (arrived
+        (at-w (AltPoint S a st vars chans (before (ALT gs) k) hi′ μ _) (reversing (pointing o r′)) q′
+        (pt-enable c l n (e-input p₃ val (rw q′ vd) g₂))) bound)))
 
     -- past a condition, to ENBS
     enable-skip : (e : Whole) (s : Stmt) (hs : Guards) {hi′ j m : ℕ} {μ : Mem} {r : Regs} → hi ≤ hi′
@@ -227,7 +208,8 @@ module _ (S : Setting) (a : Part) (st : State) where
         → AltGoes vars chans (before (ALT gs) k) hi′ μ j r
     unfolding codeEnable
     enable-way noGuard {hi′} {μ} {r} l f n nil q =
-        arrived (at-w (AltPoint S a st vars chans (before (ALT gs) k) hi′ μ _) r q (pt-wait c n)) (alt-bound (i + 2 + sizeEnable gs) l (omega (arith, c .choice-is)))
+        arrived (at-w (AltPoint S a st vars chans (before (ALT gs) k) hi′ μ _) r q (pt-wait c n))
+        (alt-bound (i + 2 + sizeEnable gs) l (omega (arith, c .choice-is)))
     enable-way (inputGuard e d x s hs) l f n g q = elim (apart (wholeCode (S .word) w e) g) [
       | split g₁ g₂ ↦ enable-input e d x s hs l f n g₁ g₂ q
     ]
@@ -254,7 +236,8 @@ module _ (S : Setting) (a : Part) (st : State) where
         quiet (pointing o) p₁ (quiet-ldlp o)
         (quiet reversing p₂ quiet-rev
         (quiet (pushing z) p₃ (quiet-ldc z)
-        (arrived (at-w (AltPoint S a st vars chans (atAlt gs k) hi′ μ _) (pushing z (reversing (pointing o r′))) q′ (pt-disable c l t n (d-input p₄ refl val (rw q′ vd) g₂)))
+        (arrived (at-w (AltPoint S a st vars chans (atAlt gs k) hi′ μ _) (pushing z (reversing (pointing o r′))) q′
+        (pt-disable c l t n (d-input p₄ refl val (rw q′ vd) g₂)))
         bound))))
 
     -- past a condition, to DISS
@@ -270,7 +253,8 @@ module _ (S : Setting) (a : Part) (st : State) where
         let bound : S .off (suc (suc m)) ≤ hi′ = alt-bound (suc m) l (omega (arith, seg-length g₂)) in
         through-at alt-wide v (atAlt gs k) e (f .0) g₁ q (λ r′ val q′.
         quiet (pushing z) p₁ (quiet-ldc z)
-        (arrived (at-w (AltPoint S a st vars chans (atAlt gs k) hi′ μ _) (pushing z r′) q′ (pt-disable c l t n (d-skip p₂ refl val g₂))) bound))
+        (arrived (at-w (AltPoint S a st vars chans (atAlt gs k) hi′ μ _) (pushing z r′) q′ (pt-disable c l t n (d-skip p₂ refl val g₂)))
+        bound))
 
     -- the disabling of the rest of the guards leads to the next DISC or DISS, or to ALTEND
     pub disable-way : (hs : Guards) {hi′ j b : ℕ} {μ : Mem} {r : Regs} → hi ≤ hi′ → FineGuards (S .word) a vars chans (w + 1) hs
@@ -278,7 +262,8 @@ module _ (S : Setting) (a : Part) (st : State) where
         → Seg (S .xs) j (codeDisable (S .word) w (c .choice) b hs) (c .choice) → r .w ≡ w
         → AltGoes vars chans (atAlt gs k) hi′ μ j r
     unfolding codeDisable
-    disable-way noGuard {hi′} {μ} {r} l f t n nil q = arrived (at-w (AltPoint S a st vars chans (atAlt gs k) hi′ μ _) r q (pt-choose c n)) (alt-bound (c .choice) l (omega arith))
+    disable-way noGuard {hi′} {μ} {r} l f t n nil q = arrived (at-w (AltPoint S a st vars chans (atAlt gs k) hi′ μ _) r q (pt-choose c n))
+        (alt-bound (c .choice) l (omega arith))
     disable-way (inputGuard e d x s hs) l f t n g q = elim (apart (wholeCode (S .word) w e) g) [
       | split g₁ g₂ ↦ disable-input e d x s hs l f t n g₁ g₂ q
     ]
@@ -291,14 +276,16 @@ module _ (S : Setting) (a : Part) (st : State) where
         → AltGoes vars chans (before (ALT gs) k) hi′ μ (i + 2) r
     enable-first l n q =
         let e : w + 1 - 1 ≡ w = omega arith in
-        enable-way gs l (c .fine .1) n (subst (λ z. Seg (S .xs) (i + 2) (codeEnable (S .word) z gs) (i + 2 + sizeEnable gs)) e (c .enables)) q
+        enable-way gs l (c .fine .1) n
+        (subst (λ z. Seg (S .xs) (i + 2) (codeEnable (S .word) z gs) (i + 2 + sizeEnable gs)) e (c .enables)) q
 
     pub disable-first : {hi′ : ℕ} {μ : Mem} {r : Regs} → hi ≤ hi′ → Disabling S a st vars chans k gs gs (c .choice) μ w → r .w ≡ w
         → AltGoes vars chans (atAlt gs k) hi′ μ (i + 2 + sizeEnable gs + 1) r
     disable-first l n q =
         let e : w + 1 - 1 ≡ w = omega arith in
         disable-way gs l (c .fine .1) rest-all n
-        (subst (λ z. Seg (S .xs) (i + 2 + sizeEnable gs + 1) (codeDisable (S .word) z (c .choice) (c .choice + 1) gs) (c .choice)) e (c .disables)) q
+        (subst (λ z. Seg (S .xs) (i + 2 + sizeEnable gs + 1) (codeDisable (S .word) z (c .choice) (c .choice + 1) gs) (c .choice)) e
+        (c .disables)) q
 
   -- AJW leads on
   raise : {vars chans : List Site} {hi i n w : ℕ} {p : Process} → At S i (plain ajw n) → w + n < 2 ^ 32 → a .bottom + 2 ≤ w
@@ -470,7 +457,8 @@ module _ (S : Setting) (a : Part) (σ : Store) where
         → Fine (S .word) (partOf vars chans (w - d) (joins d) s) vars chans (w - d) s → d + need s ≤ w
         → Comes S (partOf vars chans (w - d) (joins d) s) σ vars chans (S .off (suc (suc m))) (begin s []) b (w - d)
     branch-start s d b g (at x (at y h)) f l =
-        own-code S (partOf vars chans (w - d) (joins d) s) σ s g f (c-join refl x y (omega (arith, need-two s)) (scoped-below S (omega arith) scoped)) (branch-sound s d (omega arith))
+        own-code S (partOf vars chans (w - d) (joins d) s) σ s g f
+        (c-join refl x y (omega (arith, need-two s)) (scoped-below S (omega arith) scoped)) (branch-sound s d (omega arith))
 
     -- the same for each from the one at distance d on, whose code is at b
     pub branch-starts : (ss : Stmts) (d b : ℕ) {n : ℕ} → Seg (S .xs) b (codeEnds (S .word) w d b ss) n

@@ -1,58 +1,51 @@
 -- OUTWORD: a process comes to an output. It hands its value to a process that waits in IN, or waits itself, and tells an ALT.
-use Prim.Native.Nat.{ℕ, zero, suc, _+_, _-_, _^_, _≤_, _<_}
+use Prim.Native.Nat.{ℕ, suc, _+_, _^_, _≤_, _<_}
 use native.Mathlib.Omega.{arith}
 use native.Mathlib.Decide.{ℕ-discrete}
 use mathlib.Core.Path.{_≡_, refl, sym, ap, _∙_, subst}
-use mathlib.Core.Logic.{_≢_, _⊎_, inl, inr, ⊎-elim}
-use mathlib.Core.Bool.{Bool, true, false, cond}
-use mathlib.Core.List.{List, [], _∷_, _++_, map, List·Memᴰ}
-use mathlib.Core.Option.{Option, none, some}
-use lib.ListN.{length, getD, set, length-set}
-use lib.Seq.{getD-set-same, getD-set-other}
-use lib.Dec.{eqb}
-use borrow.Author.Tests.{eq-eqb, ne-eqb}
+use mathlib.Core.Logic.{_≢_, inl, inr, ⊎-elim}
+use mathlib.Core.Bool.{true, false}
+use mathlib.Core.List.{List, [], _∷_, _++_, List·Memᴰ}
+use borrow.Author.Tests.{ne-eqb}
 use Rattle.model.specs.Word.{notProcess}
-use Rattle.model.specs.Syntax.{Site, Whole, Guards, inputGuard, skipGuard, Stmt, output}
-use Rattle.model.specs.Instruction.{Instruction, plain, operation}
+use Rattle.model.specs.Syntax.{Site, Whole, Guards, output}
+use Rattle.model.specs.Instruction.{plain, operation}
 use Rattle.model.specs.Instruction as I
 use Rattle.model.specs.Code.{functionIn, operandIn}
-use Rattle.model.specs.Layout.{base}
-use Rattle.model.specs.Machine.{World, done, release, _>>_, withCpu, resumeWord, stateWord, linkWord}
-use Rattle.model.specs.Occam.{Store, value, isTrue, store, Frame, Process, before, atInput, atOutput, atAlt, resume, go, look, put, State, Communication}
-use Rattle.model.specs.Occam.{over-channel, Sender, process, outside, Step, begins, communicates, receives}
-use Rattle.model.specs.Demand.{step, Segment, steps, talkOf}
-use Rattle.model.specs.declared.Setup.{Setup}
-use Rattle.model.proofs.Cases.{never, by-bool}
-use Rattle.model.proofs.Ways.{Regs, regsOf, Mem}
-use Rattle.model.proofs.Points.{Setting, whole, At}
-use Rattle.model.proofs.Arrive.{inside, up, rises-le}
-use Rattle.model.proofs.Paths.{Leaf, l-input, l-output, leaf-resume, live-resume, silent-resume, same-path, look-put-same, put-put-same}
+use Rattle.model.specs.Machine.{World, release, _>>_, resumeWord, stateWord}
+use Rattle.model.specs.Occam.{value, isTrue, store, Frame, Process, before, atInput, atOutput, atAlt, resume, go, put, State}
+use Rattle.model.specs.Occam.{over-channel, Sender, process, Step, begins, communicates}
+use Rattle.model.specs.Demand.{step}
+use Rattle.model.proofs.Cases.{never}
+use Rattle.model.proofs.Ways.{Mem}
+use Rattle.model.proofs.Points.{whole, At}
+use Rattle.model.proofs.Arrive.{inside, up}
+use Rattle.model.proofs.Paths.{l-input, l-output, leaf-resume, live-resume, silent-resume, same-path, look-put-same, put-put-same}
 use Rattle.model.proofs.Paths.{Apart, apart-sym as path-apart-sym, leaves-apart, look-put-other, put-put-apart}
 use Rattle.model.proofs.Parts.{Part, Target, Fine}
-use Rattle.model.proofs.Conts.{Placed, Cont, c-up, cont-low, cont-inside, cont-placed}
+use Rattle.model.proofs.Conts.{Placed, Cont, c-up, cont-low, cont-placed}
 use Rattle.model.proofs.Marks.{Own, Ready, r-input, r-skip, r-past-input, r-past-skip, Picks, p-input, p-skip, p-past-input}
 use Rattle.model.proofs.Marks.{p-past-skip, Guarded, AltCode, Marked, Disabling}
-use Rattle.model.proofs.Arrivals.{Sound, Comes, arrives}
+use Rattle.model.proofs.Arrivals.{arrives}
 use Rattle.model.proofs.Trees.{alone, Info, Sits, Tree, bytesLeft}
 use Rattle.model.proofs.Leaves.{upd, member, Unmarked, Resumes, Waits, Held, h-output, h-woken}
-use Rattle.model.proofs.Effects.{cpuOf, sizeOf, stored}
+use Rattle.model.proofs.Effects.{cpuOf, stored}
 use Rattle.model.proofs.Acts.{parked, exec-out-wait, exec-out-alt, exec-out-receiver, notify-waiting, notify-other}
-use Rattle.model.proofs.Kernel.{Loaded, S, root, size, setup, LeafAt, NodeAt, Owned, owned, Rest, Lined, Real, Offer, no-offer, held-offer}
-use Rattle.model.proofs.Writes.{upd-same, upd-other, changed, after-leaf, after-lined, node, apart-parts, apart-zones, own-one, part-small}
-use Rattle.model.proofs.Writes.{sits-at, write-own, write-var, write-chan, left-out, change-offers}
+use Rattle.model.proofs.Kernel.{Loaded, S, root, size, LeafAt, owned, Rest, Lined, Real}
+use Rattle.model.proofs.Writes.{upd-same, upd-other, changed, after-leaf, after-lined, node, apart-parts, apart-zones, own-one}
+use Rattle.model.proofs.Writes.{part-small, sits-at, write-var, write-chan}
 use Rattle.model.proofs.Puts.{putting, treeThen, here-then, other-then, lined-then, rest-then, sender-then}
 use Rattle.model.proofs.Grounds.{var-in, chan-in, small-size, sound-at}
 use Rattle.model.proofs.Traces.{Trace, t-none, t-step}
 use Rattle.model.proofs.Running.{Only, Nobody, Did, Executes, executes, Acting}
-use Rattle.model.proofs.Reals.{size-is, mirrored, real-state, real-cpu, real-stored, real-talk, link-any, link-var, link-chan}
-use Rattle.model.proofs.Sched.{Stands, settle, lets-go, linkedTo, wakes, Woken}
+use Rattle.model.proofs.Reals.{size-is, mirrored, real-state, real-stored, real-talk, link-any, link-var, link-chan}
+use Rattle.model.proofs.Sched.{settle, lets-go, linkedTo, wakes, Woken}
 use Rattle.model.proofs.Queues.{joined}
 use Rattle.model.proofs.Finish.{then-settles, step-lets-go, silent}
-use Rattle.model.proofs.Advance.{Silent, sits, goes-as, leaves-as}
+use Rattle.model.proofs.Advance.{Silent, goes-as, leaves-as}
 use Rattle.model.proofs.Basics.{before-silent}
-use Rattle.model.proofs.Channels.{Holder, holds-input, holds-output, holds-wait, holds-woken, holds-out, holder, Sends, sends, sender-at}
-use Rattle.model.proofs.Channels.{HeldAt, held-at, not-held, held-here}
-use Rattle.model.proofs.Meets.{Both, not-own, resumed, clear-chan, mark-chan, var-above, chan-above, rest-below, real-below, partner-goes}
+use Rattle.model.proofs.Channels.{Holder, holds-input, holds-output, holds-wait, holds-woken, holds-out, holder}
+use Rattle.model.proofs.Meets.{Both, not-own, clear-chan, mark-chan, var-above, chan-above, rest-below, real-below, partner-goes}
 use Rattle.model.proofs.Moving.{same-leaf, rest-in, rest-out, lined-in, lined-out, unqueued}
 use Rattle.model.proofs.Ins.{output-channel}
 use Rattle.model.specs.Execute.{execute, notify, isAltState, enabling, waiting, ready, noneSelected}
@@ -61,7 +54,8 @@ use Rattle.model.specs.Scheme.{sizeEnable}
 use Rattle.model.proofs.Zones.{zoneOf, Distant}
 
 -- what is ready or picked stays so where no sender goes
-pub ready-more : {st st′ : State} → ((c : Site) → Sender st c → Sender st′ c) → {gs : Guards} → st .store ≡ st′ .store → Ready st gs → Ready st′ gs
+pub ready-more : {st st′ : State} → ((c : Site) → Sender st c → Sender st′ c) → {gs : Guards} → st .store ≡ st′ .store
+    → Ready st gs → Ready st′ gs
 ready-more h q (r-input {e} t g) = r-input {e = e} (subst (λ σ. isTrue σ e ≡ true) q t) (h _ g)
 ready-more h q (r-skip {e} t) = r-skip {e = e} (subst (λ σ. isTrue σ e ≡ true) q t)
 ready-more h q (r-past-input g) = r-past-input (ready-more h q g)
@@ -77,7 +71,11 @@ picks-more h q (p-past-skip g) = p-past-skip (picks-more h q g)
 -- a word of memory is no ALT state
 pub no-alt-state : (v : ℕ) → v ≤ 4096 → isAltState v ≡ false
 no-alt-state v h =
-    rw (ne-eqb v enabling (λ e. absurd (omega arith)), ne-eqb v waiting (λ e. absurd (omega arith)), ne-eqb v ready (λ e. absurd (omega arith)))
+    rw (
+      ne-eqb v enabling (λ e. absurd (omega arith)),
+      ne-eqb v waiting (λ e. absurd (omega arith)),
+      ne-eqb v ready (λ e. absurd (omega arith)),
+    )
 
 module _ (L : Loaded) {s : World} {st : State} {μ : Mem} {t : Tree (S L) (root L) (st .process)} {path : List ℕ} {c : Site} {e : Whole}
     {k : List Frame} {b : Part} {i : Info} {ws : List ℕ} {at hi h : ℕ}
@@ -219,7 +217,8 @@ module _ (L : Loaded) {s : World} {st : State} {μ : Mem} {t : Tree (S L) (root 
   unfolding functionIn operandIn
   did-wait empty =
       let old : ν₀ (S L .word c) ≡ notProcess = upd-other μ w z (S L .word c) c-not-w ∙ empty in
-      let rest = parks refl (mark-chan L (A .leaf) refl (rest-below L (A .leaf) refl above w z (w-low .0) (w-low .1) (A .rest)) c (f .2) w own-w old) in
+      let rest = parks refl
+      (mark-chan L (A .leaf) refl (rest-below L (A .leaf) refl above w z (w-low .0) (w-low .1) (A .rest)) c (f .2) w own-w old) in
       leaves-as L parked-real (A .leaf) (A .lined) (atOutput c z k) l-output waiting-info sits-here
       (rest-then L (A .leaf) (atOutput c z k) l-output waiting-info sits-here rest refl (rest .vars (node L (A .leaf)))
       (rest .chans (node L (A .leaf))) (A .rest .live (A .leaf)) (λ d m o. m) (λ d v g q other r p y x n m. never (cc))
@@ -233,7 +232,8 @@ module _ (L : Loaded) {s : World} {st : State} {μ : Mem} {t : Tree (S L) (root 
       (silent L s (parked (S L .word c) w (cpuOf s .place) w (stored w z s)) refl)
 
   -- a process waits in IN: it gets the value, and both go on
-  module _ {other : List ℕ} {x : Site} {l : List Frame} {d : Part} {j : Info} {to far : ℕ} (receiver : LeafAt L st t other (atInput c x l) d j)
+  module _ {other : List ℕ} {x : Site} {l : List Frame} {d : Part} {j : Info} {to far : ℕ}
+      (receiver : LeafAt L st t other (atInput c x l) d j)
       (apart : path ≢ other) (idle : member (j .w) ws ≡ false) (waits : Waits (S L) d j st μ c l to far (S L .word x))
       (target : Target d (j .vars) x) where
     abbrev st₂ : State
@@ -253,9 +253,6 @@ module _ (L : Loaded) {s : World} {st : State} {μ : Mem} {t : Tree (S L) (root 
 
     x-not-c : S L .word c ≢ S L .word x
     x-not-c q = zones .crossed c x (f .2) (target .0) q
-
-    x-not-w : S L .word x ≢ w
-    x-not-w q = zones .vars-in x (target .0) (omega (arith, q, w-low .0), omega (arith, q, above .low))
 
     receiver₂ : LeafAt L st₂ t other (atInput c x l) d j
     receiver₂ = after-leaf L receiver
@@ -316,9 +313,11 @@ module _ (L : Loaded) {s : World} {st : State} {μ : Mem} {t : Tree (S L) (root 
         let below : resumeWord (j .w) < j .w = omega (arith, p .room, p .low, part-small L receiver, small-size L) in
         upd-other η₁ (S L .word c) notProcess (resumeWord (j .w)) (λ q. zones .chans-out c (f .2) (omega (arith, q), omega (arith, q)))
         ∙ upd-other ν₀ (S L .word x) z (resumeWord (j .w)) (λ q. var-above L p (resumeWord (j .w)) below x (target .0) (sym q))
-        ∙ upd-other μ w z (resumeWord (j .w)) (λ q. zones .words (resumeWord (j .w)) (omega (arith, q, w-low .0), omega (arith, q, above .low)) (lo, up))
+        ∙ upd-other μ w z (resumeWord (j .w))
+        (λ q. zones .words (resumeWord (j .w)) (omega (arith, q, w-low .0), omega (arith, q, above .low)) (lo, up))
 
-    woken : Woken L s₂ (putting other (resume l) st₂) η (treeThen L receiver₂ (resume l) (leaf-resume l) j (sits-at L receiver₂)) (Only path) (j .w) ws
+    woken : Woken L s₂ (putting other (resume l) st₂) η
+        (treeThen L receiver₂ (resume l) (leaf-resume l) j (sits-at L receiver₂)) (Only path) (j .w) ws
     woken =
         partner-goes L real₂ rest₂ lines₂ receiver₂ apart (A .run) waits receiver-same refl receiver-clean
         (λ a y q p here r g n v o m. never (cc))
@@ -336,14 +335,16 @@ module _ (L : Loaded) {s : World} {st : State} {μ : Mem} {t : Tree (S L) (root 
     clean₃ a q o =
         let calm = woken .calm {skip = b .top} leaf₃ refl in
         ⊎-elim
-        (λ p. clean a q (chan-after b a high (λ y. zones .crossed a x q (target .0) y) (chan-above L above w (w-low .1) a q) (subst (Own b) p o) .1))
+        (λ p. clean a q
+        (chan-after b a high (λ y. zones .crossed a x q (target .0) y) (chan-above L above w (w-low .1) a q) (subst (Own b) p o) .1))
         (λ n. n .1 o) (calm .chans a q)
 
     -- they meet
     apart-paths : Apart path other
     apart-paths = leaves-apart path other (st .process) (A .leaf .found) (A .leaf .leaf) (receiver .found) l-input apart
 
-    meets : Trace st (step [] st₁ ∷ step (over-channel c z) (putting path (resume k) st₃) ∷ []) (putting path (resume k) st₃) (over-channel c z) []
+    meets : Trace st (step [] st₁ ∷ step (over-channel c z) (putting path (resume k) st₃) ∷ [])
+        (putting path (resume k) st₃) (over-channel c z) []
     meets =
         t-step coming
         (t-step
@@ -369,9 +370,11 @@ module _ (L : Loaded) {s : World} {st : State} {μ : Mem} {t : Tree (S L) (root 
         let up : stateWord (j .w) < d .top = omega (arith, waits .space, p .low, part-small L receiver, small-size L) in
         executes
         (exec-out-receiver (S L .word c) z w (j .w) (S L .word x) s ea eb refl (rw size-s w-in) (rw size-s c-in) c-not-w
-        (mirrored L (A .real) (S L .word c) c-in (waits .here)) (λ q. absurd (omega (arith, p .low, part-small L receiver, small-size L, q)))
+        (mirrored L (A .real) (S L .word c) c-in (waits .here))
+        (λ q. absurd (omega (arith, p .low, part-small L receiver, small-size L, q)))
         (rw size-s small-j) (λ q. zones .words (stateWord (j .w)) (omega (arith, q, w-low .0), omega (arith, q, above .low)) (lo, up))
-        (mirrored L (A .real) (stateWord (j .w)) small-j (waits .message-at)) (no-alt-state (S L .word x) (omega (arith, x-in, small-size L)))
+        (mirrored L (A .real) (stateWord (j .w)) small-j (waits .message-at))
+        (no-alt-state (S L .word x) (omega (arith, x-in, small-size L)))
         (rw size-s x-in)
         ∙ rw (woken .joins))
 
@@ -381,7 +384,8 @@ module _ (L : Loaded) {s : World} {st : State} {μ : Mem} {t : Tree (S L) (root 
         let live = live-resume k (i .vars) (A .rest .live (A .leaf)) in
         let quiet : Silent (resume k) = λ c v f e. silent-resume k e in
         let real₃ = real-talk L (u₃ .talk) (woken .real) in
-        let now = goes-as L real₃ leaf₃ (woken .rest) (woken .lines) clean₃ (before-silent (output c e) k) (resume k) (leaf-resume k) waiting-info
+        let now = goes-as L real₃ leaf₃ (woken .rest) (woken .lines) clean₃ (before-silent (output c e) k) (resume k)
+        (leaf-resume k) waiting-info
         placed few (woken .rest .vars (node L leaf₃)) (woken .rest .chans (node L leaf₃)) live quiet in
         then-settles L meets (omega arith) executed₃ refl
         (settle L (real-state L (put path (resume k) (st₃ .process)) (st₃ .store) real₃)
@@ -391,7 +395,8 @@ module _ (L : Loaded) {s : World} {st : State} {μ : Mem} {t : Tree (S L) (root 
         (arrives (S L) b (st₃ .store) onward near-on (sound-at L (woken .rest) leaf₃)) clean₃ near-on (omega arith))
 
   -- an ALT has enabled the channel: the process waits, and the ALT is told
-  module _ {other : List ℕ} {gs : Guards} {l : List Frame} {d : Part} {j : Info} {far to : ℕ} (chooser : LeafAt L st t other (atAlt gs l) d j)
+  module _ {other : List ℕ} {gs : Guards} {l : List Frame} {d : Part} {j : Info} {far to : ℕ}
+      (chooser : LeafAt L st t other (atAlt gs l) d j)
       (apart : path ≢ other) (a : AltCode (S L) d gs (j .vars) (j .chans) l far to (j .w + 1)) (here : μ (S L .word c) ≡ j .w)
       (guarded : Guarded (st .store) c gs) where
     zones-alt : Distant (S L) (zoneOf (alone b i)) (zoneOf (alone d j))
@@ -403,8 +408,10 @@ module _ (L : Loaded) {s : World} {st : State} {μ : Mem} {t : Tree (S L) (root 
     -- its words
     t-low : (d .bottom ≤ stateWord (j .w)) × (stateWord (j .w) < j .w)
     t-low =
-        let p = sits-at L chooser .placed in
-        (omega (arith, a .fine .0, p .low, part-small L chooser, small-size L), omega (arith, a .fine .0, p .low, part-small L chooser, small-size L))
+        let p = sits-at L chooser .placed in (
+          omega (arith, a .fine .0, p .low, part-small L chooser, small-size L),
+          omega (arith, a .fine .0, p .low, part-small L chooser, small-size L),
+        )
 
     t-high : stateWord (j .w) < d .top
     t-high = omega (arith, t-low .1, sits-at L chooser .placed .low)
@@ -416,7 +423,8 @@ module _ (L : Loaded) {s : World} {st : State} {μ : Mem} {t : Tree (S L) (root 
     rest₁ : Rest L st ν₃ t (Both path other) ws
     rest₁ =
         parks (inl refl)
-        (write-chan L (A .leaf) (rest-below L (A .leaf) (inl refl) above w z (w-low .0) (w-low .1) (rest-out L (λ y q. inl q) (A .rest))) c w (f .2)
+        (write-chan L (A .leaf)
+        (rest-below L (A .leaf) (inl refl) above w z (w-low .0) (w-low .1) (rest-out L (λ y q. inl q) (A .rest))) c w (f .2)
         (λ y r p g x n. (
           (λ o. own-one L (apart-parts L chooser x (λ q. n (inr q))) own-j
               (subst (Own p) (upd-other μ w z (S L .word c) c-not-w ∙ here) o)),
@@ -511,7 +519,8 @@ module _ (L : Loaded) {s : World} {st : State} {μ : Mem} {t : Tree (S L) (root 
         exec-out-alt (S L .word c) z w (cpuOf s .place) (j .w) v s ea eb refl refl (rw size-s w-in) (rw size-s c-in) c-not-w
         (mirrored L (A .real) (S L .word c) c-in here) (λ q. absurd (omega (arith, p .low, part-small L chooser, small-size L, q)))
         (rw size-s alt-in) (mine-not w (w-low .0) (omega (arith, above .low)) (stateWord (j .w)) (t-low .0) t-high)
-        (mirrored L (A .real) (stateWord (j .w)) alt-in q) g (rw size-s (omega (arith, r-low .1, w-in))) (rw size-s (omega (arith, s-low .1, w-in)))
+        (mirrored L (A .real) (stateWord (j .w)) alt-in q) g (rw size-s (omega (arith, r-low .1, w-in)))
+        (rw size-s (omega (arith, s-low .1, w-in)))
 
     -- it waits in the ALT: it is woken
     pub did-wake : member (j .w) ws ≡ false → Resumes (S L) d j st μ (to + 2 + sizeEnable gs + 1) far → μ (stateWord (j .w)) ≡ waiting
@@ -540,7 +549,8 @@ module _ (L : Loaded) {s : World} {st : State} {μ : Mem} {t : Tree (S L) (root 
           state = upd-same ν₃ (stateWord (j .w)) ready;
           chosen = inr (base-word ∙ chosen, guarded-ready guarded sends-now);
         }) in
-        let woken = wakes L {Out′ = Nobody} (real₄ lines) rest₆ (lined-in L (λ y q. inr q) lines₅) chooser₅ refl held (λ y n q. absurd (n q))
+        let woken = wakes L {Out′ = Nobody} (real₄ lines) rest₆
+        (lined-in L (λ y q. inr q) lines₅) chooser₅ refl held (λ y n q. absurd (n q))
         (λ y q. absurd q) (λ q. q) (A .run) in
         step-lets-go L coming
         (λ y q g. executes (told state refl ∙ rw (notify-waiting (j .w) s₃ (rw (size-is L (A .real)) alt-in), woken .joins) q))
@@ -578,7 +588,8 @@ module _ (L : Loaded) {s : World} {st : State} {μ : Mem} {t : Tree (S L) (root 
         let rest₇ = rest-in L {Out′ = Nobody} chooser₅ (subst (λ y. Held (S L) d j st₁ ν₄ y (atAlt gs l)) (sym queued) held)
         (λ y n q. absurd (n q)) rest₆ in
         step-lets-go L coming
-        (λ y q g. executes (told state refl ∙ rw (notify-other (j .w) ready s₃ (rw (size-is L (A .real)) alt-in) (λ q. absurd (omega arith))) q))
+        (λ y q g. executes
+        (told state refl ∙ rw (notify-other (j .w) ready s₃ (rw (size-is L (A .real)) alt-in) (λ q. absurd (omega arith))) q))
         (silent L s s₄ refl)
         (lets-go L (A .operand) (real-here) rest₇ (lined-in L (λ y q. absurd q) lines₅))
       where

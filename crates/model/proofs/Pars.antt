@@ -2,51 +2,48 @@
 use Prim.Native.Nat.{ℕ, zero, suc, _+_, _-_, _^_, _≤_, _<_}
 use native.Mathlib.Omega.{arith}
 use mathlib.Core.Path.{_≡_, refl, sym, ap, _∙_, subst}
-use mathlib.Core.Logic.{_≢_, _⊎_, inl, inr, ⊎-elim}
-use mathlib.Core.Bool.{Bool, true, false}
-use mathlib.Core.List.{List, [], _∷_, _++_, List·Memᴰ}
-use mathlib.Core.Option.{Option, none, some}
-use lib.ListN.{length, getD, length-append}
+use mathlib.Core.Logic.{inl, inr}
+use mathlib.Core.List.{List, [], _∷_, _++_}
+use mathlib.Core.Option.{none, some}
+use lib.ListN.{length, length-append}
 use Rattle.model.specs.Word.{low}
 use Rattle.model.specs.Syntax.{Site, Stmt, PAR, Stmts, noStmt, stmt}
 use Rattle.model.specs.Counts.{need, sumNeed}
 use Rattle.model.specs.Scheme.{howMany, size, sizeEnds, code, codeStarts, codeEnds}
-use Rattle.model.specs.Instruction.{Instruction, plain, operation}
+use Rattle.model.specs.Instruction.{plain, operation}
 use Rattle.model.specs.Instruction as I
 use Rattle.model.specs.Code.{functionIn, operandIn}
-use Rattle.model.specs.Machine.{World, done, withCpu, resumeWord}
-use Rattle.model.specs.Execute.{execute, pop}
+use Rattle.model.specs.Machine.{World, withCpu}
+use Rattle.model.specs.Execute.{pop}
 use Rattle.model.specs.Occam.{Store, Frame, Process, before, inPar, begin, branches, go, put, State, Step, begins}
 use Rattle.model.specs.Demand.{step}
-use Rattle.model.proofs.Cases.{never}
-use Rattle.model.proofs.Ways.{Regs, regsOf, pushing, Mem, arrived, quiet, quiet-ldc}
-use Rattle.model.proofs.Expr.{Seg, nil, at, seg-length}
+use Rattle.model.proofs.Ways.{pushing, Mem, arrived, quiet, quiet-ldc}
+use Rattle.model.proofs.Expr.{Seg, at, seg-length}
 use Rattle.model.proofs.Points.{Setting, whole, At}
-use Rattle.model.proofs.Arrive.{inside, up, rises-le}
+use Rattle.model.proofs.Arrive.{inside, rises-le}
 use Rattle.model.proofs.Sizes.{code-length, ends-length}
-use Rattle.model.proofs.Paths.{Leaf, stmtAt, stmt-inside, Apart, here, later}
+use Rattle.model.proofs.Paths.{stmtAt, stmt-inside, Apart, here, later}
 use Rattle.model.proofs.Parts.{need-next, sum-first, Part, joins, partOf, Inside, FineBranches}
-use Rattle.model.proofs.Conts.{Placed, cont-low, cont-inside, cont-bound}
-use Rattle.model.proofs.Marks.{Own, ParCode, pt-par-count, StartPoint}
-use Rattle.model.proofs.Arrivals.{Sound, Comes}
-use Rattle.model.proofs.Onwards.{Started, all-start, ends-next, Starts, start-path}
-use Rattle.model.proofs.Trees.{distanceOf, Info, newInfo, Sits, Tree, bytesLeft}
-use Rattle.model.proofs.Leaves.{upd, Unmarked, Held, h-queued}
-use Rattle.model.proofs.Effects.{cpuOf, sizeOf, stored, exec-stl}
-use Rattle.model.proofs.Acts.{exec-startp}
-use Rattle.model.proofs.Kernel.{Loaded, S, root, size as memory, LeafAt, NodeAt, Rest, Lined, Real}
-use Rattle.model.proofs.Writes.{upd-same, upd-other, node, part-small, sits-at}
-use Rattle.model.proofs.Puts.{putting}
-use Rattle.model.proofs.Grounds.{small-size, code-end, sound-at}
-use Rattle.model.proofs.Traces.{Trace, t-none, t-step}
-use Rattle.model.proofs.Running.{Only, Births, Later, l-here, l-next, Unborn, unborn, Starting, fresh, Birth, NowStarts, Inv, runs, starts, Did}
+use Rattle.model.proofs.Conts.{cont-inside, cont-bound}
+use Rattle.model.proofs.Marks.{ParCode, pt-par-count}
+use Rattle.model.proofs.Arrivals.{Comes}
+use Rattle.model.proofs.Onwards.{Started, all-start, ends-next, start-path}
+use Rattle.model.proofs.Trees.{distanceOf, Info, newInfo, Tree, bytesLeft}
+use Rattle.model.proofs.Leaves.{upd, Unmarked}
+use Rattle.model.proofs.Effects.{cpuOf, stored, exec-stl}
+use Rattle.model.proofs.Kernel.{Loaded, S, root, LeafAt, Rest, Lined, Real}
+use Rattle.model.proofs.Writes.{upd-same, upd-other, part-small}
+use Rattle.model.proofs.Grounds.{small-size, sound-at}
+use Rattle.model.proofs.Traces.{t-none, t-step}
+use Rattle.model.proofs.Running.{Only, Births, Later, l-here, l-next, unborn, Starting, fresh, Birth, starts, Did}
 use Rattle.model.proofs.Running.{came, Executes, executes, Acting}
-use Rattle.model.proofs.Moving.{rest-narrow, rest-out, lined-in}
+use Rattle.model.proofs.Moving.{rest-narrow, lined-in}
 use Rattle.model.proofs.Reals.{size-is, real-state, real-cpu}
-use Rattle.model.proofs.Sched.{Stands, settle, wakes, Woken}
+use Rattle.model.proofs.Sched.{settle}
 use Rattle.model.proofs.Finish.{goes-on, step-settles, silent}
 use Rattle.model.proofs.Meets.{rest-below, real-below, clean-below}
-use Rattle.model.proofs.Forks.{Branch, branch-of, forked, forkTree, forkState, fork-here, fork-branch, fork-other, fork-rest, fork-lined, which, a-branch, aside-one}
+use Rattle.model.proofs.Forks.{Branch, branch-of, forkTree, forkState, fork-branch, fork-rest, fork-lined, which, a-branch}
+use Rattle.model.proofs.Forks.{aside-one}
 
 -- what is known of the k-th of some branches
 later-at : {ss : Stmts} {d b k : ℕ} {r : Stmt} {e f : ℕ} → Later ss d b k r e f → (stmtAt k ss ≡ some r) × (e ≡ d + distanceOf k ss)
@@ -74,7 +71,8 @@ module _ (S : Setting) (a : Part) {vars chans : List Site} (w : ℕ) where
   later-comes g l-here = g .0
   later-comes g (l-next h) = later-comes (g .1) h
 
-module _ (L : Loaded) {s : World} {st : State} {μ : Mem} {t : Tree (S L) (root L) (st .process)} {path : List ℕ} {p : ℕ} {d : Stmt} {ds : Stmts}
+module _ (L : Loaded) {s : World} {st : State} {μ : Mem} {t : Tree (S L) (root L) (st .process)} {path : List ℕ}
+    {p : ℕ} {d : Stmt} {ds : Stmts}
     {k : List Frame} {b : Part} {i : Info} {ws : List ℕ} {at hi : ℕ}
     (A : Acting L s st μ t path (before (PAR p (stmt d ds)) k) b i (Only path) ws at hi) (clean : Unmarked (S L) b i st μ) where
   abbrev w : ℕ
@@ -92,7 +90,9 @@ module _ (L : Loaded) {s : World} {st : State} {μ : Mem} {t : Tree (S L) (root 
       let low-w : b .bottom ≤ w = omega (arith, c .room) in
       let below : w < w + 2 = omega arith in
       let ran : Executes L (plain I.stl 0) s (withCpu r (stored w z s)) =
-      executes (exec-stl 0 w s (omega (arith, high)) (rw (size-is L (A .real)) (omega (arith, c .placed .low, part-small L (A .leaf)))) ∙ rw v) in
+      executes
+      (exec-stl 0 w s (omega (arith, high))
+      (rw (size-is L (A .real)) (omega (arith, c .placed .low, part-small L (A .leaf)))) ∙ rw v) in
       let bound : L .off (suc (suc (suc at))) ≤ hi =
       omega (
         arith,
@@ -127,7 +127,9 @@ module _ (L : Loaded) {s : World} {st : State} {μ : Mem} {t : Tree (S L) (root 
     counted : Executes L (plain I.stl 1) s u
     unfolding functionIn operandIn
     counted =
-        executes (exec-stl 1 (w + 1) s (omega (arith, high)) (rw (size-is L (A .real)) (omega (arith, c .placed .low, part-small L (A .leaf)))) ∙ rw val)
+        executes
+        (exec-stl 1 (w + 1) s (omega (arith, high))
+        (rw (size-is L (A .real)) (omega (arith, c .placed .low, part-small L (A .leaf)))) ∙ rw val)
 
     real₀ : Real L u (forkState L (A .leaf) c) ν ws
     real₀ =
@@ -185,9 +187,11 @@ module _ (L : Loaded) {s : World} {st : State} {μ : Mem} {t : Tree (S L) (root 
           let z = later-at it in
           let g : distanceOf m (stmt d ds) ≡ e = omega (arith, z .1) in
           subst (λ y. LeafAt L (forkState L (A .leaf) c) (forkTree L (A .leaf) c) (path ++ m ∷ []) (begin r [])
-          (partOf (i .vars) (i .chans) (w - y) (joins y) r) (newInfo (S L) (i .vars) (i .chans) (w - y))) g (fork-branch L (A .leaf) c m (z .0))
+          (partOf (i .vars) (i .chans) (w - y) (joins y) r) (newInfo (S L) (i .vars) (i .chans) (w - y))) g
+          (fork-branch L (A .leaf) c m (z .0))
 
-      branch-comes : Comes (S L) (partOf (i .vars) (i .chans) (w - e) (joins e) r) (st .store) (i .vars) (i .chans) (L .off (f + size r + 2))
+      branch-comes : Comes (S L) (partOf (i .vars) (i .chans) (w - e) (joins e) r) (st .store) (i .vars) (i .chans)
+          (L .off (f + size r + 2))
           (begin r []) f (w - e)
       branch-comes = later-comes (S L) b w started-all it
 
@@ -208,7 +212,8 @@ beside n (here x) e = x (cc)
 beside n (later a) e = beside n a (cc)
 
 -- of one branch the number is 0
-only-zero : (path : List ℕ) {other : List ℕ} (d : Stmt) {r : Stmt} (l : ℕ) → stmtAt l (stmt d noStmt) ≡ some r → other ≡ path ++ l ∷ [] → path ++ 0 ∷ [] ≡ other
+only-zero : (path : List ℕ) {other : List ℕ} (d : Stmt) {r : Stmt} (l : ℕ) → stmtAt l (stmt d noStmt) ≡ some r
+    → other ≡ path ++ l ∷ [] → path ++ 0 ∷ [] ≡ other
 unfolding howMany
 only-zero path d l g x =
     let z : l ≡ 0 = omega (arith, stmt-inside l (stmt d noStmt) g) in
@@ -230,13 +235,21 @@ module _ (L : Loaded) {s : World} {st : State} {μ : Mem} {t : Tree (S L) (root 
       (settle L (real₀ L A clean c val place) leaf
       (rest-narrow L (λ other q e j m o. only-first A c m o) (rest₁ L A clean c val place))
       (lined-in L (λ other o. branch-of 0 (sym o)) (lines₁ L A clean c val place)) (whole (S L))
-      (record { run = A .run; operand = A .operand; place = A .placed ∙ ap (L .off) (sym first-is); work = sym none; inside = rw first-is (A .inside) })
+      (record {
+        run = A .run;
+        operand = A .operand;
+        place = A .placed ∙ ap (L .off)
+            (sym first-is);
+        work = sym none;
+        inside = rw first-is (A .inside);
+      })
       (branch-comes L A clean c val place l-here) (branch-unmarked L A clean c val place l-here)
       (omega (arith, rises-le (S L) (c .first + size d + 2) (length (S L .xs)) (branch-inner L A clean c val place l-here) (omega arith)))
       few)
     where
       only-first : (A : Acting L s st μ t path (before (PAR p (stmt d noStmt)) k) b i (Only path) ws at hi)
-          (c : ParCode (S L) b d noStmt (i .vars) (i .chans) k h (suc at) (cpuOf s .workspace)) → {other : List ℕ} {q : Process} {e : Part} {j : Info}
+          (c : ParCode (S L) b d noStmt (i .vars) (i .chans) k h (suc at) (cpuOf s .workspace))
+          → {other : List ℕ} {q : Process} {e : Part} {j : Info}
           → LeafAt L (forkState L (A .leaf) c) (forkTree L (A .leaf) c) other q e j → Branch path other → path ++ 0 ∷ [] ≡ other
       only-first A c m (branch-of n z) = elim (which L (A .leaf) c m) [
         | a-branch l r g x y ↦ only-zero path d l g x
@@ -244,7 +257,8 @@ module _ (L : Loaded) {s : World} {st : State} {μ : Mem} {t : Tree (S L) (root 
       ]
 
 -- the first branch of a PAR goes on to start the others
-module _ (L : Loaded) {s : World} {st : State} {μ : Mem} {t : Tree (S L) (root L) (st .process)} {path : List ℕ} {p : ℕ} {d r : Stmt} {rs : Stmts}
+module _ (L : Loaded) {s : World} {st : State} {μ : Mem} {t : Tree (S L) (root L) (st .process)} {path : List ℕ} {p : ℕ}
+    {d r : Stmt} {rs : Stmts}
     {k : List Frame} {b : Part} {i : Info} {ws : List ℕ} {at hi h : ℕ}
     (A : Acting L s st μ t path (before (PAR p (stmt d (stmt r rs))) k) b i (Only path) ws at hi) (clean : Unmarked (S L) b i st μ)
     (c : ParCode (S L) b d (stmt r rs) (i .vars) (i .chans) k h (suc at) (cpuOf s .workspace))
@@ -282,7 +296,8 @@ module _ (L : Loaded) {s : World} {st : State} {μ : Mem} {t : Tree (S L) (root 
         unmarked = branch-unmarked L A clean c val place it;
       }
 
-  all-starting : {other : List ℕ} {q : Process} {e : Part} {j : Info} → LeafAt L (forkState L (A .leaf) c) (forkTree L (A .leaf) c) other q e j
+  all-starting : {other : List ℕ} {q : Process} {e : Part} {j : Info}
+      → LeafAt L (forkState L (A .leaf) c) (forkTree L (A .leaf) c) other q e j
       → Branch path other → Starting (path ++ 0 ∷ []) births other
   unfolding howMany
   all-starting m (branch-of n z) = elim (which L (A .leaf) c m) [
@@ -314,7 +329,8 @@ module _ (L : Loaded) {s : World} {st : State} {μ : Mem} {t : Tree (S L) (root 
       let zero-plus : need d ≡ 0 + need d = omega arith in
       let seg : Seg (S L .xs) (suc at) (codeStarts (S L .word) (0 + need d) (suc at) (c .first + size d + 2) (stmt r rs)) (c .first) =
       rw (sym zero-plus) (c .starts) in
-      came X (step [] (forkState L (A .leaf) c) ∷ []) (counted L A clean c val place) (t-step (forks L A clean c val place) t-none) (silent L s X refl)
+      came X (step [] (forkState L (A .leaf) c) ∷ []) (counted L A clean c val place)
+      (t-step (forks L A clean c val place) t-none) (silent L s X refl)
       (starts births (real₀ L A clean c val place) (A .run) (branch-leaf L A clean c val place last)
       (rest-narrow L (λ other q e j m o. all-starting m o) (rest₁ L A clean c val place))
       (lined-in L (λ other o. branch-starting o) (lines₁ L A clean c val place))
@@ -329,7 +345,9 @@ module _ (L : Loaded) {s : World} {st : State} {μ : Mem} {t : Tree (S L) (root 
             (omega (arith, branch-room L A clean c val place last)) inner (omega (arith, inner))
             (rises-le (S L) (c .first) (c .first + size d + 2) (omega arith) inner) refl;
         births = each-birth;
-        own = subst (λ z. Comes (S L) (partOf (i .vars) (i .chans) (v - 0) (joins 0) d) (st .store) (i .vars) (i .chans) hi₁ (begin d []) (c .first) z)
+        own =
+            subst (λ z. Comes (S L) (partOf (i .vars) (i .chans) (v - 0) (joins 0) d) (st .store) (i .vars) (i .chans) hi₁
+            (begin d []) (c .first) z)
             none (branch-comes L A clean c val place last);
         inner = omega (arith, inner);
         near = rises-le (S L) (c .first) (c .first + size d + 2) (omega arith) inner;

@@ -5,12 +5,11 @@ use native.Mathlib.Omega.{arith}
 use mathlib.Core.Path.{_≡_, refl}
 use mathlib.Core.Logic.{_⊎_}
 use mathlib.Core.List.{List, [], _++_, List·Memᴰ}
-use Rattle.model.specs.Syntax.{Site, declared, Expr, constant, variable, NOT, binary, Whole, Stmt, SKIP, STOP, assign, input, output}
-use Rattle.model.specs.Syntax.{VAR, CHAN, SEQ, PAR, IF, WHILE, ALT, Stmts, noStmt, stmt, Pairs, noPair, pair}
-use Rattle.model.specs.Syntax.{Guards, noGuard, inputGuard, skipGuard}
+use Rattle.model.specs.Syntax.{Site, declared, Whole, Stmt, SKIP, STOP, assign, input, output, VAR, CHAN, SEQ, PAR, IF, WHILE, ALT}
+use Rattle.model.specs.Syntax.{Stmts, noStmt, stmt, Pairs, noPair, pair, Guards, noGuard, inputGuard, skipGuard}
 use Rattle.model.specs.Reader.{names}
 use Rattle.model.specs.Counts.{registers, need, sumNeed}
-use Rattle.model.specs.Usage.{Usage, usage}
+use Rattle.model.specs.Usage.{usage}
 use Rattle.model.proofs.Values.{FineExpr}
 
 -- every statement needs two words at least

@@ -1,5 +1,5 @@
 -- Paths into Occam's processes: what is found and put at a path, which branches of a PAR are left, and that leaves' paths are apart.
-use Prim.Native.Nat.{ℕ, zero, suc, _≤_, _<_}
+use Prim.Native.Nat.{ℕ, zero, suc, _<_}
 use native.Mathlib.Omega.{arith}
 use native.Mathlib.Decide.{ℕ-discrete}
 use mathlib.Core.Path.{_≡_, refl, sym, ap, subst, _∙_}
@@ -127,23 +127,12 @@ none-left noBranch e = refl
 none-left (branch p bs) e = absurd (omega arith)
 none-left (over bs) e = none-left bs e
 
--- and the other way round
-pub all-over : (bs : Branches) → allOver bs ≡ true → left bs ≡ 0
-unfolding left allOver
-all-over noBranch e = refl
-all-over (branch p bs) e = never (cc)
-all-over (over bs) e = all-over bs e
-
 -- not all are over where some are left
 pub some-left : (bs : Branches) → left bs ≢ 0 → allOver bs ≡ false
 unfolding left allOver
 some-left noBranch d = absurd (d refl)
 some-left (branch p bs) d = refl
 some-left (over bs) d = some-left bs d
-
--- and the other way round
-pub not-all-over : (bs : Branches) → allOver bs ≡ false → left bs ≢ 0
-not-all-over bs e z = never (cc (none-left bs z, e))
 
 -- after a branch's end all are over where it was the last
 pub last-over : (i : ℕ) (bs : Branches) {b : Process} → branchAt i bs ≡ some b → left bs ≡ 1 → allOver (endBranch i bs) ≡ true
@@ -169,17 +158,6 @@ stmtAt i noStmt = none
 stmtAt zero (stmt s ss) = some s
 stmtAt (suc i) (stmt s ss) = stmtAt i ss
 
--- a statement at a place
-pub data Nth (i : ℕ) (ss : Stmts) : Type 0 where
-  nth : (s : Stmt) → stmtAt i ss ≡ some s → Nth i ss
-
--- a place below the count of the branches has a statement
-pub stmt-found : (i : ℕ) (ss : Stmts) → i < howMany ss → Nth i ss
-unfolding stmtAt howMany
-stmt-found i noStmt l = absurd (omega arith)
-stmt-found zero (stmt s ss) l = nth s refl
-stmt-found (suc i) (stmt s ss) l = elim (stmt-found i ss (omega arith)) [ nth t e ↦ nth t e ]
-
 -- and only such a place
 pub stmt-inside : (i : ℕ) (ss : Stmts) {s : Stmt} → stmtAt i ss ≡ some s → i < howMany ss
 unfolding stmtAt howMany
@@ -204,13 +182,6 @@ unfolding stmtAt branches branchAt
 branch-begun i noStmt e = never (cc)
 branch-begun zero (stmt s ss) e = begun s refl (cc)
 branch-begun (suc i) (stmt s ss) e = elim (branch-begun i ss e) [ begun t f g ↦ begun t f g ]
-
--- nothing is found past the last branch
-pub no-branch : (i : ℕ) (ss : Stmts) → howMany ss ≤ i → branchAt i (branches ss) ≡ none
-unfolding branches branchAt howMany
-no-branch i noStmt l = refl
-no-branch zero (stmt s ss) l = absurd (omega arith)
-no-branch (suc i) (stmt s ss) l = no-branch i ss (omega arith)
 
 -- by way of a branch is found what is found in it
 pub look-in : (i : ℕ) (path : List ℕ) (p : Process) {b : Process} → branchAt i (branchesOf p) ≡ some b → look (i ∷ path) p ≡ look path b
@@ -247,11 +218,6 @@ pub look-nil : (p : Process) → look [] p ≡ some p
 unfolding look
 look-nil p = refl
 
--- a put at the empty path replaces the whole
-pub put-nil : (r p : Process) → put [] r p ≡ r
-unfolding put
-put-nil r p = refl
-
 -- after a put the branch on its way has the put in it
 put-way : (i : ℕ) (path : List ℕ) (r p : Process) {b : Process} → branchAt i (branchesOf p) ≡ some b
     → branchAt i (branchesOf (put (i ∷ path) r p)) ≡ some (put path r b)
@@ -283,18 +249,6 @@ put-append (i ∷ path) rest r p {q} e = elim (look-under i path p e) [
       put-in i (path ++ rest) r p f ∙ ap (λ z. inPar (setBranch i z (branchesOf p)) (framesOf p)) (put-append path rest r b g)
       ∙ sym (put-in i path (put rest r q) p f)
 ]
-
--- so what is found at a path changes with a put under it
-pub look-put-under : (path rest : List ℕ) (r p : Process) {q : Process} → look path p ≡ some q
-    → look path (put (path ++ rest) r p) ≡ some (put rest r q)
-look-put-under path rest r p {q} e = ap (look path) (put-append path rest r p e) ∙ look-put-same path p (put rest r q) e
-
--- a PAR with a put in one of its branches
-pub look-put-par : (path : List ℕ) (i : ℕ) (rest : List ℕ) (r p : Process) {bs : Branches} {k : List Frame} {b : Process}
-    → look path p ≡ some (inPar bs k) → branchAt i bs ≡ some b
-    → look path (put (path ++ i ∷ rest) r p) ≡ some (inPar (setBranch i (put rest r b) bs) k)
-look-put-par path i rest r p {bs} {k} e f =
-    look-put-under path (i ∷ rest) r p e ∙ ap some (put-in i rest r (inPar bs k) f)
 
 -- under the path of a put are the paths into what was put
 pub look-put-below : (path rest : List ℕ) (r p : Process) {q : Process} → look path p ≡ some q
@@ -646,7 +600,8 @@ look-prefix (i ∷ path) rest p e = elim (look-under i (path ++ rest) p e) [
 pub data SamePar (path : List ℕ) (p : Process) (bs : Branches) (k : List Frame) : Type 0 where
   same-par : (cs : Branches) → look path p ≡ some (inPar cs k) → left cs ≡ left bs → SamePar path p bs k
 
-pub par-above : (path other : List ℕ) (i : ℕ) (rest : List ℕ) (r p : Process) {q : Process} {bs : Branches} {k : List Frame} → path ≡ other ++ i ∷ rest
+pub par-above : (path other : List ℕ) (i : ℕ) (rest : List ℕ) (r p : Process) {q : Process} {bs : Branches} {k : List Frame}
+    → path ≡ other ++ i ∷ rest
     → look path p ≡ some q → look other (put path r p) ≡ some (inPar bs k) → SamePar other p bs k
 par-above path other i rest r p {bs = bs} {k} g e f = elim (look-prefix other (i ∷ rest) p (ap (λ z. look z p) (sym g) ∙ e)) [
   | prefixed z h n ↦ elim (look-under i rest z n) [
@@ -662,7 +617,8 @@ par-above path other i rest r p {bs = bs} {k} g e f = elim (look-prefix other (i
   ]
 ]
 
-pub par-after : (path other : List ℕ) (p : Process) {q r : Process} {bs : Branches} {k : List Frame} → look path p ≡ some q → Leaf q → Leaf r
+pub par-after : (path other : List ℕ) (p : Process) {q r : Process} {bs : Branches} {k : List Frame}
+    → look path p ≡ some q → Leaf q → Leaf r
     → look other (put path r p) ≡ some (inPar bs k) → SamePar other p bs k
 par-after path other p {q} {r} {bs} {k} e l m f = by (compare path other)
   where
@@ -715,7 +671,8 @@ live-begin s k l h = live-enter s k (resume k) l h (live-resume k l h)
 mutual
   unfolding enter enterAll
 
-  silent-enter : (s : Stmt) (k : List Frame) {p : Process} {c : Site} {v : ℕ} {f : List Frame} → p ≢ atOutput c v f → enter s k p ≢ atOutput c v f
+  silent-enter : (s : Stmt) (k : List Frame) {p : Process} {c : Site} {v : ℕ} {f : List Frame} → p ≢ atOutput c v f
+      → enter s k p ≢ atOutput c v f
   silent-enter SKIP k n e = never (cc)
   silent-enter STOP k n e = never (cc)
   silent-enter (assign x y) k n e = never (cc)

@@ -1,27 +1,26 @@
 -- A process goes on to another: what words hold of the others stays.
-use Prim.Native.Nat.{ℕ, _+_, _^_, _≤_, _<_}
+use Prim.Native.Nat.{ℕ, _^_, _<_}
 use native.Mathlib.Omega.{arith}
 use mathlib.Core.Path.{_≡_, refl, sym, ap, _∙_, subst}
 use mathlib.Core.Logic.{_≢_, _⊎_, inl, inr, ⊎-elim}
-use mathlib.Core.List.{List, [], _∷_, _++_, append-nil, List·Memᴰ}
-use mathlib.Core.Option.{Option, none, some}
+use mathlib.Core.List.{List, [], _++_, append-nil, List·Memᴰ}
+use mathlib.Core.Option.{Option, some}
 use Rattle.model.specs.Word.{notProcess}
 use Rattle.model.specs.Syntax.{Site}
 use Rattle.model.specs.Machine.{linkWord}
-use Rattle.model.specs.Occam.{Frame, Process, before, atInput, atOutput, atStop, atAlt, finished, framesOf, look, put, State, Sender}
-use Rattle.model.specs.Occam.{process, outside}
+use Rattle.model.specs.Occam.{Frame, Process, atOutput, framesOf, look, put, State, Sender, process, outside}
 use Rattle.model.specs.Demand.{liveIn}
 use Rattle.model.proofs.Cases.{never}
 use Rattle.model.proofs.Ways.{Mem}
-use Rattle.model.proofs.Paths.{Leaf, l-output, leaf-found, look-put-same, look-put-other, look-after, into, aside, leaves-apart, same-path}
-use Rattle.model.proofs.Paths.{apart-differ, par-after, same-par}
+use Rattle.model.proofs.Paths.{Leaf, l-output, leaf-found, look-put-same, look-put-other, look-after, into, aside, leaves-apart}
+use Rattle.model.proofs.Paths.{same-path, par-after, same-par}
 use Rattle.model.proofs.Parts.{Part, Within}
 use Rattle.model.proofs.Marks.{Own}
-use Rattle.model.proofs.Trees.{some-same, Label, alone, parted, alone-part, alone-info, alone-parted, Info, Sits, Tree, labelAt, kept}
+use Rattle.model.proofs.Trees.{some-same, Label, alone, alone-part, alone-info, alone-parted, Info, Sits, Tree, labelAt, kept}
 use Rattle.model.proofs.Trees.{Kept, running}
 use Rattle.model.proofs.Zones.{zoneOf}
 use Rattle.model.proofs.Stays.{Calm, held-stays}
-use Rattle.model.proofs.Kernel.{Loaded, S, root, LeafAt, NodeAt, Owned, owned, Rest, Whose, whose, Lined}
+use Rattle.model.proofs.Kernel.{Loaded, S, root, LeafAt, NodeAt, Owned, owned, Rest, whose, Lined}
 use Rattle.model.proofs.Writes.{part-small, sits-at}
 
 some-process : {x y : Process} → _≡_ {A = Option Process} (some x) (some y) → x ≡ y
@@ -156,7 +155,9 @@ module _ (L : Loaded) {st : State} {t : Tree (S L) (root L) (st .process)} {path
             → NodeAt L (putting path r st) treeThen other (alone c k)
         node-of n = record { label = n .label }
 
-        here-process : {other : List ℕ} {p : Process} {c : Part} {k : Info} → LeafAt L (putting path r st) treeThen other p c k → path ≡ other
+        here-process : {other : List ℕ} {p : Process} {c : Part} {k : Info}
+            → LeafAt L (putting path r st) treeThen other p c k → path ≡ other
             → p ≡ r
         here-process n e =
-            some-process (sym (n .found) ∙ ap (λ z. look z (put path r (st .process))) (sym e) ∙ look-put-same path (st .process) r (at .found))
+            some-process
+            (sym (n .found) ∙ ap (λ z. look z (put path r (st .process))) (sym e) ∙ look-put-same path (st .process) r (at .found))

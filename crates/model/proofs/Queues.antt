@@ -6,14 +6,13 @@ use mathlib.Core.Logic.{_≢_, ⊎-elim}
 use mathlib.Core.Bool.{Bool, true, false}
 use mathlib.Core.List.{List, [], _∷_, _++_, List·Memᴰ, List·Memᴰ·append-cases, List·Memᴰ·eq-of-singleton, List·Memᴰ·not-nil}
 use mathlib.Core.List.{List·Memᴰ·head, List·Memᴰ·tail}
-use lib.ListN.{length, length-set, getD, set}
+use lib.ListN.{length, set}
 use lib.Seq.{getD-set-same, getD-set-other}
 use Rattle.model.specs.Machine.{World, done, withCpu, withMemory, release, join, running, queueing, resumeWord, linkWord}
 use Rattle.model.specs.declared.Cpu.{Cpu}
 use Rattle.model.proofs.Ways.{Mem}
-use Rattle.model.proofs.Effects.{cpuOf, sizeOf, stored, join-empty}
+use Rattle.model.proofs.Effects.{cpuOf, sizeOf, memOf, stored, join-empty}
 use Rattle.model.proofs.Acts.{taken, join-behind-in, join-free-in, release-none, release-last, release-more}
-use Rattle.model.proofs.Slice.{memOf}
 
 -- from the front to the back each process links to the next; the back's link word holds anything
 pub data Links (μ : Mem) : (front back : ℕ) → List ℕ → Type 0 where
@@ -58,10 +57,6 @@ each-snoc {ws} P w h p v m =
 -- different words have different link words
 pub link-injective : (v w : ℕ) → v < 2 ^ 32 → w < 2 ^ 32 → linkWord v ≡ linkWord w → v ≡ w
 link-injective v w h k e = omega arith
-
--- one more word that is none of the others is apart from them
-pub apart-cons : (w : ℕ) (ws : List ℕ) → w < 2 ^ 32 → ((v : ℕ) → List·Memᴰ v ws → (v < 2 ^ 32) × (w ≢ v)) → Apart ws → Apart (w ∷ ws)
-apart-cons w ws h d a = apart (λ v m e. d v m .1 (link-injective w v h (d v m .0) e)) a
 
 -- one more behind the others
 pub apart-snoc : {ws : List ℕ} (w : ℕ) → ((v : ℕ) → List·Memᴰ v ws → linkWord v ≢ linkWord w) → Apart ws → Apart (ws ++ w ∷ [])
@@ -141,16 +136,6 @@ released w ws s = taken w (memOf s (resumeWord w)) (firstOf w ws) (lastOf w ws) 
 pub last-in : (w : ℕ) (ws : List ℕ) → List·Memᴰ (lastOf w ws) (w ∷ ws)
 last-in w [] = List·Memᴰ·head refl
 last-in w (v ∷ vs) = List·Memᴰ·tail (last-in v vs)
-
--- linking keeps the memory's length, and each word but the last's link word
-pub linked-length : (w : ℕ) (ws l : List ℕ) → length (linked w ws l) ≡ length l
-linked-length w [] l = refl
-linked-length w (v ∷ vs) l = length-set l (linkWord (lastOf v vs)) w
-
-pub linked-other : (w : ℕ) (ws l : List ℕ) (a : ℕ) → ((v : ℕ) → List·Memᴰ v ws → a ≢ linkWord v)
-    → getD (linked w ws l) a 0 ≡ getD l a 0
-linked-other w [] l a d = refl
-linked-other w (v ∷ vs) l a d = getD-set-other l (linkWord (lastOf v vs)) a w 0 (d _ (last-in v vs))
 
 -- joining the queue of a machine that runs
 pub join-queue : {ws : List ℕ} (w : ℕ) (s : World) → cpuOf s .running ≡ true → LinksIn s ws → Queue s ws

@@ -1,42 +1,39 @@
 -- Instructions that bring no step: loads and arithmetic, jumps, and J at the end of a slice.
-use Prim.Native.Nat.{ℕ, zero, suc, _+_, _-_, _^_, _≤_, _<_}
+use Prim.Native.Nat.{ℕ, suc, _+_, _-_, _≤_, _<_}
 use native.Mathlib.Omega.{arith}
 use native.Mathlib.Decide.{decLt}
-use mathlib.Core.Path.{_≡_, refl, sym, ap, _∙_, subst}
-use mathlib.Core.Logic.{_≢_, _⊎_, inl, inr, ⊎-elim}
-use mathlib.Core.Bool.{Bool, true, false}
-use mathlib.Core.List.{List, [], _∷_, _++_, List·Memᴰ}
-use mathlib.Core.Option.{Option, none, some}
+use mathlib.Core.Path.{_≡_, refl, sym, _∙_, subst}
+use mathlib.Core.Logic.{inl}
+use mathlib.Core.Bool.{true}
+use mathlib.Core.List.{List, List·Memᴰ}
 use lib.ListN.{length, getD}
 use Rattle.model.specs.Word.{low, less}
 use Rattle.model.specs.Syntax.{Site}
 use Rattle.model.specs.Instruction.{Instruction, plain, distance}
 use Rattle.model.specs.Instruction as I
 use Rattle.model.specs.Code.{functionIn, operandIn}
-use Rattle.model.specs.Machine.{World, done, withCpu, goto, release, testPlace, resumeWord, _>>_, join}
-use Rattle.model.specs.Execute.{execute, push}
+use Rattle.model.specs.Machine.{World, withCpu, goto, resumeWord}
+use Rattle.model.specs.Execute.{push}
 use Rattle.model.specs.Occam.{Process, State}
 use Rattle.model.proofs.Ways.{Regs, regsOf, load, Quiet, pushing, Mem}
-use Rattle.model.proofs.Points.{Setting, whole, At}
-use Rattle.model.proofs.Arrive.{inside, up}
+use Rattle.model.proofs.Arrive.{inside}
 use Rattle.model.proofs.Parts.{Part}
 use Rattle.model.proofs.Conts.{Placed}
 use Rattle.model.proofs.Marks.{Settled, s-none}
-use Rattle.model.proofs.Arrivals.{Goes, Comes, comes}
+use Rattle.model.proofs.Arrivals.{Goes, comes}
 use Rattle.model.proofs.Onwards.{AltGoes}
 use Rattle.model.proofs.Trees.{Info, Tree, bytesLeft}
 use Rattle.model.proofs.Leaves.{upd, Unmarked, Held, h-queued}
-use Rattle.model.proofs.Stays.{unmarked-stays}
-use Rattle.model.proofs.Effects.{cpuOf, sizeOf, stored, exec-ldl, exec-cj-jumps, exec-j}
+use Rattle.model.proofs.Effects.{cpuOf, stored, exec-ldl, exec-cj-jumps, exec-j}
 use Rattle.model.proofs.Acts.{exec-j-over, testPlace-in}
-use Rattle.model.proofs.Kernel.{Loaded, S, root, size, LeafAt, Rest, Lined, Real}
+use Rattle.model.proofs.Kernel.{Loaded, S, root, size, LeafAt, Rest, Real}
 use Rattle.model.proofs.Writes.{upd-same, upd-other, node, part-small, sits-at, write-own, left-out}
 use Rattle.model.proofs.Grounds.{var-in, small-size}
 use Rattle.model.proofs.Traces.{t-none}
 use Rattle.model.proofs.Running.{Only, Nobody, off-small, Did, Executes, executes, Acting}
-use Rattle.model.proofs.Moving.{relaid, relabelled, relabel, lined-in}
+use Rattle.model.proofs.Moving.{relaid, relabelled, relabel}
 use Rattle.model.proofs.Reals.{size-is, mirrored, real-cpu, real-stored, link-own}
-use Rattle.model.proofs.Sched.{lets-go, wakes, Woken}
+use Rattle.model.proofs.Sched.{lets-go, wakes}
 use Rattle.model.proofs.Finish.{goes-on, alt-goes-on, then-lets-go, silent}
 use Rattle.model.proofs.Reach.{way-bound, point-in}
 
@@ -52,14 +49,16 @@ module _ (L : Loaded) {s : World} {st : State} {μ : Mem} {t : Tree (S L) (root 
       → Did L (Executes L x s) s st (bytesLeft (S L) t)
   pass-quiet g calm way settled clean =
       let r = load (g (regsOf (cpuOf s))) (cpuOf s) in
-      goes-on L A (withCpu r s) (executes (calm s (A .placed))) refl (real-cpu L r refl refl refl (A .real)) (A .run) (A .operand) (A .rest) (A .lined) (suc at) hi
+      goes-on L A (withCpu r s) (executes (calm s (A .placed))) refl (real-cpu L r refl refl refl (A .real)) (A .run) (A .operand)
+      (A .rest) (A .lined) (suc at) hi
       (A .placed) (A .inside) (omega arith) way settled clean
 
   pub pass-alt : {x : Instruction} (g : Regs → Regs) → Quiet (L .off (suc at)) (functionIn x) (operandIn (L .off) x) g
       → AltGoes (S L) b st (i .vars) (i .chans) q hi μ (suc at) (g (regsOf (cpuOf s))) → Did L (Executes L x s) s st (bytesLeft (S L) t)
   pass-alt g calm way =
       let r = load (g (regsOf (cpuOf s))) (cpuOf s) in
-      alt-goes-on L A (withCpu r s) (executes (calm s (A .placed))) refl (real-cpu L r refl refl refl (A .real)) (A .run) (A .operand) (A .rest) (A .lined)
+      alt-goes-on L A (withCpu r s) (executes (calm s (A .placed))) refl (real-cpu L r refl refl refl (A .real)) (A .run)
+      (A .operand) (A .rest) (A .lined)
       (suc at) hi (A .placed) (A .inside) (omega arith) way
 
   -- LDL
@@ -78,14 +77,16 @@ module _ (L : Loaded) {s : World} {st : State} {μ : Mem} {t : Tree (S L) (root 
         → Unmarked (S L) b i st μ → Did L (Executes L (plain I.ldl o) s) s st (bytesLeft (S L) t)
     pass-loads way settled clean =
         let r = push (st .store y) (cpuOf s) in
-        goes-on L A (withCpu r s) did-load refl (real-cpu L r refl refl refl (A .real)) (A .run) (A .operand) (A .rest) (A .lined) (suc at) hi
+        goes-on L A (withCpu r s) did-load refl (real-cpu L r refl refl refl (A .real)) (A .run) (A .operand)
+        (A .rest) (A .lined) (suc at) hi
         (A .placed) (A .inside) (omega arith) way settled clean
 
     pub pass-alt-loads : AltGoes (S L) b st (i .vars) (i .chans) q hi μ (suc at) (pushing (st .store y) (regsOf (cpuOf s)))
         → Did L (Executes L (plain I.ldl o) s) s st (bytesLeft (S L) t)
     pass-alt-loads way =
         let r = push (st .store y) (cpuOf s) in
-        alt-goes-on L A (withCpu r s) did-load refl (real-cpu L r refl refl refl (A .real)) (A .run) (A .operand) (A .rest) (A .lined) (suc at) hi
+        alt-goes-on L A (withCpu r s) did-load refl (real-cpu L r refl refl refl (A .real)) (A .run) (A .operand)
+        (A .rest) (A .lined) (suc at) hi
         (A .placed) (A .inside) (omega arith) way
 
   -- the byte that a distance from here reaches
@@ -102,21 +103,25 @@ module _ (L : Loaded) {s : World} {st : State} {μ : Mem} {t : Tree (S L) (root 
   unfolding functionIn operandIn
   pass-falls {k} h z f way settled clean =
       let r = goto (low (cpuOf s .place + less (L .off k) (L .off (suc at)))) (cpuOf s) in
-      goes-on L A (withCpu r s) (executes (exec-cj-jumps _ s z)) refl (real-cpu L r refl refl refl (A .real)) (A .run) (A .operand) (A .rest) (A .lined) k hi
+      goes-on L A (withCpu r s) (executes (exec-cj-jumps _ s z)) refl (real-cpu L r refl refl refl (A .real)) (A .run) (A .operand)
+      (A .rest) (A .lined) k hi
       (target k h) h (omega arith) way settled clean
 
   pub pass-alt-falls : {k : ℕ} → k ≤ length (S L .xs) → cpuOf s .a ≡ 0 → L .off (suc at) ≤ L .off k
-      → AltGoes (S L) b st (i .vars) (i .chans) q hi μ k (regsOf (cpuOf s)) → Did L (Executes L (distance I.cj k at) s) s st (bytesLeft (S L) t)
+      → AltGoes (S L) b st (i .vars) (i .chans) q hi μ k (regsOf (cpuOf s))
+      → Did L (Executes L (distance I.cj k at) s) s st (bytesLeft (S L) t)
   unfolding functionIn operandIn
   pass-alt-falls {k} h z f way =
       let r = goto (low (cpuOf s .place + less (L .off k) (L .off (suc at)))) (cpuOf s) in
-      alt-goes-on L A (withCpu r s) (executes (exec-cj-jumps _ s z)) refl (real-cpu L r refl refl refl (A .real)) (A .run) (A .operand) (A .rest)
+      alt-goes-on L A (withCpu r s) (executes (exec-cj-jumps _ s z)) refl (real-cpu L r refl refl refl (A .real))
+      (A .run) (A .operand) (A .rest)
       (A .lined) k hi (target k h) h (omega arith) way
 
   -- J
   module _ {k hi′ : ℕ} (h : k ≤ length (S L .xs)) (placed : Placed (S L) b (cpuOf s .workspace) (i .vars) (i .chans))
       (reach : hi′ + L .off (suc at) ≤ hi + L .off k)
-      (way : (ν : Mem) (r : Regs) → r .w ≡ cpuOf s .workspace → Goes (S L) b (st .store) (i .vars) (i .chans) q hi′ ν k r) (settled : Settled q)
+      (way : (ν : Mem) (r : Regs) → r .w ≡ cpuOf s .workspace → Goes (S L) b (st .store) (i .vars) (i .chans) q hi′ ν k r)
+      (settled : Settled q)
       (clean : Unmarked (S L) b i st μ) where
     abbrev w : ℕ
     w = cpuOf s .workspace
@@ -126,7 +131,8 @@ module _ (L : Loaded) {s : World} {st : State} {μ : Mem} {t : Tree (S L) (root 
     unfolding functionIn operandIn
     jumps-on c =
         let r = goto (low (cpuOf s .place + less (L .off k) (L .off (suc at)))) (cpuOf s) in
-        goes-on L A (withCpu r s) (executes (exec-j _ s c)) refl (real-cpu L r refl refl refl (A .real)) (A .run) (A .operand) (A .rest) (A .lined) k hi′
+        goes-on L A (withCpu r s) (executes (exec-j _ s c)) refl (real-cpu L r refl refl refl (A .real)) (A .run) (A .operand)
+        (A .rest) (A .lined) k hi′
         (target k h) h reach (way μ (regsOf (cpuOf s)) refl) settled clean
 
     high : b .top ≤ S L .top

@@ -1,21 +1,18 @@
 -- How far a path goes, and what kind of process it leads.
-use Prim.Native.Nat.{ℕ, suc, _+_, _≤_, _<_}
+use Prim.Native.Nat.{ℕ, suc, _≤_, _<_}
 use native.Mathlib.Omega.{arith}
 use mathlib.Core.Path.{_≡_, refl}
-use mathlib.Core.Logic.{_⊎_, inl, inr}
 use mathlib.Core.List.{List}
 use lib.ListN.{length}
 use Rattle.model.specs.Syntax.{Site, Stmt, Stmts, Guards}
 use Rattle.model.specs.Occam.{Store, Frame, Process, before, atAlt, finished, State}
 use Rattle.model.proofs.Ways.{Regs, Mem, Way, arrived, through, quiet, loads, jumps, falls}
-use Rattle.model.proofs.Points.{Setting, whole, At}
+use Rattle.model.proofs.Points.{Setting}
 use Rattle.model.proofs.Arrive.{inside, up}
 use Rattle.model.proofs.Parts.{Part}
-use Rattle.model.proofs.Marks.{Enables, e-input, e-skip, Disables, d-input, d-skip, AltPoint, pt-enable, pt-wait, pt-disable, pt-choose}
-use Rattle.model.proofs.Marks.{Point, pt-stop, pt-assign, pt-var, pt-chan, pt-taken, pt-none, pt-while, pt-in, pt-out, pt-par-place}
-use Rattle.model.proofs.Marks.{pt-par-count, pt-end, pt-alt, StartPoint}
-use Rattle.model.proofs.Arrivals.{Goes}
-use Rattle.model.proofs.Onwards.{AltGoes, Starts}
+use Rattle.model.proofs.Marks.{Enables, e-input, e-skip, Disables, d-input, d-skip, AltPoint, pt-enable, pt-wait, pt-disable}
+use Rattle.model.proofs.Marks.{pt-choose, Point, pt-stop, pt-assign, pt-var, pt-chan, pt-taken, pt-none, pt-while, pt-in, pt-out}
+use Rattle.model.proofs.Marks.{pt-par-place, pt-par-count, pt-end, pt-alt, StartPoint}
 
 -- a process that begins a statement, is at an ALT, or has finished
 pub data Moving : Process → Type 0 where
@@ -81,22 +78,6 @@ module _ (S : Setting) where
     point-in h μ i r (pt-par-count x v c m) = inside S x
     point-in h μ i r (pt-end e x v w) = inside S x
     point-in h μ i r (pt-alt c l) = inside S (c .begins)
-
-    pub point-moving : {σ : Store} {vars chans : List Site} {q : Process} (h : ℕ) (μ : Mem) (i : ℕ) (r : Regs)
-        → Point S a σ vars chans q h μ i r → Moving q
-    point-moving h μ i r (pt-stop x c) = begins
-    point-moving h μ i r (pt-assign x w f v small c n) = begins
-    point-moving h μ i r (pt-var op f l j e z m) = begins
-    point-moving h μ i r (pt-chan op f l j e z m) = begins
-    point-moving h μ i r (pt-taken d x v fa e g f c n) = begins
-    point-moving h μ i r (pt-none x l v fa e c n) = begins
-    point-moving h μ i r (pt-while x l fe v g f c n d m) = begins
-    point-moving h μ i r (pt-in x v c y f k n) = begins
-    point-moving h μ i r (pt-out x v small c f y k n) = begins
-    point-moving h μ i r (pt-par-place x y z c v l) = begins
-    point-moving h μ i r (pt-par-count x v c m) = begins
-    point-moving h μ i r (pt-end e x v w) = ends
-    point-moving h μ i r (pt-alt c l) = begins
 
     enables-in : {st : State} {vars chans : List Site} {gs : Guards} {i j : ℕ} {r : Regs} → Enables S a st vars chans gs i r j
         → i < length (S .xs)

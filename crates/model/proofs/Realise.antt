@@ -1,5 +1,5 @@
 -- Encoded instructions stand where `placeOf` says, and decode to themselves.
-use Prim.Native.Nat.{ℕ, zero, suc, _+_, _^_, _≤_, _<_}
+use Prim.Native.Nat.{ℕ, zero, suc, _^_, _≤_, _<_}
 use native.Mathlib.Omega.{arith}
 use native.Mathlib.Nat.{add-zero}
 use native.Mathlib.Decide.{decLt}
@@ -19,21 +19,6 @@ use Rattle.model.specs.Code.{prefixesOf, bytesIn, placeOf, functionIn, o
 use Rattle.model.proofs.Well.{WellProgram}
 use Rattle.model.proofs.Fits.{Fits, AllFit, fits-at, scheme-fits}
 use Rattle.model.proofs.RoundTrip.{decode-alone, enough-ahead, enough-back, fewest-fits, withPrefixes-length}
-
--- places go up by the bytes of each instruction, up to the end of the code
-pub placeOf-step : (xs : List Instruction) (i : ℕ) (x : Instruction) → getElem? xs i ≡ some x
-    → placeOf xs (suc i) ≡ placeOf xs i + suc (prefixesOf x)
-unfolding placeOf bytesIn
-placeOf-step [] i x e = cc
-placeOf-step (y ∷ ys) zero x e = let q : y ≡ x = cc in rw q (omega arith)
-placeOf-step (y ∷ ys) (suc i) x e = omega (arith, placeOf-step ys i x e)
-
-pub placeOf-mono : (xs : List Instruction) (i k : ℕ) → i ≤ k → placeOf xs i ≤ placeOf xs k
-unfolding placeOf bytesIn
-placeOf-mono [] i k h = simp take-nil (omega arith)
-placeOf-mono (y ∷ ys) zero k h = omega arith
-placeOf-mono (y ∷ ys) (suc i) zero h = omega arith
-placeOf-mono (y ∷ ys) (suc i) (suc k) h = omega (arith, placeOf-mono ys i k (omega arith))
 
 pub placeOf-below : (xs : List Instruction) (i : ℕ) → placeOf xs i ≤ bytesIn xs
 unfolding placeOf bytesIn

@@ -1,12 +1,12 @@
 -- The machine's words and registers change as the invariant's do.
-use Prim.Native.Nat.{ℕ, suc, _+_, _-_, _^_, _≤_, _<_}
+use Prim.Native.Nat.{ℕ, _≤_, _<_}
 use native.Mathlib.Omega.{arith}
 use native.Mathlib.Decide.{ℕ-discrete}
 use mathlib.Core.Path.{_≡_, refl, sym, ap, _∙_, subst}
-use mathlib.Core.Logic.{_≢_, _⊎_, inl, inr, ⊎-elim}
-use mathlib.Core.Bool.{Bool, true, false, cond}
-use mathlib.Core.List.{List, [], _∷_, _++_, List·Memᴰ}
-use mathlib.Core.Option.{Option, none, some}
+use mathlib.Core.Logic.{_≢_, ⊎-elim}
+use mathlib.Core.Bool.{false, cond}
+use mathlib.Core.List.{List, List·Memᴰ}
+use mathlib.Core.Option.{Option, none}
 use lib.ListN.{length, getD, set, length-set}
 use lib.Seq.{getD-set-same, getD-set-other}
 use lib.Dec.{eqb}
@@ -15,15 +15,13 @@ use Rattle.model.specs.Syntax.{Site}
 use Rattle.model.specs.Machine.{Talk, World, withCpu, withMemory, withOffers, linkWord, memorySize}
 use Rattle.model.specs.Occam.{Store, Process, State}
 use Rattle.model.specs.declared.Cpu.{Cpu}
-use Rattle.model.specs.declared.Setup.{Setup}
 use Rattle.model.proofs.Ways.{Mem}
 use Rattle.model.proofs.Parts.{Part}
 use Rattle.model.proofs.Trees.{Info, Tree}
 use Rattle.model.proofs.Leaves.{upd}
 use Rattle.model.proofs.Effects.{cpuOf, sizeOf, stored}
-use Rattle.model.proofs.Slice.{memOf}
-use Rattle.model.proofs.Queues.{Queue, LinksIn, queue-cpu, queue-stored, queue-same}
-use Rattle.model.proofs.Kernel.{Loaded, S, root, size, LeafAt, Rest, Whose, whose, Lined, Real, Offer, no-offer, held-offer}
+use Rattle.model.proofs.Queues.{Queue, queue-cpu, queue-stored, queue-same}
+use Rattle.model.proofs.Kernel.{Loaded, S, root, size, LeafAt, whose, Lined, Real, Offer, no-offer, held-offer}
 use Rattle.model.proofs.Writes.{upd-same, upd-other, node, apart-zones, part-small, sits-at}
 use Rattle.model.proofs.Grounds.{small-size}
 use Rattle.model.proofs.Paths.{same-path}

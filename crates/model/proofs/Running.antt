@@ -1,25 +1,25 @@
 -- The invariant: the machine is at a process that goes on, or no process can; all words hold what the processes leave in them.
-use Prim.Native.Nat.{ℕ, zero, suc, _+_, _-_, _^_, _≤_, _<_}
+use Prim.Native.Nat.{ℕ, zero, suc, _+_, _-_, _≤_, _<_}
 use native.Mathlib.Omega.{arith}
 use native.Mathlib.Decide.{decLt}
-use mathlib.Core.Path.{_≡_, refl, sym, ap, _∙_, subst}
-use mathlib.Core.Logic.{_≢_, _⊎_, inl, inr, ⊎-elim}
-use mathlib.Core.Bool.{Bool, true, false}
-use mathlib.Core.List.{List, [], _∷_, _++_, map, List·Memᴰ}
-use mathlib.Core.Option.{Option, none, some}
-use lib.ListN.{length, getD, getElem?}
-use Rattle.model.specs.Syntax.{Site, Stmt, Stmts, noStmt, stmt}
+use mathlib.Core.Path.{_≡_, refl}
+use mathlib.Core.Logic.{_⊎_}
+use mathlib.Core.Bool.{true, false}
+use mathlib.Core.List.{List, [], _∷_, _++_, map}
+use mathlib.Core.Option.{some}
+use lib.ListN.{length, getElem?}
+use Rattle.model.specs.Syntax.{Site, Stmt, Stmts, stmt}
 use Rattle.model.specs.Counts.{need}
 use Rattle.model.specs.Scheme.{size, howMany}
-use Rattle.model.specs.Instruction.{Function, Instruction}
+use Rattle.model.specs.Instruction.{Instruction}
 use Rattle.model.specs.Code.{functionIn, operandIn}
 use Rattle.model.specs.Machine.{World, done}
 use Rattle.model.specs.Execute.{execute}
-use Rattle.model.specs.Occam.{Process, begin, look, put, State, Communication}
+use Rattle.model.specs.Occam.{Process, begin, State, Communication}
 use Rattle.model.specs.Demand.{Segment, steps, talkOf}
 use Rattle.model.proofs.Bytes.{Standing}
-use Rattle.model.proofs.Ways.{Regs, regsOf, Mem}
-use Rattle.model.proofs.Points.{Setting, whole, At}
+use Rattle.model.proofs.Ways.{regsOf, Mem}
+use Rattle.model.proofs.Points.{At}
 use Rattle.model.proofs.Arrive.{inside, up, rises-le}
 use Rattle.model.proofs.Parts.{Part, joins, partOf}
 use Rattle.model.proofs.Marks.{Settled}
@@ -39,8 +39,8 @@ Only path other = path ≡ other
 abbrev pub Nobody : List ℕ → Type 0
 Nobody other = ⊥
 
--- the branches that a PAR has still to start: the branch s at distance d, its code at index b, and those behind it. `par` is the PAR's path,
--- `next` the number of the branch s, w the PAR's workspace, where the code of the first branch is at index `first`
+-- the branches that a PAR has still to start: the branch s at distance d, its code at index b, and those behind it. `par` is the PAR's
+-- path, `next` the number of the branch s, w the PAR's workspace, where the code of the first branch is at index `first`
 pub record Births : Type 0 where
   pub par : List ℕ
   pub next : ℕ
@@ -136,7 +136,8 @@ module _ (L : Loaded) where
     runs : {μ : Mem} {t : Tree (S L) (root L) (st .process)} {path : List ℕ} {q : Process} {b : Part} {i : Info} {ws : List ℕ}
         → Real L s st μ ws → cpuOf s .running ≡ true → LeafAt L st t path q b i → Rest L st μ t (Only path) ws
         → Lined L st t (Only path) ws → Now s st μ b i q → Inv s st (bytesLeft (S L) t)
-    starts : {μ : Mem} {t : Tree (S L) (root L) (st .process)} {path : List ℕ} {q : Process} {b : Part} {i : Info} {ws : List ℕ} (B : Births)
+    starts : {μ : Mem} {t : Tree (S L) (root L) (st .process)} {path : List ℕ} {q : Process} {b : Part} {i : Info}
+        {ws : List ℕ} (B : Births)
         → Real L s st μ ws → cpuOf s .running ≡ true → LeafAt L st t path q b i → Rest L st μ t (Starting path B) ws
         → Lined L st t (Starting path B) ws → NowStarts s st μ t path q b i B → Inv s st (bytesLeft (S L) t)
     idle : {μ : Mem} {t : Tree (S L) (root L) (st .process)} → Real L s st μ [] → cpuOf s .running ≡ false → cpuOf s .operand ≡ 0

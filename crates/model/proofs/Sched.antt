@@ -1,46 +1,40 @@
 -- Who has the processor: a process gets it and takes the steps without code that are next; it leaves it; another is woken.
-use Prim.Native.Nat.{ℕ, zero, suc, _+_, _-_, _^_, _≤_, _<_}
+use Prim.Native.Nat.{ℕ, _+_, _≤_, _<_}
 use native.Mathlib.Omega.{arith}
 use native.Mathlib.Decide.{ℕ-discrete}
 use mathlib.Core.Path.{_≡_, refl, sym, ap, _∙_, subst}
-use mathlib.Core.Logic.{_≢_, _⊎_, inl, inr, ⊎-elim}
-use mathlib.Core.Bool.{Bool, true, false}
-use mathlib.Core.List.{List, [], _∷_, _++_, List·Memᴰ, List·Memᴰ·head, List·Memᴰ·tail, List·Memᴰ·cases-cons, List·Memᴰ·append-cases}
-use mathlib.Core.List.{List·Memᴰ·eq-of-singleton, List·Memᴰ·not-nil}
-use mathlib.Core.Option.{Option, none, some}
+use mathlib.Core.Logic.{_≢_, inl, ⊎-elim}
+use mathlib.Core.Bool.{true, false}
+use mathlib.Core.List.{List, [], _∷_, _++_, List·Memᴰ·head, List·Memᴰ·tail, List·Memᴰ·append-cases, List·Memᴰ·eq-of-singleton}
 use lib.ListN.{length, getD, set, length-set}
 use lib.Seq.{getD-set-same, getD-set-other}
-use Rattle.model.specs.Syntax.{Site}
-use Rattle.model.specs.Machine.{World, done, release, join, withCpu, withMemory, resumeWord, linkWord}
+use Rattle.model.specs.Machine.{World, done, release, join, withCpu, resumeWord, linkWord}
 use Rattle.model.specs.Machine as M
 use Rattle.model.specs.Scheme.{sizeEnable}
-use Rattle.model.specs.Occam.{Frame, Process, atAlt, put, State}
+use Rattle.model.specs.Occam.{Process, put, State}
 use Rattle.model.specs.Demand.{Segment}
-use Rattle.model.proofs.Cases.{never}
-use Rattle.model.proofs.Ways.{Regs, regsOf, Mem}
-use Rattle.model.proofs.Points.{Setting, whole}
+use Rattle.model.proofs.Ways.{regsOf, Mem}
+use Rattle.model.proofs.Points.{whole}
 use Rattle.model.proofs.Arrive.{inside}
 use Rattle.model.proofs.Paths.{Leaf, same-path}
 use Rattle.model.proofs.Parts.{Part}
-use Rattle.model.proofs.Marks.{Own, Settled, AltCode}
 use Rattle.model.proofs.Arrivals.{Comes, comes}
 use Rattle.model.proofs.Onwards.{disable-first}
 use Rattle.model.proofs.Trees.{Info, Sits, Tree, bytesLeft, leaf-bytes}
 use Rattle.model.proofs.Leaves.{upd, member, Unmarked, Held, h-queued, h-woken}
 use Rattle.model.proofs.Stays.{Calm}
-use Rattle.model.proofs.Effects.{cpuOf, stored}
-use Rattle.model.proofs.Acts.{taken}
-use Rattle.model.proofs.Queues.{Queue, LinksIn, Apart, apart, released, joined, lastOf, release-queue, released-queue, release-queue-none, idle-queue}
-use Rattle.model.proofs.Queues.{join-queue, joined-queue, join-queue-free, free-queue, apart-snoc, link-injective, last-in}
-use Rattle.model.proofs.Kernel.{Loaded, S, root, size, LeafAt, NodeAt, Rest, Whose, whose, Lined, Real}
+use Rattle.model.proofs.Effects.{cpuOf}
+use Rattle.model.proofs.Queues.{LinksIn, Apart, apart, released, joined, lastOf, release-queue, released-queue, release-queue-none}
+use Rattle.model.proofs.Queues.{idle-queue, join-queue, joined-queue, apart-snoc, link-injective, last-in}
+use Rattle.model.proofs.Kernel.{Loaded, S, root, size, LeafAt, Rest, whose, Lined, Real}
 use Rattle.model.proofs.Writes.{upd-same, upd-other, node, apart-zones, part-small, sits-at, write-own, link}
-use Rattle.model.proofs.Puts.{putting, treeThen, here-then, other-then, lined-then, rest-then, moved}
+use Rattle.model.proofs.Puts.{putting, treeThen, here-then, lined-then, rest-then, moved}
 use Rattle.model.proofs.Grounds.{small-size, sound-at}
 use Rattle.model.proofs.Traces.{Trace, t-none, Moves, moves, skip-moves}
 use Rattle.model.proofs.Running.{Only, Nobody, fresh, Now, now-goes, now-alt, Inv, runs, idle}
-use Rattle.model.proofs.Moving.{other-w, same-leaf, rest-out, rest-in, lined-in, member-cons, member-snoc, member-head, member-last}
+use Rattle.model.proofs.Moving.{other-w, same-leaf, member-cons, member-snoc, member-head, member-last}
 use Rattle.model.proofs.Moving.{settled-silent, skips-silent, settled-leaf}
-use Rattle.model.proofs.Reals.{size-is, mirrored, real-state, real-cpu, real-queue, real-memory, links-in}
+use Rattle.model.proofs.Reals.{size-is, mirrored, real-state, real-queue, real-memory, links-in}
 
 module _ (L : Loaded) where
   -- a process has settled: the moves that it made, and the invariant. m bytes were left, of which n are now its own instead of k
@@ -69,7 +63,8 @@ module _ (L : Loaded) where
         (omega (arith, moved L leaf q m j sits .bytes, leaf-bytes (S L) t path (leaf .label), e))
 
     -- where its code leads it to its next significant instruction
-    pub settle : {at hi : ℕ} (n : ℕ) → Stands s i at → Comes (S L) b (st .store) (i .vars) (i .chans) hi p at (i .w) → Unmarked (S L) b i st μ
+    pub settle : {at hi : ℕ} (n : ℕ) → Stands s i at → Comes (S L) b (st .store) (i .vars) (i .chans) hi p at (i .w)
+        → Unmarked (S L) b i st μ
         → hi ≤ n + L .off at → n ≤ whole (S L) → Settles s st (bytesLeft (S L) t) (i .left) n
     settle {at} n stands (comes {q} {vars′} {chans′} sk settled sub way) clean soon few =
         settled-inv q j sits m stands′
@@ -128,7 +123,8 @@ module _ (L : Loaded) where
             chans = rest .chans;
             live = rest .live;
             leaf = λ {path = other} {q = r} {b = c} {i = j} k n.
-                subst (λ f. Held (S L) c j st μ f r) (member-cons (j .w) (i .w) ws (λ e. other-w L leaf k n (sym e))) (rest .leaf k (λ o. o));
+                subst (λ f. Held (S L) c j st μ f r)
+                (member-cons (j .w) (i .w) ws (λ e. other-w L leaf k n (sym e))) (rest .leaf k (λ o. o));
             par = rest .par;
           }
 
@@ -157,7 +153,8 @@ module _ (L : Loaded) where
 
       front-goes : {r : Process} → LeafAt L st t path r b i → Held (S L) b i st μ true r → LetGo s st (bytesLeft (S L) t)
       front-goes here (h-queued {at} c r h clean) =
-          elim (settle front-real here front-rest front-lines (i .left) (front-stands (r .place) h) c clean (r .soon) (sits-at L leaf .few)) [
+          let few = sits-at L leaf .few in
+          elim (settle front-real here front-rest front-lines (i .left) (front-stands (r .place) h) c clean (r .soon) few) [
             | settles {st′} {l} g ms inv e ↦
                 let same : l ≡ bytesLeft (S L) t = omega arith in let-go front g gone refl ms (subst (λ z. Inv L front st′ z) same inv)
           ]
@@ -201,7 +198,8 @@ module _ (L : Loaded) where
         → Calm (S L) b i skip st st μ (linkedTo w ws μ)
 
   module _ {s : World} {st : State} {μ : Mem} {t : Tree (S L) (root L) (st .process)} {Out Out′ : List ℕ → Type 0} {ws : List ℕ}
-      {path : List ℕ} {q : Process} {b : Part} {i : Info} (real : Real L s st μ ws) (rest : Rest L st μ t Out ws) (lines : Lined L st t Out ws)
+      {path : List ℕ} {q : Process} {b : Part} {i : Info} (real : Real L s st μ ws) (rest : Rest L st μ t Out ws)
+      (lines : Lined L st t Out ws)
       (leaf : LeafAt L st t path q b i) (out : Out path) (held : Held (S L) b i st μ true q)
       (in-again : (other : List ℕ) → path ≢ other → Out other → Out′ other) (fewer : (other : List ℕ) → Out′ other → Out other)
       (not-out : Out′ path → ⊥) where
@@ -253,7 +251,8 @@ module _ (L : Loaded) where
       linked-rest : Rest L st (upd μ (linkWord v) w) t Out′ (ws ++ w ∷ [])
       linked-rest =
           let p = sits-at L last .placed .scoped in
-          write-own L last wake-rest (linkWord v) w (link-low .0) (link-low .1) (λ x m f. absurd (omega (arith, p .vars-above x m, under, f)))
+          write-own L last wake-rest (linkWord v) w (link-low .0) (link-low .1)
+          (λ x m f. absurd (omega (arith, p .vars-above x m, under, f)))
           (λ x m f. absurd (omega (arith, p .chans-above x m, under, f))) (link (ap linkWord (sym e)))
 
       linked-calm : {path : List ℕ} {q : Process} {b : Part} {i : Info} {skip : ℕ} → LeafAt L st t path q b i → Out′ path
@@ -261,7 +260,8 @@ module _ (L : Loaded) where
       linked-calm {path = here} k o =
           let far = apart-zones L (λ z. stays (subst Out z (fewer here o))) (node L k) (node L last) in
           record {
-            own = λ a lo hi d. upd-other μ (linkWord v) w a (λ f. far .words a (lo, hi) (omega (arith, f, link-low .0), omega (arith, f, link-low .1)));
+            own = λ a lo hi d. upd-other μ (linkWord v) w a
+                (λ f. far .words a (lo, hi) (omega (arith, f, link-low .0), omega (arith, f, link-low .1)));
             reads = λ x m g. refl;
             chans = λ d m. inl (upd-other μ (linkWord v) w (S L .word d)
                 (λ f. far .chans-out d m (omega (arith, f, link-low .0), omega (arith, f, link-low .1))));

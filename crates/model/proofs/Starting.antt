@@ -1,43 +1,37 @@
 -- The start: a program whose code is in a machine, and the invariant that holds once the machine was started.
-use Prim.Native.Nat.{ℕ, zero, suc, _+_, _-_, _*_, _^_, _≤_, _<_}
+use Prim.Native.Nat.{ℕ, zero, suc, _+_, _≤_, _<_}
 use native.Mathlib.Omega.{arith}
 use native.Mathlib.Nat.{add-zero, zero-add}
 use mathlib.Core.Path.{_≡_, refl, sym, ap, _∙_, subst}
-use mathlib.Core.Logic.{_⊎_, inl, inr, ⊎-elim}
-use mathlib.Core.Bool.{true, false}
+use mathlib.Core.Logic.{inl}
+use mathlib.Core.Bool.{false}
 use mathlib.Core.List.{List, [], _∷_, _++_, append-assoc, List·Memᴰ, List·Memᴰ·not-nil}
 use mathlib.Core.Option.{none, some}
-use lib.ListN.{length, getD, getElem?, replicate, drop, length-append, length-replicate, length-drop, List·getD-append}
-use lib.Seq.{slice, length-slice}
+use lib.ListN.{length, getD, getElem?, replicate, drop, length-append, length-replicate, length-drop}
 use Rattle.model.specs.Word.{notProcess}
-use Rattle.model.specs.Syntax.{Site, inputOf, outputOf, Program}
-use Rattle.model.specs.Counts.{need}
-use Rattle.model.specs.Accept.{limit}
+use Rattle.model.specs.Syntax.{Site, inputOf, outputOf}
 use Rattle.model.specs.Instruction.{Instruction}
-use Rattle.model.specs.Prefix.{decode}
-use Rattle.model.specs.Layout.{base, wordOf}
+use Rattle.model.specs.Layout.{base}
 use Rattle.model.specs.Scheme.{scheme}
-use Rattle.model.specs.Code.{Realises}
 use Rattle.model.specs.Machine.{World, memorySize}
 use Rattle.model.specs.Run.{worldOf, fresh, cleared}
-use Rattle.model.specs.Occam.{Process, inPar, Branches, Frame, begin, resume, framesOf, look, State}
+use Rattle.model.specs.Occam.{Process, begin, framesOf, look, State}
 use Rattle.model.specs.Demand.{liveIn}
-use Rattle.model.specs.declared.Setup.{Setup}
 use Rattle.model.proofs.Cases.{never}
 use Rattle.model.proofs.Ways.{Mem}
 use Rattle.model.proofs.Expr.{Seg, nil, at}
-use Rattle.model.proofs.Points.{Setting, whole}
-use Rattle.model.proofs.Paths.{Leaf, leaf-begin, leaf-found, leaf-par, look-nil, live-begin, left}
-use Rattle.model.proofs.Parts.{need-two, Part, the-end}
-use Rattle.model.proofs.Conts.{Scoped, Placed, Cont, c-end, cont-placed}
+use Rattle.model.proofs.Points.{whole}
+use Rattle.model.proofs.Paths.{leaf-begin, look-nil, live-begin, left}
+use Rattle.model.proofs.Parts.{need-two, Part}
+use Rattle.model.proofs.Conts.{Scoped, Cont, c-end, cont-placed}
 use Rattle.model.proofs.FineParts.{outsideNames}
 use Rattle.model.proofs.Arrivals.{Comes, enters, arrives}
-use Rattle.model.proofs.Trees.{Label, alone, parted, alone-parted, Info, Sits, Tree, t-leaf, labelAt, bytesLeft, some-same}
+use Rattle.model.proofs.Trees.{Label, alone, alone-parted, Info, Sits, Tree, t-leaf, labelAt, bytesLeft, some-same}
 use Rattle.model.proofs.Zones.{zoneOf}
 use Rattle.model.proofs.Leaves.{Unmarked}
-use Rattle.model.proofs.Queues.{Queue, empty, apart-none}
-use Rattle.model.proofs.Kernel.{Loaded, S, root, setup, size, LeafAt, NodeAt, Rest, Lined, Real, Offer, no-offer}
-use Rattle.model.proofs.Grounds.{OutsideAt, an-input, an-output, outside-at, small-size, code-end, sound-at}
+use Rattle.model.proofs.Queues.{empty, apart-none}
+use Rattle.model.proofs.Kernel.{Loaded, S, root, setup, size, LeafAt, Rest, Real, no-offer}
+use Rattle.model.proofs.Grounds.{OutsideAt, an-input, an-output, outside-at, small-size, sound-at}
 use Rattle.model.proofs.Running.{Only}
 use Rattle.model.proofs.Sched.{Settles, settle}
 use Rattle.model.proofs.Marks.{Own}
@@ -191,4 +185,5 @@ module _ (L : Loaded) (memory : List ℕ) (room : size L ≤ length memory) wher
   settled =
       let same : whole (S L) ≤ whole (S L) = omega arith in
       settle L real leaf rest (record { each = λ w m. absurd (List·Memᴰ·not-nil m); once = apart-none }) (whole (S L))
-      (record { run = refl; operand = refl; place = sym (L .realises .begins); work = refl; inside = omega arith }) comes-first clean (omega arith) same
+      (record { run = refl; operand = refl; place = sym (L .realises .begins); work = refl; inside = omega arith })
+      comes-first clean (omega arith) same

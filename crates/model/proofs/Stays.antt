@@ -1,29 +1,25 @@
 -- What a process is led to, and what it waits for, stays under whatever happens to words and variables that are not its own.
-use Prim.Native.Nat.{ℕ, suc, _+_, _-_, _^_, _≤_, _<_}
+use Prim.Native.Nat.{ℕ, _+_, _^_, _≤_, _<_}
 use native.Mathlib.Omega.{arith}
 use mathlib.Core.Path.{_≡_, refl, sym, ap, ap₂, _∙_, subst}
 use mathlib.Core.Logic.{_≢_, _⊎_, inl, inr, ⊎-elim}
-use mathlib.Core.Bool.{Bool, true, false, not}
-use mathlib.Core.List.{List, [], _∷_, _++_, List·Memᴰ}
-use lib.ListN.{length}
+use mathlib.Core.Bool.{Bool, not}
+use mathlib.Core.List.{List, List·Memᴰ}
 use lib.Dec.{eqb}
-use Rattle.model.specs.Word.{less}
-use Rattle.model.specs.Syntax.{Site, Expr, constant, variable, NOT, binary, Whole, Stmt, Pairs, noPair, pair, Guards, noGuard}
-use Rattle.model.specs.Syntax.{inputGuard, skipGuard}
+use Rattle.model.specs.Syntax.{Site, Expr, constant, variable, NOT, binary, Whole, Pairs, noPair, pair, Guards}
 use Rattle.model.specs.Machine.{resumeWord, linkWord, stateWord}
-use Rattle.model.specs.Occam.{Store, eval, value, isTrue, Frame, Process, begin, firstTrue, deny, operate, State, Sender}
-use Rattle.model.proofs.Ways.{Regs, Mem, Way, way-stable}
+use Rattle.model.specs.Occam.{Store, eval, value, isTrue, Frame, Process, firstTrue, deny, operate, State, Sender}
+use Rattle.model.proofs.Ways.{Regs, Mem, way-stable}
 use Rattle.model.proofs.Values.{FineExpr}
-use Rattle.model.proofs.Points.{Setting, whole}
+use Rattle.model.proofs.Points.{Setting}
 use Rattle.model.proofs.Parts.{Part, FineWhole, FinePairs, FineGuards}
 use Rattle.model.proofs.Conts.{cont-low}
-use Rattle.model.proofs.Marks.{Own, Ready, r-input, r-skip, r-past-input, r-past-skip, Picks, p-input, p-skip, p-past-input, p-past-skip}
-use Rattle.model.proofs.Marks.{Guarded, g-here, g-past-input, g-past-skip, Noticed, n-none, n-input, n-skip, Rest, Clear, Marked}
-use Rattle.model.proofs.Marks.{Enabling, Enables, e-input, e-skip, Disabling, Disables, d-input, d-skip, AltPoint, pt-enable, pt-wait}
-use Rattle.model.proofs.Marks.{pt-disable, pt-choose, Point, pt-stop, pt-assign, pt-var, pt-chan, pt-taken, pt-none, pt-while, pt-in}
-use Rattle.model.proofs.Marks.{pt-out, pt-par-place, pt-par-count, pt-end, pt-alt}
+use Rattle.model.proofs.Marks.{Own, Ready, r-input, r-skip, r-past-input, r-past-skip, Picks, p-input, p-skip, p-past-input}
+use Rattle.model.proofs.Marks.{p-past-skip, Guarded, g-here, g-past-input, g-past-skip, Noticed, n-none, n-input, n-skip, Marked}
+use Rattle.model.proofs.Marks.{Disabling, Point, pt-stop, pt-assign, pt-var, pt-chan, pt-taken, pt-none, pt-while, pt-in, pt-out}
+use Rattle.model.proofs.Marks.{pt-par-place, pt-par-count, pt-end, pt-alt}
 use Rattle.model.proofs.Arrivals.{Goes, Comes, comes}
-use Rattle.model.proofs.Onwards.{AltGoes, rest-fine, guarded-fine}
+use Rattle.model.proofs.Onwards.{guarded-fine}
 use Rattle.model.proofs.Trees.{Info, Sits}
 use Rattle.model.proofs.Leaves.{Unmarked, MarkedOnly, Resumes, Waits, Held, h-queued, h-woken, h-input, h-output, h-stop, h-wait}
 
@@ -133,7 +129,8 @@ module _ (S : Setting) (b : Part) (i : Info) (high : b .top < 2 ^ 32) (sits : Si
   -- its own words, at and below its workspace
   pub resume-same : resumeWord (i .w) ≢ skip → ν (resumeWord (i .w)) ≡ μ (resumeWord (i .w))
   resume-same d =
-      calm .own (resumeWord (i .w)) (omega (arith, sits .placed .room, sits .placed .low)) (omega (arith, sits .placed .room, sits .placed .low)) d
+      calm .own (resumeWord (i .w)) (omega (arith, sits .placed .room, sits .placed .low))
+      (omega (arith, sits .placed .room, sits .placed .low)) d
 
   pub state-same : b .bottom + 3 ≤ i .w → stateWord (i .w) ≢ skip → ν (stateWord (i .w)) ≡ μ (stateWord (i .w))
   state-same h d = calm .own (stateWord (i .w)) (omega (arith, sits .placed .low)) (omega (arith, sits .placed .low)) d
@@ -183,7 +180,8 @@ module _ (S : Setting) (b : Part) (i : Info) (high : b .top < 2 ^ 32) (sits : Si
     ready-stays f (r-past-input g) = r-past-input (ready-stays (f .5) g)
     ready-stays f (r-past-skip g) = r-past-skip (ready-stays (f .2) g)
 
-    pub picks-stays : {k : List Frame} {gs : Guards} {b′ t : ℕ} {p : Process} → FineGuards (S .word) b (i .vars) (i .chans) vw gs → Picks st k gs b′ t p
+    pub picks-stays : {k : List Frame} {gs : Guards} {b′ t : ℕ} {p : Process}
+        → FineGuards (S .word) b (i .vars) (i .chans) vw gs → Picks st k gs b′ t p
         → Picks st′ k gs b′ t p
     picks-stays f (p-input {e} {c} h s) = p-input (sym (true-same b (i .vars) (calm .reads) e (f .0)) ∙ h) (calm .sends c (f .3) s)
     picks-stays f (p-skip {e} h) = p-skip (sym (true-same b (i .vars) (calm .reads) e (f .0)) ∙ h)
@@ -233,7 +231,8 @@ pub held-stays : (S : Setting) (b : Part) (i : Info) → b .top < 2 ^ 32 → Sit
     → Calm S b i (linkWord (i .w)) st st′ μ ν → {f : Bool} {q : Process} → Held S b i st μ f q → Held S b i st′ ν f q
 held-stays S b i high sits calm (h-queued c r h u) =
     h-queued (comes-stays S b (i .vars) (i .chans) (calm .reads) c)
-    (resumes-stays S b i high sits calm (λ e. absurd (omega (arith, sits .placed .room, sits .placed .low))) r) h (unmarked-stays S b i high sits calm u)
+    (resumes-stays S b i high sits calm (λ e. absurd (omega (arith, sits .placed .room, sits .placed .low))) r) h
+    (unmarked-stays S b i high sits calm u)
 held-stays S b i high sits calm (h-woken c r s d) =
     let low = sits .placed .low in
     let state =

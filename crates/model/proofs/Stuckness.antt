@@ -5,9 +5,8 @@ use mathlib.Core.Logic.{⊎-elim}
 use mathlib.Core.List.{List, [], _∷_}
 use mathlib.Core.Option.{some}
 use Rattle.model.specs.Syntax.{Site, Stmt, Guards, noGuard}
-use Rattle.model.specs.Occam.{Frame, Process, before, atInput, atOutput, atStop, atAlt, inPar, finished, look}
-use Rattle.model.specs.Occam.{State, Communication, Choice, by-input, by-skip, past-input, past-skip}
-use Rattle.model.specs.Occam.{Step, begins, ends, chooses, Stuck}
+use Rattle.model.specs.Occam.{Frame, Process, before, atInput, atOutput, atStop, atAlt, inPar, finished, look, State, Communication}
+use Rattle.model.specs.Occam.{Choice, by-input, by-skip, past-input, past-skip, Step, begins, ends, chooses, Stuck}
 use Rattle.model.proofs.Ways.{Regs, Mem}
 use Rattle.model.proofs.Points.{Setting}
 use Rattle.model.proofs.Paths.{look-prefix, prefixed, look-under, under, par-whole}

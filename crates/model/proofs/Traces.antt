@@ -1,11 +1,11 @@
 -- Moves of an Occam run one after another, with their communications and events.
-use Prim.Native.Nat.{ℕ, suc, _≤_}
+use Prim.Native.Nat.{ℕ, _≤_}
 use native.Mathlib.Omega.{arith}
-use mathlib.Core.Path.{_≡_, refl, sym, ap, _∙_, subst}
-use mathlib.Core.List.{List, [], _∷_, _++_, append-assoc}
+use mathlib.Core.Path.{_≡_, refl, ap, subst}
+use mathlib.Core.List.{List, [], _∷_, _++_}
 use mathlib.Core.Option.{some}
 use Rattle.model.specs.Syntax.{SKIP, PAR, IF, noPair, noStmt, Stmt}
-use Rattle.model.specs.Occam.{Store, Frame, Process, before, resume, look, put, go, firstTrue, State, Communication, Step, begins}
+use Rattle.model.specs.Occam.{Frame, Process, before, resume, look, put, go, firstTrue, State, Communication, Step, begins}
 use Rattle.model.specs.Occam.{Event, Outside}
 use Rattle.model.specs.Demand.{step, outside, Segment, Valid, reaches, steps, eventsOf, communications}
 use Rattle.model.proofs.Paths.{look-put-same, put-put-same, put-found}
@@ -58,24 +58,30 @@ one-more : {st : State} (q : Process) (path : List ℕ) (s : Stmt) (k : List Fra
     → Moves (putting path (resume k) st) (putting path q (putting path (resume k) st)) [] → Moves st (putting path q st) []
 one-more {st} q path s k e f (moves g m) =
     moves (step [] (putting path (resume k) st) ∷ g)
-    (t-step (subst (λ z. Step st [] (record { process = put path (z .process) (st .process); store = z .store; offers = st .offers })) f (begins path e))
+    (t-step
+    (subst (λ z. Step st [] (record { process = put path (z .process) (st .process); store = z .store; offers = st .offers })) f
+    (begins path e))
     (subst (λ z. Trace (putting path (resume k) st) g (record { process = z; store = st .store; offers = st .offers }) [] [])
     (put-put-same path q (resume k) (st .process)) m))
 
 -- a process takes the steps without code that are next
-pub skip-moves : {st : State} (path : List ℕ) {p q : Process} → look path (st .process) ≡ some p → Skips p q → Moves st (putting path q st) []
+pub skip-moves : {st : State} (path : List ℕ) {p q : Process} → look path (st .process) ≡ some p → Skips p q
+    → Moves st (putting path q st) []
 unfolding go firstTrue
 skip-moves {st} path e s-none = same-state (put-found path (st .process) e)
   where
     same-state : {p : Process} → p ≡ st .process → Moves st (record { process = p; store = st .store; offers = st .offers }) []
     same-state e = rw (e) (moves [] t-none)
-skip-moves {st} path e (s-skip {k} {q} s) = one-more q path SKIP k e refl (skip-moves path (look-put-same path (st .process) (resume k) e) s)
-skip-moves {st} path e (s-if {k} {q} s) = one-more q path (IF noPair) k e refl (skip-moves path (look-put-same path (st .process) (resume k) e) s)
+skip-moves {st} path e (s-skip {k} {q} s) =
+    one-more q path SKIP k e refl (skip-moves path (look-put-same path (st .process) (resume k) e) s)
+skip-moves {st} path e (s-if {k} {q} s) =
+    one-more q path (IF noPair) k e refl (skip-moves path (look-put-same path (st .process) (resume k) e) s)
 skip-moves {st} path e (s-par {p} {k} {q} s) =
     one-more q path (PAR p noStmt) k e refl (skip-moves path (look-put-same path (st .process) (resume k) e) s)
 
 -- moves without communications and events after others
-pub trace-then : {st st₁ st₂ : State} {g h : Segment} {cs : List Communication} {es : List Event} → Trace st g st₁ cs es → Trace st₁ h st₂ [] []
+pub trace-then : {st st₁ st₂ : State} {g h : Segment} {cs : List Communication} {es : List Event}
+    → Trace st g st₁ cs es → Trace st₁ h st₂ [] []
     → Trace st (g ++ h) st₂ cs es
 trace-then t-none m = m
 trace-then (t-step s k) m = t-step s (trace-then k m)

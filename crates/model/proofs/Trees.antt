@@ -1,5 +1,5 @@
 -- Which part of the program each process runs: the whole one part, the branches of a PAR parts inside it that are apart.
-use Prim.Native.Nat.{ℕ, zero, suc, _+_, _-_, _*_, _≤_, _<_}
+use Prim.Native.Nat.{ℕ, zero, suc, _+_, _-_, _*_, _≤_}
 use native.Mathlib.Omega.{arith}
 use native.Mathlib.Nat.{add-mul}
 use mathlib.Core.Path.{_≡_, refl, sym, ap, subst, _∙_}
@@ -11,7 +11,8 @@ use Rattle.model.specs.Counts.{need, sumNeed}
 use Rattle.model.specs.Occam.{Frame, Process, inPar, Branches, noBranch, branch, over, branches}
 use Rattle.model.specs.Occam.{branchAt, setBranch, endBranch, look, put}
 use Rattle.model.proofs.Cases.{never}
-use Rattle.model.proofs.Paths.{Apart as Diverge, here, later, Leaf, l-before, l-input, l-output, l-stop, l-alt, l-finished, leaf-par, leaf-begin, leaf-ends, look-in, put-in}
+use Rattle.model.proofs.Paths.{Apart as Diverge, here, later, Leaf, l-before, l-input, l-output, l-stop, l-alt, l-finished, leaf-par}
+use Rattle.model.proofs.Paths.{leaf-begin, leaf-ends, put-in}
 use Rattle.model.proofs.Paths.{under, look-under, stmtAt, Compared, equal, below, above, apart, compare}
 use Rattle.model.proofs.Most.{leaves, leavesIn}
 use Rattle.model.proofs.Points.{Setting, whole}
@@ -82,10 +83,6 @@ nil-append (j ∷ pre) i rest e = never (cc)
 -- some process is found at a path
 pub data Found (path : List ℕ) (p : Process) : Type 0 where
   found : (q : Process) → look path p ≡ some q → Found path p
-
--- and in a branch
-data FoundIn (i : ℕ) (path : List ℕ) (bs : Branches) : Type 0 where
-  found-in : (b q : Process) → branchAt i bs ≡ some b → look path b ≡ some q → FoundIn i path bs
 
 -- what is known of a process that is in no PAR of its own: the names in scope, a workspace below their words, and a bound on the bytes
 -- until its next step
@@ -233,7 +230,8 @@ module _ (S : Setting) where
   partAt t path = running (labelAt t path)
 
   -- in a branch
-  abbrev pub partIn : {vars chans : List Site} {w d : ℕ} {ss : Stmts} {bs : Branches} → Forest vars chans w d ss bs → ℕ → List ℕ → Option Part
+  abbrev pub partIn : {vars chans : List Site} {w d : ℕ} {ss : Stmts} {bs : Branches} → Forest vars chans w d ss bs
+      → ℕ → List ℕ → Option Part
   partIn f i path = running (labelIn f i path)
 
   -- the whole runs its part
@@ -261,7 +259,8 @@ module _ (S : Setting) where
     forest-inside (f-over f) a g (suc i) path e = forest-inside f a (g .3) i path e
 
   -- a part that is beside the branches is apart from all in them
-  forest-beside : {vars chans : List Site} {w d : ℕ} {ss : Stmts} {bs : Branches} (f : Forest vars chans w d ss bs) (b : Part) → Beside (S .word) b vars chans w d ss
+  forest-beside : {vars chans : List Site} {w d : ℕ} {ss : Stmts} {bs : Branches} (f : Forest vars chans w d ss bs) (b : Part)
+      → Beside (S .word) b vars chans w d ss
       → (i : ℕ) (path : List ℕ) {c : Part} → partIn f i path ≡ some c → Apart b c
   unfolding labelAt labelIn
   forest-beside f-none b g i path e = never (cc)
@@ -300,7 +299,8 @@ module _ (S : Setting) where
         forest-apart f a (c .fine) i j ps qs n e h
     parts-apart (t-par c f) (later {i} v) e h = parts-later f i v e h
 
-    parts-later : {vars chans : List Site} {w d : ℕ} {ss : Stmts} {bs : Branches} (f : Forest vars chans w d ss bs) (i : ℕ) {path other : List ℕ} → Diverge path other
+    parts-later : {vars chans : List Site} {w d : ℕ} {ss : Stmts} {bs : Branches} (f : Forest vars chans w d ss bs) (i : ℕ)
+        {path other : List ℕ} → Diverge path other
         → {b c : Part} → partIn f i path ≡ some b → partIn f i other ≡ some c → Apart b c
     parts-later f-none i v e h = never (cc)
     parts-later (f-live t f) zero v e h = parts-apart t v e h
@@ -318,7 +318,8 @@ module _ (S : Setting) where
     unfolding labelAt labelIn branchAt look
 
     pub owner-of : {a : Part} {p : Process} (t : Tree a p) (path : List ℕ) {q : Process} → look path p ≡ some q → Owner a (labelAt t) path q
-    owner-of {a} (t-leaf l n m) [] e = subst (Owner a (labelAt (t-leaf l n m)) []) (cc) (owner a (t-leaf l n m) (inside-refl a) refl (λ rest. refl))
+    owner-of {a} (t-leaf l n m) [] e = subst (Owner a (labelAt (t-leaf l n m)) []) (cc)
+        (owner a (t-leaf l n m) (inside-refl a) refl (λ rest. refl))
     owner-of (t-leaf l n m) (i ∷ path) e = never (cc (leaf-ends i path l, e))
     owner-of {a} (t-par c f) [] e = subst (Owner a (labelAt (t-par c f)) []) (cc) (owner a (t-par c f) (inside-refl a) refl (λ rest. refl))
     owner-of (t-par {a} {k} {bs} c f) (i ∷ path) e =
@@ -338,26 +339,6 @@ module _ (S : Setting) where
     owner-in (f-over f) a g (suc i) path e h =
         elim (owner-in f a (g .3) i path e h) [ owner x u v y z ↦ owner x u v y z ]
 
-  -- a part is run only where a process is
-  mutual
-    unfolding labelAt labelIn branchAt look
-
-    pub part-found : {a : Part} {p : Process} (t : Tree a p) (path : List ℕ) {b : Part} → partAt t path ≡ some b → Found path p
-    part-found (t-leaf {q} l n m) [] e = found q refl
-    part-found (t-leaf l n m) (i ∷ path) e = never (cc)
-    part-found (t-par {k} {bs} c f) [] e = found (inPar bs k) refl
-    part-found (t-par {k} {bs} c f) (i ∷ path) e = elim (part-found-in f i path e) [
-      | found-in b q g h ↦ found q (look-in i path (inPar bs k) g ∙ h)
-    ]
-
-    part-found-in : {vars chans : List Site} {w d : ℕ} {ss : Stmts} {bs : Branches} (f : Forest vars chans w d ss bs) (i : ℕ) (path : List ℕ) {b : Part}
-        → partIn f i path ≡ some b → FoundIn i path bs
-    part-found-in f-none i path e = never (cc)
-    part-found-in (f-live {p} t f) zero path e = elim (part-found t path e) [ found q h ↦ found-in p q refl h ]
-    part-found-in (f-live t f) (suc i) path e = elim (part-found-in f i path e) [ found-in b q g h ↦ found-in b q g h ]
-    part-found-in (f-over f) zero path e = never (cc)
-    part-found-in (f-over f) (suc i) path e = elim (part-found-in f i path e) [ found-in b q g h ↦ found-in b q g h ]
-
   -- a tree whose process is q, made from t by a tree u at a path: what is under the path is as in u, what is beside or above it as in t
   pub record Rebuilt {a : Part} {p : Process} (t : Tree a p) (path : List ℕ) {b : Part} {r : Process} (u : Tree b r) (q : Process)
       : Type 0 where
@@ -368,7 +349,8 @@ module _ (S : Setting) where
     pub bytes : bytesLeft tree + bytesAt t path ≡ bytesLeft t + bytesLeft u
 
   -- a forest made from f by a tree u at a path in the branch i
-  record Regrown {vars chans : List Site} {w d : ℕ} {ss : Stmts} {bs : Branches} (f : Forest vars chans w d ss bs) (i : ℕ) (path : List ℕ) {b : Part} {r : Process}
+  record Regrown {vars chans : List Site} {w d : ℕ} {ss : Stmts} {bs : Branches} (f : Forest vars chans w d ss bs) (i : ℕ)
+      (path : List ℕ) {b : Part} {r : Process}
       (u : Tree b r) : Type 0 where
     pub process : Process
     pub found : branchAt i bs ≡ some process
@@ -439,7 +421,8 @@ module _ (S : Setting) where
     rebuild (t-par c f) [] u e = rebuilt-nil (t-par c f) u (some-same e)
     rebuild (t-par c f) (i ∷ path) u e = rebuilt-par c f i path u (regrow f i path u e)
 
-    regrow : {vars chans : List Site} {w d : ℕ} {ss : Stmts} {bs : Branches} (f : Forest vars chans w d ss bs) (i : ℕ) (path : List ℕ) {b : Part} {r : Process} (u : Tree b r)
+    regrow : {vars chans : List Site} {w d : ℕ} {ss : Stmts} {bs : Branches} (f : Forest vars chans w d ss bs) (i : ℕ) (path : List ℕ)
+        {b : Part} {r : Process} (u : Tree b r)
         → partIn f i path ≡ some b → Regrown f i path u
     regrow f-none i path u e = never (cc)
     regrow (f-live {p} t f) zero path u e =
@@ -480,11 +463,6 @@ module _ (S : Setting) where
           bytes = g .bytes;
         }
 
-  -- what was put runs its part
-  pub rebuilt-here : {a : Part} {p : Process} {t : Tree a p} {path : List ℕ} {b : Part} {r : Process} {u : Tree b r} {q : Process}
-      (g : Rebuilt t path u q) → partAt (g .tree) path ≡ some b
-  rebuilt-here {path} {u} g = ap (partAt (g .tree)) (sym (append-nil path)) ∙ ap running (g .below []) ∙ part-nil u
-
   -- what is known of a branch that was just started
   abbrev pub newInfo : (vars chans : List Site) (w : ℕ) → Info
   newInfo vars chans w = record { vars = vars; chans = chans; w = w; left = whole S }
@@ -523,7 +501,8 @@ module _ (S : Setting) where
   begun-label w d noStmt h l i e = never (cc)
   begun-label w d (stmt s ss) h l zero e = let z : d + 0 ≡ d = omega arith in rw (z, some-same e) refl
   begun-label w d (stmt s ss) h l (suc i) e =
-      let z : d + (need s + distanceOf i ss) ≡ d + need s + distanceOf i ss = omega arith in rw z (begun-label w (d + need s) ss h (need-next s ss d l) i e)
+      let z : d + (need s + distanceOf i ss) ≡ d + need s + distanceOf i ss = omega arith in
+      rw z (begun-label w (d + need s) ss h (need-next s ss d l) i e)
 
   -- the names in scope of a branch that was just started
   begun-scope : {vars chans : List Site} (w d : ℕ) (ss : Stmts) (h : Scoped S w vars chans) (l : d + sumNeed ss ≤ w) (i : ℕ) (path : List ℕ)
@@ -544,7 +523,8 @@ module _ (S : Setting) where
   begun-alone w d (stmt s ss) h l (suc i) path e = begun-alone w (d + need s) ss h (need-next s ss d l) i path e
 
   -- the branches fit below the PAR's workspace
-  pub par-fits : {a : Part} {s : Stmt} {ss : Stmts} {vars chans : List Site} {k : List Frame} {hi i w : ℕ} → ParCode S a s ss vars chans k hi i w
+  pub par-fits : {a : Part} {s : Stmt} {ss : Stmts} {vars chans : List Site} {k : List Frame} {hi i w : ℕ}
+      → ParCode S a s ss vars chans k hi i w
       → 0 + sumNeed (stmt s ss) ≤ w
   par-fits c = omega (arith, c .room)
 
@@ -563,7 +543,9 @@ module _ (S : Setting) where
   started-label {s} {ss} {vars} {chans} {w} c i {r} e =
       let h : Scoped S w vars chans = scoped-up S w 2 (c .placed .scoped) in
       let l : 0 + sumNeed (stmt s ss) ≤ w = par-fits c in
-      subst (λ z. labelIn (begun w 0 (stmt s ss) h l) i [] ≡ some (alone (partOf vars chans (w - z) (joins z) r) (newInfo vars chans (w - z))))
+      subst
+      (λ z. labelIn (begun w 0 (stmt s ss) h l) i [] ≡ some
+      (alone (partOf vars chans (w - z) (joins z) r) (newInfo vars chans (w - z))))
       (omega arith) (begun-label w 0 (stmt s ss) h l i e)
 
   -- what is in scope in them
@@ -580,7 +562,8 @@ module _ (S : Setting) where
   started-alone {s} {ss} {w} c i path e = begun-alone w 0 (stmt s ss) (scoped-up S w 2 (c .placed .scoped)) (par-fits c) i path e
 
   -- whatever a PAR's branches have come to, each runs that part
-  forest-part : {vars chans : List Site} {w d : ℕ} {ss : Stmts} {bs : Branches} (f : Forest vars chans w d ss bs) (i : ℕ) {b : Part} → partIn f i [] ≡ some b
+  forest-part : {vars chans : List Site} {w d : ℕ} {ss : Stmts} {bs : Branches} (f : Forest vars chans w d ss bs) (i : ℕ)
+      {b : Part} → partIn f i [] ≡ some b
       → BranchPart vars chans w d ss i b
   unfolding labelAt labelIn stmtAt distanceOf
   forest-part f-none i e = never (cc)
@@ -598,7 +581,8 @@ module _ (S : Setting) where
   par-part c f i e = forest-part f i e
 
   -- the branches after one's end
-  unfoldable cut : {vars chans : List Site} {w d : ℕ} {ss : Stmts} {bs : Branches} → Forest vars chans w d ss bs → (i : ℕ) → Forest vars chans w d ss (endBranch i bs)
+  unfoldable cut : {vars chans : List Site} {w d : ℕ} {ss : Stmts} {bs : Branches} → Forest vars chans w d ss bs → (i : ℕ)
+      → Forest vars chans w d ss (endBranch i bs)
   unfolding endBranch
   cut f-none i = f-none
   cut (f-live t f) zero = f-over f
@@ -607,7 +591,8 @@ module _ (S : Setting) where
   cut (f-over f) (suc i) = f-over (cut f i)
 
   -- nothing runs in it
-  cut-gone : {vars chans : List Site} {w d : ℕ} {ss : Stmts} {bs : Branches} (f : Forest vars chans w d ss bs) (i : ℕ) (path : List ℕ) → labelIn (cut f i) i path ≡ none
+  cut-gone : {vars chans : List Site} {w d : ℕ} {ss : Stmts} {bs : Branches} (f : Forest vars chans w d ss bs) (i : ℕ) (path : List ℕ)
+      → labelIn (cut f i) i path ≡ none
   unfolding labelAt labelIn cut endBranch
   cut-gone f-none i path = refl
   cut-gone (f-live t f) zero path = refl
@@ -616,7 +601,8 @@ module _ (S : Setting) where
   cut-gone (f-over f) (suc i) path = cut-gone f i path
 
   -- the others run what they did
-  cut-others : {vars chans : List Site} {w d : ℕ} {ss : Stmts} {bs : Branches} (f : Forest vars chans w d ss bs) (i : ℕ) → SameBut i (labelIn f) (labelIn (cut f i))
+  cut-others : {vars chans : List Site} {w d : ℕ} {ss : Stmts} {bs : Branches} (f : Forest vars chans w d ss bs) (i : ℕ)
+      → SameBut i (labelIn f) (labelIn (cut f i))
   unfolding labelAt labelIn cut endBranch
   cut-others f-none i j path n = refl
   cut-others (f-live t f) zero zero path n = absurd (n refl)
@@ -669,7 +655,8 @@ module _ (S : Setting) where
   mutual
     unfolding labelAt labelIn
 
-    pub label-sits : {a : Part} {p : Process} (t : Tree a p) (path : List ℕ) {b : Part} {i : Info} → labelAt t path ≡ some (alone b i) → Sits b i
+    pub label-sits : {a : Part} {p : Process} (t : Tree a p) (path : List ℕ) {b : Part} {i : Info}
+        → labelAt t path ≡ some (alone b i) → Sits b i
     label-sits {a} (t-leaf l j h) [] {b} {i} e =
         let z = some-same e in subst (λ c. Sits c i) (alone-part z) (subst (λ k. Sits a k) (alone-info z) h)
     label-sits (t-leaf l j h) (n ∷ path) e = never (cc)
@@ -720,7 +707,8 @@ module _ (S : Setting) where
         → bytesIn f ≤ leavesIn bs * whole S
     forest-few f-none = omega arith
     forest-few (f-live {p} {bs} t f) =
-        let e : (leaves p + leavesIn bs) * whole S ≡ leaves p * whole S + leavesIn bs * whole S = add-mul (leaves p) (leavesIn bs) (whole S) in
+        let e : (leaves p + leavesIn bs) * whole S ≡ leaves p * whole S + leavesIn bs * whole S =
+        add-mul (leaves p) (leavesIn bs) (whole S) in
         omega (arith, bytes-few t, forest-few f)
     forest-few (f-over f) = forest-few f
 

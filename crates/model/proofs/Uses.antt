@@ -122,7 +122,8 @@ mutual
   declares-all : (ss : Stmts) {lo hi : ℕ} → PlacedAll lo hi ss → From [] lo hi (declaresAll ss)
   declares-all noStmt h = from-none
   declares-all (stmt s ss) h =
-      from-next (declares s) (declaresAll ss) (placed-le s (h .1)) (placed-le-all ss (h .2)) (declares-from s (h .1)) (declares-all ss (h .2))
+      from-next (declares s) (declaresAll ss) (placed-le s (h .1)) (placed-le-all ss (h .2))
+      (declares-from s (h .1)) (declares-all ss (h .2))
 
   declares-pairs : (ps : Pairs) {lo hi : ℕ} → PlacedPairs lo hi ps → From [] lo hi (declaresPairs ps)
   declares-pairs noPair h = from-none

@@ -143,7 +143,8 @@ module _ (xs : List Instruction) (off : ℕ → ℕ) (word : Site → ℕ) where
         → Way Point End σ Readable Clear hi μ t r → Way Point End σ Readable Clear hi μ i r
 
   -- a path stays under a change of other variables and of words that its significant instruction does not look at
-  pub way-stable : {P Q : ℕ → Mem → ℕ → Regs → Type 0} {E : Type 0} {σ σ′ : Store} {R : Site → Type 0} {C : ℕ → Type 0} {hi : ℕ} {μ μ′ : Mem}
+  pub way-stable : {P Q : ℕ → Mem → ℕ → Regs → Type 0} {E : Type 0} {σ σ′ : Store} {R : Site → Type 0}
+      {C : ℕ → Type 0} {hi : ℕ} {μ μ′ : Mem}
       {i : ℕ} {r : Regs} → ((x : Site) → R x → σ x ≡ σ′ x) → ((h : ℕ) (ν : Mem) (i : ℕ) (r : Regs) → P h ν i r → Q h ν i r)
       → ((h i : ℕ) (r : Regs) → P h μ i r → Q h μ′ i r) → Way P E σ R C hi μ i r → Way Q E σ′ R C hi μ′ i r
   way-stable h k l (arrived p b) = arrived (l _ _ _ p) b

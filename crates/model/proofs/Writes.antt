@@ -1,32 +1,30 @@
 -- Single words and variables change, and all else that words hold stays.
-use Prim.Native.Nat.{ℕ, suc, _+_, _-_, _^_, _≤_, _<_}
+use Prim.Native.Nat.{ℕ, _+_, _^_, _≤_, _<_}
 use native.Mathlib.Omega.{arith}
 use native.Mathlib.Decide.{ℕ-discrete}
 use mathlib.Core.Path.{_≡_, refl, sym, ap, _∙_, subst}
 use mathlib.Core.Logic.{_≢_, _⊎_, inl, inr, ⊎-elim}
-use mathlib.Core.Bool.{Bool, true, false, cond}
-use mathlib.Core.List.{List, [], _∷_, _++_, List·Memᴰ}
-use mathlib.Core.Option.{Option, none, some}
-use lib.Dec.{eqb}
+use mathlib.Core.List.{List, List·Memᴰ}
+use mathlib.Core.Option.{Option}
 use borrow.Author.Tests.{eq-eqb, ne-eqb}
 use Rattle.model.specs.Word.{notProcess}
-use Rattle.model.specs.Syntax.{Site, inputOf}
+use Rattle.model.specs.Syntax.{Site}
 use Rattle.model.specs.Usage.{same}
 use Rattle.model.specs.Machine.{linkWord}
-use Rattle.model.specs.Occam.{Store, store, Frame, Process, inPar, Branches, look, State, Sender, process, outside}
+use Rattle.model.specs.Occam.{Store, store, Process, State, Sender, process, outside}
 use Rattle.model.proofs.Cases.{never, by-bool}
 use Rattle.model.proofs.Sites.{same-refl, same-eq}
 use Rattle.model.proofs.Ways.{Mem}
-use Rattle.model.proofs.Points.{Setting}
-use Rattle.model.proofs.Paths.{Leaf, left, leaves-apart, same-path}
+use Rattle.model.proofs.Paths.{left, leaves-apart, same-path}
 use Rattle.model.proofs.Parts as Parts
 use Rattle.model.proofs.Parts.{Part}
 use Rattle.model.proofs.Marks.{Own}
-use Rattle.model.proofs.Trees.{some-same, Label, alone, parted, alone-info, alone-parted, Info, Sits, Tree, labelAt, parts-apart, label-sits}
-use Rattle.model.proofs.Zones.{Zone, zoneOf, Within, Distant, zones-distant, zone-under, Differ, names-differ}
-use Rattle.model.proofs.Leaves.{upd, member, Held}
+use Rattle.model.proofs.Trees.{some-same, Label, alone, parted, alone-info, alone-parted, Info, Sits, Tree, labelAt, parts-apart}
+use Rattle.model.proofs.Trees.{label-sits}
+use Rattle.model.proofs.Zones.{zoneOf, Distant, zones-distant, zone-under, Differ, names-differ}
+use Rattle.model.proofs.Leaves.{upd}
 use Rattle.model.proofs.Stays.{Calm, held-stays}
-use Rattle.model.proofs.Kernel.{Loaded, S, root, LeafAt, NodeAt, Owned, owned, Rest, Whose, whose, Lined}
+use Rattle.model.proofs.Kernel.{Loaded, S, root, LeafAt, NodeAt, Owned, owned, Rest, whose, Lined}
 
 pub upd-same : (μ : Mem) (v z : ℕ) → upd μ v z v ≡ z
 upd-same μ v z = rw (eq-eqb v v refl)
@@ -40,7 +38,8 @@ changed σ o st = record { process = st .process; store = σ; offers = o }
 
 module _ (L : Loaded) where
   -- a process is a node
-  pub node : {st : State} {t : Tree (S L) (root L) (st .process)} {path : List ℕ} {q : Process} {b : Part} {i : Info} → LeafAt L st t path q b i
+  pub node : {st : State} {t : Tree (S L) (root L) (st .process)} {path : List ℕ} {q : Process} {b : Part} {i : Info}
+      → LeafAt L st t path q b i
       → NodeAt L st t path (alone b i)
   node h = record { label = h .label }
 
@@ -53,12 +52,14 @@ module _ (L : Loaded) where
   pub apart-parts : {st : State} {t : Tree (S L) (root L) (st .process)} {path other : List ℕ} {q r : Process} {b c : Part} {i j : Info}
       → LeafAt L st t path q b i → LeafAt L st t other r c j → path ≢ other → Parts.Apart b c
   apart-parts {st} {t} {path} {other} h k d =
-      parts-apart (S L) t (leaves-apart path other (st .process) (h .found) (h .leaf) (k .found) (k .leaf) d) (rw (h .label)) (rw (k .label))
+      parts-apart (S L) t (leaves-apart path other (st .process) (h .found) (h .leaf) (k .found) (k .leaf) d)
+      (rw (h .label)) (rw (k .label))
 
   -- no word is a name of two parts that are apart
   pub own-one : {b c : Part} {n : ℕ} → Parts.Apart b c → Own b n → Own c n → ⊥
   own-one {b} {c} a h k =
-      ⊎-elim (λ (l : b .top ≤ c .bottom). absurd (omega (arith, h .1, k .0))) (λ (l : c .top ≤ b .bottom). absurd (omega (arith, h .0, k .1)))
+      ⊎-elim (λ (l : b .top ≤ c .bottom). absurd (omega (arith, h .1, k .0)))
+      (λ (l : c .top ≤ b .bottom). absurd (omega (arith, h .0, k .1)))
       (a .words)
 
   -- parts are below the program's workspace
@@ -132,7 +133,8 @@ module _ (L : Loaded) where
     left-out : Out path → Free Out path i v
     link : v ≡ linkWord (i .w) → Free Out path i v
 
-  module _ {st : State} {μ : Mem} {t : Tree (S L) (root L) (st .process)} {Out : List ℕ → Type 0} {ws : List ℕ} {path : List ℕ} {q : Process}
+  module _ {st : State} {μ : Mem} {t : Tree (S L) (root L) (st .process)} {Out : List ℕ → Type 0} {ws : List ℕ}
+      {path : List ℕ} {q : Process}
       {b : Part} {i : Info} (at : LeafAt L st t path q b i) (h : Rest L st μ t Out ws) where
     -- a word of its own that is no name's
     pub write-own : (v z : ℕ) → b .bottom ≤ v → v < b .top → ((x : Site) → List·Memᴰ x (i .vars) → S L .word x ≢ v)
@@ -145,12 +147,16 @@ module _ (L : Loaded) where
         -- another's words
         vars-off : (other : List ℕ) (l : Label) → NodeAt L st t other l → (x : Site) → List·Memᴰ x (zoneOf l .vars) → S L .word x ≢ v
         vars-off other l n x m e =
-            ⊎-elim (λ (p : path ≡ other). no-var x (subst (λ z. List·Memᴰ x (zoneOf z .vars)) (some-same (sym (n .label) ∙ ap (labelAt (S L) t) (sym p) ∙ at .label)) m) e)
+            ⊎-elim
+            (λ (p : path ≡ other). no-var x
+            (subst (λ z. List·Memᴰ x (zoneOf z .vars)) (some-same (sym (n .label) ∙ ap (labelAt (S L) t) (sym p) ∙ at .label)) m) e)
             (λ d. apart-zones d (node at) n .vars-in x m (omega (arith, e), omega (arith, e))) (same-path path other)
 
         chans-off : (other : List ℕ) (l : Label) → NodeAt L st t other l → (x : Site) → List·Memᴰ x (zoneOf l .chans) → S L .word x ≢ v
         chans-off other l n x m e =
-            ⊎-elim (λ (p : path ≡ other). no-chan x (subst (λ z. List·Memᴰ x (zoneOf z .chans)) (some-same (sym (n .label) ∙ ap (labelAt (S L) t) (sym p) ∙ at .label)) m) e)
+            ⊎-elim
+            (λ (p : path ≡ other). no-chan x
+            (subst (λ z. List·Memᴰ x (zoneOf z .chans)) (some-same (sym (n .label) ∙ ap (labelAt (S L) t) (sym p) ∙ at .label)) m) e)
             (λ d. apart-zones d (node at) n .chans-in x m (omega (arith, e), omega (arith, e))) (same-path path other)
 
         own-off : (other : List ℕ) (r : Process) (c : Part) (j : Info) → LeafAt L st t other r c j → (Out other → ⊥)
@@ -302,11 +308,14 @@ module _ (L : Loaded) where
             → (ν (S L .word c) ≡ μ (S L .word c)) ⊎ ((ν (S L .word c) ≡ notProcess) ⊎ Owned L st t c (ν (S L .word c)))
         chans other l n c m = by (ℕ-discrete (S L .word c) v)
           where
-            by : Dec (S L .word c ≡ v) → (ν (S L .word c) ≡ μ (S L .word c)) ⊎ ((ν (S L .word c) ≡ notProcess) ⊎ Owned L st t c (ν (S L .word c)))
+            by : Dec (S L .word c ≡ v) → (ν (S L .word c) ≡ μ (S L .word c))
+                ⊎ ((ν (S L .word c) ≡ notProcess) ⊎ Owned L st t c (ν (S L .word c)))
             by (yes e) =
                 let same-one : c ≡ y = sym (differ n .chans y c mine m (sym e)) in
                 let now : ν (S L .word c) ≡ z = ap ν e ∙ upd-same μ v z in
-                inr (⊎-elim (λ f. inl (now ∙ f)) (λ f. inr (subst (λ d. Owned L st t d (ν (S L .word c))) (sym same-one) (subst (Owned L st t y) (sym now) f))) owner)
+                inr
+                (⊎-elim (λ f. inl (now ∙ f))
+                (λ f. inr (subst (λ d. Owned L st t d (ν (S L .word c))) (sym same-one) (subst (Owned L st t y) (sym now) f))) owner)
             by (no e) = inl (upd-other μ v z (S L .word c) e)
 
         par : (other : List ℕ) (a : Part) (vs cs : List Site) (w onward : ℕ) → NodeAt L st t other (parted a vs cs w onward)
@@ -318,7 +327,8 @@ module _ (L : Loaded) where
             )
 
   -- other offers
-  pub change-offers : {st : State} {μ : Mem} {t : Tree (S L) (root L) (st .process)} {Out : List ℕ → Type 0} {ws : List ℕ} (o : ℕ → Option ℕ)
+  pub change-offers : {st : State} {μ : Mem} {t : Tree (S L) (root L) (st .process)} {Out : List ℕ → Type 0}
+      {ws : List ℕ} (o : ℕ → Option ℕ)
       → Rest L st μ t Out ws
       → ((other : List ℕ) (r : Process) (c : Part) (j : Info) → LeafAt L st t other r c j → (Out other → ⊥)
       → ((d : Site) → List·Memᴰ d (c .inputs) → Sender st d → Sender (changed (st .store) o st) d)

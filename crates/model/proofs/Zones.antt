@@ -5,18 +5,17 @@ use native.Mathlib.Omega.{arith}
 use native.Mathlib.Decide.{ℕ-discrete}
 use mathlib.Core.Path.{_≡_, refl, sym, ap, subst, _∙_}
 use mathlib.Core.Logic.{_≢_, _⊎_, inl, inr, ⊎-elim}
-use mathlib.Core.List.{List, [], _∷_, _++_, List·Memᴰ}
-use mathlib.Core.Option.{Option, none, some}
-use Rattle.model.specs.Syntax.{Site, Stmt, Stmts, noStmt, stmt}
+use mathlib.Core.List.{List, [], _∷_, List·Memᴰ}
+use mathlib.Core.Option.{some}
+use Rattle.model.specs.Syntax.{Site, Stmts}
 use Rattle.model.specs.Counts.{need}
 use Rattle.model.specs.Occam.{Process, Branches}
 use Rattle.model.proofs.Cases.{never}
 use Rattle.model.proofs.Points.{Setting}
 use Rattle.model.proofs.Paths.{same-path}
-use Rattle.model.proofs.Parts.{Part, joins, partOf, Apart, Inside, FineBranches, Beside}
+use Rattle.model.proofs.Parts.{Part, Apart, Inside, FineBranches, Beside}
 use Rattle.model.proofs.Conts.{Scoped, scoped-up, Placed}
-use Rattle.model.proofs.Marks.{ParCode}
-use Rattle.model.proofs.Trees.{some-same, Label, alone, parted, Info, Sits, Tree, t-leaf, t-par, Forest, f-none, f-live, f-over, labelAt}
+use Rattle.model.proofs.Trees.{some-same, Label, alone, parted, Tree, t-leaf, t-par, Forest, f-none, f-live, f-over, labelAt}
 use Rattle.model.proofs.Trees.{labelIn}
 
 -- the words from lo up to hi, and the names in scope
@@ -77,7 +76,8 @@ module _ (S : Setting) where
     two v a b c d = ⊎-elim (λ (k : hi ≤ lo′). absurd (omega arith)) (λ (k : hi′ ≤ lo). absurd (omega arith)) off
 
     -- a name whose word is in neither
-    out : (l : List Site) → ((x : Site) → List·Memᴰ x l → w ≤ S .word x) → (x : Site) → List·Memᴰ x l ⊎ ((lo ≤ S .word x) × (S .word x < hi))
+    out : (l : List Site) → ((x : Site) → List·Memᴰ x l → w ≤ S .word x) → (x : Site)
+        → List·Memᴰ x l ⊎ ((lo ≤ S .word x) × (S .word x < hi))
         → (v : ℕ) → S .word x ≡ v → lo′ ≤ v → v < hi′ → ⊥
     out l above x k v e a b =
         ⊎-elim (λ m. absurd (omega (arith, above x m))) (λ m. two v (omega (arith, m .0)) (omega (arith, m .1)) a b) k
@@ -130,7 +130,8 @@ module _ (S : Setting) where
         cross = λ x c a b e.
             differ h low low′ off vars chans (h .vars-above) (h .chans-above) (h .apart) x c (f .vars-from x a) (g .chans-from c b) e;
         crossed = λ c x a b e.
-            differ h low low′ off chans vars (h .chans-above) (h .vars-above) (λ c x m n e. h .apart x c n m (sym e)) c x (f .chans-from c a)
+            differ h low low′ off chans vars (h .chans-above) (h .vars-above)
+            (λ c x m n e. h .apart x c n m (sym e)) c x (f .chans-from c a)
             (g .vars-from x b) e;
       }
 
@@ -139,7 +140,8 @@ module _ (S : Setting) where
   Under a z = Fits (a .vars) (a .chans) (a .bottom) (a .top) z
 
   -- names that are placed above a word of a part
-  placed-under : {a : Part} {w : ℕ} {vars chans : List Site} (lo hi : ℕ) → Placed S a w vars chans → a .bottom ≤ w → a .bottom ≤ lo → hi ≤ a .top
+  placed-under : {a : Part} {w : ℕ} {vars chans : List Site} (lo hi : ℕ) → Placed S a w vars chans → a .bottom ≤ w
+      → a .bottom ≤ lo → hi ≤ a .top
       → Under a (record { lo = lo; hi = hi; vars = vars; chans = chans })
   placed-under lo hi h low above below =
       record {
@@ -157,7 +159,8 @@ module _ (S : Setting) where
         above = omega (arith, u .above, i .above);
         below = omega (arith, u .below, i .below);
         vars-from = λ x m.
-            ⊎-elim (λ k. vars-up x (subst (λ l. List·Memᴰ x l) ev k)) (λ k. inr (omega (arith, k .0, i .above), omega (arith, k .1, i .below)))
+            ⊎-elim (λ k. vars-up x (subst (λ l. List·Memᴰ x l) ev k))
+            (λ k. inr (omega (arith, k .0, i .above), omega (arith, k .1, i .below)))
             (u .vars-from x m);
         chans-from = λ x m.
             ⊎-elim (λ k. chans-up x (subst (λ l. List·Memᴰ x l) ec k))
@@ -176,7 +179,8 @@ module _ (S : Setting) where
 
     pub zone-under : {a : Part} {p : Process} (t : Tree S a p) (path : List ℕ) {l : Label} → labelAt S t path ≡ some l → Under a (zoneOf l)
     zone-under {a} (t-leaf q i h) [] e =
-        subst (λ l. Under a (zoneOf l)) (some-same e) (placed-under (a .bottom) (a .top) (h .placed) (omega (arith, h .placed .room)) (omega arith) (omega arith))
+        subst (λ l. Under a (zoneOf l)) (some-same e)
+        (placed-under (a .bottom) (a .top) (h .placed) (omega (arith, h .placed .room)) (omega arith) (omega arith))
     zone-under (t-leaf q i h) (j ∷ path) e = never (cc)
     zone-under (t-par {a} {w} c f) [] e =
         subst (λ l. Under a (zoneOf l)) (some-same e)
@@ -184,7 +188,8 @@ module _ (S : Setting) where
     zone-under (t-par {a} c f) (j ∷ path) e = forest-under f a (c .placed) (omega (arith, c .room)) (c .fine) j path e
 
     forest-under : {vars chans : List Site} {w d : ℕ} {ss : Stmts} {bs : Branches} (f : Forest S vars chans w d ss bs) (a : Part)
-        → Placed S a (w + 2) vars chans → a .bottom ≤ w + 2 → FineBranches (S .word) a vars chans w d ss → (i : ℕ) (path : List ℕ) {l : Label}
+        → Placed S a (w + 2) vars chans → a .bottom ≤ w + 2 → FineBranches (S .word) a vars chans w d ss
+        → (i : ℕ) (path : List ℕ) {l : Label}
         → labelIn S f i path ≡ some l → Under a (zoneOf l)
     forest-under f-none a h k g i path e = never (cc)
     forest-under (f-live t f) a h k g zero path e = under-up h k refl refl (g .0) (zone-under t path e)
@@ -214,7 +219,8 @@ module _ (S : Setting) where
 
   -- a PAR's own zone and one of a process in it
   par-distant : (vars chans : List Site) (w : ℕ) {d : ℕ} {ss : Stmts} {bs : Branches}
-      (f : Forest S vars chans w d ss bs) → Scoped S (w + 2) vars chans → (j : ℕ) (other : List ℕ) {m : Label} → labelIn S f j other ≡ some m
+      (f : Forest S vars chans w d ss bs) → Scoped S (w + 2) vars chans → (j : ℕ) (other : List ℕ) {m : Label}
+      → labelIn S f j other ≡ some m
       → Distant (record { lo = w; hi = w + 2; vars = vars; chans = chans }) (zoneOf m)
   unfolding labelAt labelIn
   par-distant vars chans w f-none h j other e = never (cc)
