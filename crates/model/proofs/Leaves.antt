@@ -16,15 +16,12 @@ use Rattle.model.proofs.Parts.{Part, Target}
 use Rattle.model.proofs.Conts.{Cont}
 use Rattle.model.proofs.Marks.{Own, Ready, Guarded, AltCode, Marked, Disabling}
 use Rattle.model.proofs.Arrivals.{Comes}
+use Rattle.model.proofs.Names.{nameOf}
 use Rattle.model.proofs.Trees.{Info}
 
 -- a memory in which one word is another
 abbrev pub upd : Mem → (v z : ℕ) → Mem
 upd μ v z = λ a. cond (eqb a v) z (μ a)
-
--- the name by which the queue and channels know the process at a workspace, and the workspace of a name
-abbrev pub nameOf : ℕ → ℕ
-nameOf w = w
 
 -- whether a workspace is among some
 unfoldable pub member : ℕ → List ℕ → Bool

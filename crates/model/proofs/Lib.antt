@@ -21,6 +21,7 @@ pub mod Exprs
 pub mod Points
 pub mod Arrive
 pub mod Conts
+pub mod Names
 pub mod Marks
 pub mod Trees
 pub mod Zones

@@ -18,6 +18,7 @@ use Rattle.model.specs.Execute.{enabling, ready, noneSelected}
 use Rattle.model.specs.Machine.{stateWord}
 use Rattle.model.specs.Occam.{Store, value, isTrue, Frame, inWhile, Process, before, atInput, atOutput, atStop, atAlt, inPar}
 use Rattle.model.specs.Occam.{finished, resume, begin, firstTrue, State, Sender}
+use Rattle.model.proofs.Names.{nameOf, spaceOf}
 use Rattle.model.proofs.Ways.{Regs, Mem}
 use Rattle.model.proofs.Expr.{Seg}
 use Rattle.model.proofs.Points.{Setting, whole, At}
@@ -97,9 +98,9 @@ Settled (atAlt gs k) = ⊥
 Settled (inPar bs k) = ⊥
 Settled finished = Unit {0}
 
--- a word that is a workspace of a part
+-- the name of a process of a part
 abbrev pub Own : Part → ℕ → Type 0
-Own a v = (a .bottom < v) × (v ≤ a .top)
+Own a n = (a .bottom < spaceOf n) × (spaceOf n ≤ a .top)
 
 module _ (S : Setting) (a : Part) where
   -- an ALT's code: from index i, at the workspace w, up to `over`
@@ -205,7 +206,7 @@ module _ (S : Setting) (a : Part) where
 
     -- a channel word that holds a workspace of this part holds w, and a guard with a true condition inputs from it
     abbrev pub Marked : (gs : Guards) (μ : Mem) (w : ℕ) → Type 0
-    Marked gs μ w = (c : Site) → List·Memᴰ c chans → Own a (μ (S .word c)) → (μ (S .word c) ≡ w) × Guarded σ c gs
+    Marked gs μ w = (c : Site) → List·Memᴰ c chans → Own a (μ (S .word c)) → (μ (S .word c) ≡ nameOf w) × Guarded σ c gs
 
     -- the guards of an ALT before hs are enabled, and the state says whether one is ready
     pub record Enabling (gs hs : Guards) (μ : Mem) (w : ℕ) : Type 0 where
