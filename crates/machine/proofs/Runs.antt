@@ -1,13 +1,13 @@
 -- Laws of runs.
-use Prim.Native.Nat.{ℕ, zero, suc, _-_, _<_}
+use Prim.Native.Nat.{ℕ, suc, _-_, _<_}
 use native.Mathlib.Omega.{arith}
 use mathlib.Core.Path.{_≡_, refl, ap, _∙_}
 use mathlib.Core.Bool.{Bool, true, false, not, _&&_}
 use mathlib.Core.List.{List, []}
 use lib.Dec.{eqb}
 use borrow.Author.Tests.{eq-eqb, ne-eqb}
-use Rattle.model.specs.Machine.{World, Talk, Result, done, faults}
-use Rattle.model.specs.Run.{byte, ended, waits, keep, runFrom}
+use Rattle.model.specs.Machine.{Talk, Result, done, faults}
+use Rattle.model.specs.Run.{byte}
 use Rattle.model.specs.declared.Cpu.{Cpu}
 use Rattle.model.specs.declared.Setup.{Setup}
 use Rattle.model.specs.declared.Machine.{Machine}
@@ -16,7 +16,8 @@ use Rattle.model.specs.declared.Outcome.the-variants.{Ended, Waiting, Spent, Fa
 use Rattle.processor.specs.Seen.{Rest, world}
 use Rattle.processor.specs.Quiet.{quiet, offering, Takes}
 use Rattle.processor.specs.declared.memory.Step.the-variants.{Done, Fault}
-use Rattle.processor.proofs.Laws.{ends, pick-true, pick-false}
+use Rattle.model.proofs.RunSteps.{run-waits, run-ends, run-spent, run-on, run-faults}
+use Rattle.processor.proofs.Laws.{ends}
 use Rattle.machine.specs.Runs.{saying, Reaches, Finishes}
 
 -- what a result says of the machine and the memory, beside communications
@@ -50,40 +51,6 @@ of-not true true e = cc
 of-not true false e = refl
 of-not false true e = refl
 of-not false false e = cc
-
-module _ (code : List ℕ) (n : ℕ) (s : World) where
-  -- no process has the processor
-  run-waits : (k : ℕ) → s .machine .cpu .running ≡ false → runFrom k code n s ≡ record { outcome = Waiting n; world = s }
-  unfolding runFrom
-  run-waits zero e =
-      pick-false (ended (s .machine)) _ _ (ap (λ b. b && eqb (s .machine .cpu .place) (s .machine .setup .code)) e)
-      ∙ pick-true (waits (s .machine)) _ _ (ap not e)
-  run-waits (suc k) e =
-      pick-false (ended (s .machine)) _ _ (ap (λ b. b && eqb (s .machine .cpu .place) (s .machine .setup .code)) e)
-      ∙ pick-true (waits (s .machine)) _ _ (ap not e)
-
-  -- the process stands at the code's end
-  run-ends : (k : ℕ) → ended (s .machine) ≡ true → runFrom k code n s ≡ record { outcome = Ended n; world = s }
-  unfolding runFrom
-  run-ends zero e = pick-true (ended (s .machine)) _ _ e
-  run-ends (suc k) e = pick-true (ended (s .machine)) _ _ e
-
-  module _ (e : ended (s .machine) ≡ false) (f : waits (s .machine) ≡ false) where
-    -- the budget is spent
-    run-spent : runFrom zero code n s ≡ record { outcome = Spent n; world = s }
-    unfolding runFrom
-    run-spent = pick-false (ended (s .machine)) _ _ e ∙ pick-false (waits (s .machine)) _ _ f
-
-    -- a byte is done
-    run-on : (k : ℕ) (t : World) → byte code s ≡ done tt t → runFrom (suc k) code n s ≡ runFrom k code (suc n) t
-    unfolding runFrom
-    run-on k t g = pick-false (ended (s .machine)) _ _ e ∙ pick-false (waits (s .machine)) _ _ f ∙ rw g
-
-    -- a byte would fault
-    run-faults :
-        (k : ℕ) (j : FaultKind) → byte code s ≡ faults j → runFrom (suc k) code n s ≡ record { outcome = RunFault n j; world = keep j s }
-    unfolding runFrom
-    run-faults k j g = pick-false (ended (s .machine)) _ _ e ∙ pick-false (waits (s .machine)) _ _ f ∙ rw g
 
 -- before any byte
 pub reaches-start :

@@ -21,6 +21,7 @@ use Rattle.model.proofs.Running.{Inv, Did, came}
 use Rattle.model.proofs.Finish.{inv-setup}
 use Rattle.model.proofs.OneByte.{code-is, Byte, byte-goes}
 use Rattle.model.proofs.Agreement.{inv-agrees}
+use Rattle.model.proofs.RunSteps.{run-waits, run-ends, run-spent, run-on}
 use Rattle.model.proofs.Runs.{run-behind}
 use Rattle.model.proofs.Chains.{Chain, chain-nil, chain-byte}
 use Rattle.model.proofs.Lending.{byte-lent, inv-lent, inv-few, inv-room}
@@ -36,24 +37,21 @@ or-right false c e = e
 module _ (code : List ℕ) where
   -- a machine that has ended or waits runs no byte
   run-stays : (b n : ℕ) (s : World) → (ended (s .machine) || waits (s .machine)) ≡ true → runFrom b code n s .world ≡ s
-  unfolding runFrom
-  run-stays zero n s z = by-bool (ended (s .machine)) (λ e. rw e) (λ e. by-bool (waits (s .machine)) (λ w. rw (e, w)) (λ w. rw (e, w)))
-  run-stays (suc b) n s z =
-      by-bool (ended (s .machine)) (λ e. rw e) (λ e. by-bool (waits (s .machine)) (λ w. rw (e, w)) (λ w. never (cc (rw (e, w) at z))))
+  run-stays b n s z =
+      by-bool (ended (s .machine)) (λ e. ap (λ (f : Finish). f .world) (run-ends code n s b e))
+      (λ e. by-bool (s .machine .cpu .running) (λ r. never (cc (rw (e, r) at z))) (λ r. ap (λ (f : Finish). f .world) (run-waits code n s b r)))
 
   bytes-stay : (b : ℕ) (rest : List ℕ) (s : World) → (ended (s .machine) || waits (s .machine)) ≡ true → bytes b code rest s ≡ []
   unfolding bytes
   bytes-stay zero rest s z = refl
   bytes-stay (suc b) rest s z = rw z
 
-  run-spent : (n : ℕ) (s : World) → runFrom zero code n s .world ≡ s
-  unfolding runFrom
-  run-spent n s = by-bool (ended (s .machine)) (λ e. rw e) (λ e. by-bool (waits (s .machine)) (λ w. rw (e, w)) (λ w. rw (e, w)))
-
-  run-goes : (b n : ℕ) (s t : World) → ended (s .machine) ≡ false → waits (s .machine) ≡ false → byte code s ≡ done tt t
-      → runFrom (suc b) code n s ≡ runFrom b code (suc n) t
-  unfolding runFrom
-  run-goes b n s t e w d = rw (e, w, d)
+  -- nor does one without a budget
+  run-none : (n : ℕ) (s : World) → runFrom zero code n s .world ≡ s
+  run-none n s =
+      by-bool (ended (s .machine) || waits (s .machine)) (run-stays zero n s)
+      (λ z. ap (λ (f : Finish). f .world)
+      (run-spent code n s (or-left (ended (s .machine)) (waits (s .machine)) z) (or-right (ended (s .machine)) (waits (s .machine)) z)))
 
   bytes-go : (b : ℕ) (rest : List ℕ) (s t : World) → ended (s .machine) ≡ false → waits (s .machine) ≡ false → byte code s ≡ done tt t
       → bytes (suc b) code rest s ≡ executed t rest ∷ bytes b code rest (worldOf (t .machine) (t .memory))
@@ -108,13 +106,13 @@ module _ (L : Loaded) where
         let stays = run-stays lent b n₀ s e in
         ran s c (ap (λ (w : World). w .machine) stays) (ap (λ (w : World). w .memory) stays) inv few
 
-    run-on : (b n₀ : ℕ) (s : World) {st : State} {n : ℕ} → s .talk ≡ [] → ended (s .machine) ≡ false
+    run-byte : (b n₀ : ℕ) (s : World) {st : State} {n : ℕ} → s .talk ≡ [] → ended (s .machine) ≡ false
         → waits (s .machine) ≡ false → Inv L s st n
         → most (st .process) ≤ limit
         → ((t : World) (st′ : State) (k : ℕ) → t .talk ≡ [] → Inv L t st′ k → most (st′ .process) ≤ limit
         → Ran b (suc n₀) lent t st′ k rest)
         → Did L (Byte L s) s st n → Ran (suc b) n₀ lent s st n rest
-    run-on b n₀ s {st} {n} z e w inv few rec (came t {st′} {m} {cs} g d ms talk inv′ fewer) =
+    run-byte b n₀ s {st} {n} z e w inv few rec (came t {st′} {m} {cs} g d ms talk inv′ fewer) =
         let d′ : byte lent s ≡ done tt t = byte-lent (L .code) more s (code-is L s (inv-setup L inv)) ∙ d in
         let said : t .talk ≡ map (talkOf (L .prog)) cs = talk ∙ rw z in
         let few′ : most (st′ .process) ≤ limit = omega (arith, trace-most ms) in
@@ -125,7 +123,7 @@ module _ (L : Loaded) where
           | ran {gs} {st′ = st₂} {k} u c em er inv″ few″ ↦
               let all : Chain (L .prog) bound (bytes (suc b) lent rest s) st (g ∷ gs) st₂ n k =
               rw (bytes-go lent b rest s t e w d′) (chain-byte f (trace-reach ms) refl (inv-few L inv′ few′) fewer c) in
-              let goes = run-goes lent b n₀ s t e w d′ in
+              let goes = run-on lent n₀ s e w b t d′ in
               ran u all (ap (λ (r : Finish). r .world .machine) goes ∙ am ∙ em)
               (ap (λ (r : Finish). r .world .memory) goes ∙ ar ∙ er) inv″ few″
         ]
@@ -135,7 +133,7 @@ module _ (L : Loaded) where
     unfolding bytes
     run-bytes zero n₀ s st n z inv few =
         let c : Chain (L .prog) bound (bytes zero lent rest s) st [] st n n = chain-nil in
-        let stays = run-spent lent n₀ s in
+        let stays = run-none lent n₀ s in
         ran s c (ap (λ (w : World). w .machine) stays) (ap (λ (w : World). w .memory) stays) inv few
     run-bytes (suc b) n₀ s st n z inv few =
         by-bool (ended (s .machine) || waits (s .machine))
@@ -143,4 +141,4 @@ module _ (L : Loaded) where
         (λ e.
         let on : ended (s .machine) ≡ false = or-left (ended (s .machine)) (waits (s .machine)) e in
         let busy : waits (s .machine) ≡ false = or-right (ended (s .machine)) (waits (s .machine)) e in
-        run-on b n₀ s z on busy inv few (λ t st′ k. run-bytes b (suc n₀) t st′ k) (byte-goes L inv on busy))
+        run-byte b n₀ s z on busy inv few (λ t st′ k. run-bytes b (suc n₀) t st′ k) (byte-goes L inv on busy))

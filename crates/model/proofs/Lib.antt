@@ -69,6 +69,7 @@ pub mod Offers
 pub mod Stuckness
 pub mod Agreement
 pub mod Regular
+pub mod RunSteps
 pub mod Runs
 pub mod Chains
 pub mod Lending
