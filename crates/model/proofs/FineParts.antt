@@ -410,84 +410,63 @@ accepted-fine table p h =
     let (well, places) = read-well table p (accept-reads table p h) in
     program-fine p _ well places (accept-passed table p h)
 
--- no statement outputs to an outside input
+-- no statement outputs to an outside input, or inputs from an outside output
+abbrev OneWay : ℕ → List Site → List Site → Type 0
+OneWay l outs ins = (List·Memᴰ (inputOf l) outs → ⊥) × (List·Memᴰ (outputOf l) ins → ⊥)
+
+no-way : {l : ℕ} → OneWay l [] []
+no-way = ((λ m. List·Memᴰ·not-nil m), (λ m. List·Memᴰ·not-nil m))
+
+both-ways : {l : ℕ} (outs ins : List Site) {outs′ ins′ : List Site} → OneWay l outs ins → OneWay l outs′ ins′
+    → OneWay l (outs ++ outs′) (ins ++ ins′)
+both-ways outs ins h k = (
+  (λ m. ⊎-elim (h .0) (k .0) (List·Memᴰ·append-cases outs m)),
+  (λ m. ⊎-elim (h .1) (k .1) (List·Memᴰ·append-cases ins m)),
+)
+
 mutual
   unfolding usage usageAll usagePairs usageGuards
 
-  outputs-on : (s : Stmt) (sc : Scope) (l : ℕ) → Well sc s → List·Memᴰ (inputOf l) (usage s .outputs) → ⊥
-  outputs-on SKIP sc l h m = List·Memᴰ·not-nil m
-  outputs-on STOP sc l h m = List·Memᴰ·not-nil m
-  outputs-on (assign x e) sc l h m = List·Memᴰ·not-nil m
-  outputs-on (input c x) sc l h m = List·Memᴰ·not-nil m
-  outputs-on (output c e) sc l h m = never (cc (ap canOutput (List·Memᴰ·eq-of-singleton m), h .0 .1))
-  outputs-on (VAR p n s) sc l h m = outputs-on s (withVariables p n sc) l (h .2) m
-  outputs-on (CHAN p n s) sc l h m = outputs-on s (withChannels p n sc) l (h .2) m
-  outputs-on (SEQ ss) sc l h m = outputs-all ss sc l h m
-  outputs-on (PAR p ss) sc l h m = outputs-all ss sc l (h .1) m
-  outputs-on (IF ps) sc l h m = outputs-pairs ps sc l h m
-  outputs-on (WHILE e s) sc l h m = outputs-on s sc l (h .1) m
-  outputs-on (ALT gs) sc l h m = outputs-guards gs sc l h m
+  one-way : (s : Stmt) (sc : Scope) (l : ℕ) → Well sc s → OneWay l (usage s .outputs) (usage s .inputs)
+  one-way SKIP sc l h = no-way
+  one-way STOP sc l h = no-way
+  one-way (assign x e) sc l h = no-way
+  one-way (input c x) sc l h = (no-way .0, (λ m. never (cc (ap canInput (List·Memᴰ·eq-of-singleton m), h .0 .1))))
+  one-way (output c e) sc l h = ((λ m. never (cc (ap canOutput (List·Memᴰ·eq-of-singleton m), h .0 .1))), no-way .1)
+  one-way (VAR p n s) sc l h = one-way s (withVariables p n sc) l (h .2)
+  one-way (CHAN p n s) sc l h = one-way s (withChannels p n sc) l (h .2)
+  one-way (SEQ ss) sc l h = one-way-all ss sc l h
+  one-way (PAR p ss) sc l h = one-way-all ss sc l (h .1)
+  one-way (IF ps) sc l h = one-way-pairs ps sc l h
+  one-way (WHILE e s) sc l h = one-way s sc l (h .1)
+  one-way (ALT gs) sc l h = one-way-guards gs sc l h
 
-  outputs-all : (ss : Stmts) (sc : Scope) (l : ℕ) → WellAll sc ss → List·Memᴰ (inputOf l) (usageAll ss .outputs) → ⊥
-  outputs-all noStmt sc l h m = List·Memᴰ·not-nil m
-  outputs-all (stmt s ss) sc l h m =
-      ⊎-elim (λ k. outputs-on s sc l (h .0) k) (λ k. outputs-all ss sc l (h .1) k) (List·Memᴰ·append-cases (usage s .outputs) m)
+  one-way-all : (ss : Stmts) (sc : Scope) (l : ℕ) → WellAll sc ss → OneWay l (usageAll ss .outputs) (usageAll ss .inputs)
+  one-way-all noStmt sc l h = no-way
+  one-way-all (stmt s ss) sc l h =
+      both-ways (usage s .outputs) (usage s .inputs) (one-way s sc l (h .0)) (one-way-all ss sc l (h .1))
 
-  outputs-pairs : (ps : Pairs) (sc : Scope) (l : ℕ) → WellPairs sc ps → List·Memᴰ (inputOf l) (usagePairs ps .outputs) → ⊥
-  outputs-pairs noPair sc l h m = List·Memᴰ·not-nil m
-  outputs-pairs (pair e s ps) sc l h m =
-      ⊎-elim (λ k. outputs-on s sc l (h .1) k) (λ k. outputs-pairs ps sc l (h .2) k) (List·Memᴰ·append-cases (usage s .outputs) m)
+  one-way-pairs : (ps : Pairs) (sc : Scope) (l : ℕ) → WellPairs sc ps → OneWay l (usagePairs ps .outputs) (usagePairs ps .inputs)
+  one-way-pairs noPair sc l h = no-way
+  one-way-pairs (pair e s ps) sc l h =
+      both-ways (usage s .outputs) (usage s .inputs) (one-way s sc l (h .1)) (one-way-pairs ps sc l (h .2))
 
-  outputs-guards : (gs : Guards) (sc : Scope) (l : ℕ) → WellGuards sc gs → List·Memᴰ (inputOf l) (usageGuards gs .outputs) → ⊥
-  outputs-guards noGuard sc l h m = List·Memᴰ·not-nil m
-  outputs-guards (inputGuard e c x s gs) sc l h m =
-      ⊎-elim (λ k. outputs-on s sc l (h .3) k) (λ k. outputs-guards gs sc l (h .4) k) (List·Memᴰ·append-cases (usage s .outputs) m)
-  outputs-guards (skipGuard e s gs) sc l h m =
-      ⊎-elim (λ k. outputs-on s sc l (h .1) k) (λ k. outputs-guards gs sc l (h .2) k) (List·Memᴰ·append-cases (usage s .outputs) m)
+  one-way-guards : (gs : Guards) (sc : Scope) (l : ℕ) → WellGuards sc gs → OneWay l (usageGuards gs .outputs) (usageGuards gs .inputs)
+  one-way-guards noGuard sc l h = no-way
+  one-way-guards (inputGuard e c x s gs) sc l h =
+      let (o, i) = both-ways (usage s .outputs) (usage s .inputs) (one-way s sc l (h .3)) (one-way-guards gs sc l (h .4)) in
+      (o, (λ m. ⊎-elim (λ k. never (cc (ap canInput k, h .1 .1))) i (List·Memᴰ·cases-cons m)))
+  one-way-guards (skipGuard e s gs) sc l h =
+      both-ways (usage s .outputs) (usage s .inputs) (one-way s sc l (h .1)) (one-way-guards gs sc l (h .2))
 
 -- so no accepted program does
+accepted-ways : (table : List ℕ) (p : Program) → accept table ≡ program p → (l : ℕ) → OneWay l (wholePart p .outputs) (wholePart p .inputs)
+accepted-ways table p h l = one-way (p .body) (outermost p) l (read-well table p (accept-reads table p h) .0 .2)
+
 pub accepted-one-way : (table : List ℕ) (p : Program) → accept table ≡ program p → (l : ℕ)
     → List·Memᴰ (inputOf l) (wholePart p .outputs) → ⊥
-accepted-one-way table p h l m = outputs-on (p .body) (outermost p) l (read-well table p (accept-reads table p h) .0 .2) m
+accepted-one-way table p h l = accepted-ways table p h l .0
 
--- no statement inputs from an outside output
-mutual
-  unfolding usage usageAll usagePairs usageGuards
-
-  inputs-on : (s : Stmt) (sc : Scope) (l : ℕ) → Well sc s → List·Memᴰ (outputOf l) (usage s .inputs) → ⊥
-  inputs-on SKIP sc l h m = List·Memᴰ·not-nil m
-  inputs-on STOP sc l h m = List·Memᴰ·not-nil m
-  inputs-on (assign x e) sc l h m = List·Memᴰ·not-nil m
-  inputs-on (input c x) sc l h m = never (cc (ap canInput (List·Memᴰ·eq-of-singleton m), h .0 .1))
-  inputs-on (output c e) sc l h m = List·Memᴰ·not-nil m
-  inputs-on (VAR p n s) sc l h m = inputs-on s (withVariables p n sc) l (h .2) m
-  inputs-on (CHAN p n s) sc l h m = inputs-on s (withChannels p n sc) l (h .2) m
-  inputs-on (SEQ ss) sc l h m = inputs-all ss sc l h m
-  inputs-on (PAR p ss) sc l h m = inputs-all ss sc l (h .1) m
-  inputs-on (IF ps) sc l h m = inputs-pairs ps sc l h m
-  inputs-on (WHILE e s) sc l h m = inputs-on s sc l (h .1) m
-  inputs-on (ALT gs) sc l h m = inputs-guards gs sc l h m
-
-  inputs-all : (ss : Stmts) (sc : Scope) (l : ℕ) → WellAll sc ss → List·Memᴰ (outputOf l) (usageAll ss .inputs) → ⊥
-  inputs-all noStmt sc l h m = List·Memᴰ·not-nil m
-  inputs-all (stmt s ss) sc l h m =
-      ⊎-elim (λ k. inputs-on s sc l (h .0) k) (λ k. inputs-all ss sc l (h .1) k) (List·Memᴰ·append-cases (usage s .inputs) m)
-
-  inputs-pairs : (ps : Pairs) (sc : Scope) (l : ℕ) → WellPairs sc ps → List·Memᴰ (outputOf l) (usagePairs ps .inputs) → ⊥
-  inputs-pairs noPair sc l h m = List·Memᴰ·not-nil m
-  inputs-pairs (pair e s ps) sc l h m =
-      ⊎-elim (λ k. inputs-on s sc l (h .1) k) (λ k. inputs-pairs ps sc l (h .2) k) (List·Memᴰ·append-cases (usage s .inputs) m)
-
-  inputs-guards : (gs : Guards) (sc : Scope) (l : ℕ) → WellGuards sc gs → List·Memᴰ (outputOf l) (usageGuards gs .inputs) → ⊥
-  inputs-guards noGuard sc l h m = List·Memᴰ·not-nil m
-  inputs-guards (inputGuard e c x s gs) sc l h m =
-      ⊎-elim (λ k. never (cc (ap canInput k, h .1 .1)))
-      (λ k. ⊎-elim (λ n. inputs-on s sc l (h .3) n) (λ n. inputs-guards gs sc l (h .4) n) (List·Memᴰ·append-cases (usage s .inputs) k))
-      (List·Memᴰ·cases-cons m)
-  inputs-guards (skipGuard e s gs) sc l h m =
-      ⊎-elim (λ k. inputs-on s sc l (h .1) k) (λ k. inputs-guards gs sc l (h .2) k) (List·Memᴰ·append-cases (usage s .inputs) m)
-
--- so no accepted program does
 pub accepted-one-way-in : (table : List ℕ) (p : Program) → accept table ≡ program p → (l : ℕ)
     → List·Memᴰ (outputOf l) (wholePart p .inputs) → ⊥
-accepted-one-way-in table p h l m = inputs-on (p .body) (outermost p) l (read-well table p (accept-reads table p h) .0 .2) m
+accepted-one-way-in table p h l = accepted-ways table p h l .1
