@@ -1,6 +1,5 @@
 // The bench program (document 01): reads a table from standard input and prints its code, its outputs and how it stood.
 ghost use mathlib.Core.Path.{_≡_};
-ghost use Prim.Native.Nat.{_≤_};
 ghost use lib.ListN.{length};
 
 // Room for the longest table and one byte more, so that a longer input is refused and not cut off.
@@ -10,61 +9,8 @@ fn table_room() -> [u8; 16385]
     [0; 16385]
 }
 
-// Room for the longest code.
-fn code_room() -> [u8; 16384]
-    ensures { λ r. ⌜ 16384 ≡ length r ⌝ }
-{
-    [0; 16384]
-}
-
-// Room for the largest memory.
-fn memory_room() -> [u32; 4096]
-    ensures { λ r. ⌜ 4096 ≡ length r ⌝ }
-{
-    [0; 4096]
-}
-
-// A piece has 64 bytes.
-fn shown(length: usize) -> usize
-    ensures { λ r. ⌜ r ≤ 64 ⌝ }
-{
-    if length < 64 {
-        return length;
-    }
-    64
-}
-
-// Writes a piece of the text.
-fn write(piece: report::Piece) {
-    let bytes = piece.bytes;
-    let n = shown(piece.length);
-    io::write_all(1, &bytes[..n]);
-}
-
-// Writes the text that is still to come.
-fn print(start: report::Report, code: &[u8], memory: &mut [u32]) {
-    let mut report = start;
-    loop {
-        let turn = report::next(report, code, memory);
-        if !turn.more {
-            return;
-        }
-        let piece = turn.piece;
-        write(piece);
-        report = turn.report;
-    }
-}
-
-// Prints the report of a table.
-fn answer(table: &[u8]) {
-    let mut code = code_room();
-    let mut memory = memory_room();
-    let opened = report::open(table, &mut code, &mut memory);
-    print(opened, &code, &mut memory);
-}
-
 fn main() {
     let mut table = table_room();
     let n = io::read_full(0, &mut table);
-    answer(&table[..n]);
+    console::print_report(&table[..n]);
 }

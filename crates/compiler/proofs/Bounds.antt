@@ -63,7 +63,7 @@ module _ (s : List ℕ) where
     ends-bound noStmtAt = omega arith
     ends-bound (stmtsAt a c) = omega (arith, stmt-bound a, ends-bound c)
 
-    pairs-bound : {w : Scope} {d k i n : ℕ} {ps : Pairs} → PairsAt s d w k i ps n → sizePairs ps + 80 * i ≤ 80 * n
+    pairs-bound : {w : Scope} {d k i n : ℕ} {ps : Pairs} → PairsAt s d w k i ps n → sizePairs ps + 80 * i ≤ 80 * n + 1
     pairs-bound noPairAt = omega arith
     pairs-bound (pairAt e a c) = omega (arith, expr-bound (e .expr), stmt-bound a, pairs-bound c)
 

@@ -38,6 +38,12 @@ inner-names h = record { inside = h .inside; word-is = h .word-is; long = h .lon
 pub inner-scope : {word : Site → ℕ} {d : ℕ} {sc : M.Scope} {vs cs : List ℕ} → Scoped word (suc d) sc vs cs → Scoped word d sc vs cs
 inner-scope h = record { variables = inner-names (h .variables); channels = inner-names (h .channels) }
 
+-- STOPP: a STOP, and what stands behind an IF's last pair
+pub stopp-fills : (off : ℕ → ℕ) (h : ℕ) (o : List ℕ) → Room h (operation I.stopp ∷ [])
+    → operationInto 21 (at h o) ≡ filled off h (operation I.stopp ∷ []) o
+unfolding functionCode operationCode operationInto
+stopp-fills off h o room = emits-at off (operation I.stopp ∷ []) h o room
+
 module _ (word : Site → ℕ) (workspace : ℕ → ℕ) (off : ℕ → ℕ) (s : List ℕ) where
   -- a statement laid out at w, whose code stands at index j and place h
   pub record Placed (w j h : ℕ) (b : Stmt) : Type 0 where
@@ -63,8 +69,8 @@ module _ (word : Site → ℕ) (workspace : ℕ → ℕ) (off : ℕ → ℕ) (s 
     skip-code k p o = rw (k .value) (ap (written _) (sym (fill-none off h o)))
 
     pub stop-code : {i n : ℕ} → NumeralAt s i 1 n → Placed w j h STOP → Written (suc d) sc vs cs w j h i n STOP
-    unfolding stmtInto simpleInto code functionCode operationCode operationInto
-    stop-code k p o = rw (k .value) (ap (written _) (emits-at off (operation I.stopp ∷ []) h o (p .room)))
+    unfolding stmtInto simpleInto code
+    stop-code k p o = rw (k .value) (ap (written _) (stopp-fills off h o (p .room)))
 
     pub assign-code : {i n m q : ℕ} {x : Site} {e : Whole} → NumeralAt s i 2 n → OneAt s (sc .variables) n x m
         → WholeAt s (sc .variables) d m e q → Placed w j h (assign x e) → Written (suc d) sc vs cs w j h i q (assign x e)

@@ -24,7 +24,7 @@ use Rattle.compiler.proofs.Spelled.{NumeralAt, WholeAt, CountAt, StmtAt
 use Rattle.compiler.proofs.Fills.{bytes-append, filled, fill-then, fill-none, Room, room-left, room-right, distance-fills, Stands}
 use Rattle.compiler.proofs.Fills.{stands-first, stands-next, stands-both, stands-last, gap-fills}
 use Rattle.compiler.proofs.ExprCode.{expr-code}
-use Rattle.compiler.proofs.Compiles.{scopeOf, Scoped, inner-scope, Placed, Written, Compiles}
+use Rattle.compiler.proofs.Compiles.{scopeOf, Scoped, inner-scope, Placed, Written, Compiles, stopp-fills}
 
 module _ (word : Site → ℕ) (workspace : ℕ → ℕ) (off : ℕ → ℕ) (s : List ℕ) where
   module _ {d : ℕ} {sc : M.Scope} {vs cs : List ℕ} (w : ℕ) (fits : w ≤ 4096) (scope : Scoped word (suc d) sc vs cs)
@@ -143,7 +143,7 @@ module _ (word : Site → ℕ) (workspace : ℕ → ℕ) (off : ℕ → ℕ) (s 
         → ifInto k d w vs (λ i c. stmtInto d (scopeOf w sc) vs cs s i c) s i (at h o)
         ≡ written n (filled off h (codePairs word w j over ps) o)
     unfolding ifInto codePairs pairNeed sizePairs
-    if-parts j over h is noPairAt laid few p r o = ap (written _) (sym (fill-none off h o))
+    if-parts j over h is noPairAt laid few p r o = ap (written _) (stopp-fills off h o r)
     if-parts j over h is (pairAt {k = k} {e = e} {b = b} {ps = ps} c a g) laid few p r o =
         let next = leaves j e b + 1 in
         let P = codePairs word w next over ps in

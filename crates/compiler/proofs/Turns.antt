@@ -77,9 +77,9 @@ module _ (d : ℕ) (sc : Scope) (vs cs s : List ℕ) where
   seq-more (suc n) i c l pp pr = let e : suc n - 1 ≡ n = omega arith in pr ∙ rw (pp, e)
 
   -- IF
-  pub if-none : (n i : ℕ) (c : Code) → n ≡ 0 → written i c ≡ ifAt n d sc vs cs s i c
+  pub if-none : (n i : ℕ) (c : Code) {e : Code} → n ≡ 0 → e ≡ operationInto 21 c → written i e ≡ ifAt n d sc vs cs s i c
   unfolding ifAt ifInto
-  if-none n i c e = rw e
+  if-none n i c z pe = rw (pe, z)
 
   pub if-more : (n i : ℕ) (c : Code) {t b r : Wrote} {begin next : ℕ} {j cj : Code} → (n ≡ 0 → ⊥)
       → t ≡ exprInto d (sc .w) vs s i c → begin ≡ low (t .here + 4) → b ≡ stmtInto d sc vs cs s (t .next) (at begin (t .out))

@@ -52,9 +52,9 @@ unfoldable pub seqInto : (left : ℕ) → (ℕ → Code → Wrote) → (at : ℕ
 seqInto zero inner at c = written at c
 seqInto (suc i) inner at c = let p = inner at c in seqInto i inner (p .next) (codeOf p)
 
--- 01, IF, per pair: condition, CJ next, statement, J end; the last pair too
+-- 01, IF, per pair: condition, CJ next, statement, J end; the last pair too. 02, order 1: STOPP after the last pair, before the end
 unfoldable pub ifInto : (left depth w : ℕ) → List ℕ → (ℕ → Code → Wrote) → List ℕ → (at : ℕ) → Code → Wrote
-ifInto zero d w vs inner s i c = written i c
+ifInto zero d w vs inner s i c = written i (operationInto 21 c)
 ifInto (suc n) d w vs inner s i c =
     let t = exprInto d w vs s i c in
     let begin = low (t .here + 4) in

@@ -152,7 +152,7 @@ fn seq(
     )
 }
 
-// IF, for each pair: condition, CJ next, statement, J end; the last pair too.
+// IF, for each pair: condition, CJ next, statement, J end; the last pair too. Behind the last pair stands a STOPP, then comes the end.
 fn pairs(
     table: &[u8],
     at: usize,
@@ -170,9 +170,10 @@ fn pairs(
         (standing here (now (out .entry))) ⌝ }
 {
     if left == 0 {
+        let end = emitter::operation(out, here, instruction::codes::STOPP);
         return Done {
             next: at,
-            here: here,
+            here: end,
         };
     }
     let test = emitter::gen_expr(table, at, depth, scope.w, vars, out, here);

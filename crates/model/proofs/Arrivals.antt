@@ -36,7 +36,7 @@ use Rattle.model.proofs.Arrive.{inside, up, rises-le, init-at, tested, 
 use Rattle.model.proofs.Parts.{need-two, sum-first, Part, the-end, joins, Words, Within, FineWhole, Fine, FineAll, FinePairs}
 use Rattle.model.proofs.Conts.{Placed, placed-down, Cont, c-end, c-join, c-seq, c-var, c-chan, c-up, c-while, c-hop}
 use Rattle.model.proofs.Conts.{cont-inside, cont-low, cont-placed, cont-bound}
-use Rattle.model.proofs.Marks.{Skips, Settled, s-none, s-skip, s-if, s-par, AltCode, Opening, ParCode, Clear, Point, pt-stop}
+use Rattle.model.proofs.Marks.{Skips, Settled, s-none, s-skip, s-par, AltCode, Opening, ParCode, Clear, Point, pt-stop}
 use Rattle.model.proofs.Marks.{pt-assign, pt-var, pt-chan, pt-taken, pt-none, pt-while, pt-in, pt-out, pt-par-place, pt-end, pt-alt}
 
 -- two stretches of instructions, one behind the other
@@ -178,26 +178,18 @@ module _ (S : Setting) (a : Part) where
           arrived (onto r q (pt-taken s x yes fa taken g f (c-hop d two l cont) near)) bound
       pair-way all e s ps two fa f same near x g d l val q true z other = other (val ∙ eqb-true _ _ z) (same ∙ rw z)
 
-      -- through the conditions of an IF that are false, to the CJ of the first true pair or of the last
-      pairs-way : (all : Pairs) (e : Whole) (s : Stmt) (ps : Pairs) {i : ℕ} → Seg (S .xs) i (codePairs (S .word) w i c (pair e s ps)) c
-          → a .bottom + 2 ≤ w → FinePairs (S .word) a vars chans w all → FinePairs (S .word) a vars chans w (pair e s ps)
-          → firstTrue σ all k ≡ firstTrue σ (pair e s ps) k
+      -- through the conditions of an IF that are false, to the CJ of the first true pair or to the STOPP behind the last
+      pairs-way : (all ps : Pairs) {i : ℕ} → Seg (S .xs) i (codePairs (S .word) w i c ps) c
+          → a .bottom + 2 ≤ w → FinePairs (S .word) a vars chans w all → FinePairs (S .word) a vars chans w ps
+          → firstTrue σ all k ≡ firstTrue σ ps k
           → hi′ ≤ whole S + S .off i
           → (μ : Mem) (r : Regs) → r .w ≡ w → Goes vars chans (before (IF all) k) hi′ μ i r
       unfolding firstTrue codePairs
-      pairs-way all e s noPair {i} g two fa f same near μ r q = elim (pair-parts S e s noPair g) [
-        | tested m g₁ x g₂ d g₃ ↦
-            let p : c ≡ suc m = seg-length g₃ ∙ omega arith in
-            let test = i + wholeSize e in
-            let near-on : hi′ ≤ whole S + S .off test = omega (arith, rises-le S i test (omega arith) (omega (arith, inside S x))) in
-            let bound : S .off (suc test) ≤ hi′ =
-            omega (arith, cont-bound S a cont, rises-le S (suc test) c (omega (arith, seg-length g₂)) (cont-inside S a cont)) in
-            let ahead : suc test ≤ suc m = omega (arith, seg-length g₂) in
-            through-expr (before (IF all) k) e (f .0) g₁ q (λ r′ val q′.
-            pair-way all e s noPair two fa (f .1) same near-on x g₂ d (omega arith) val q′ (eqb (value σ e) 0) refl (λ z none.
-            arrived (onto r′ q′ (pt-none x ahead z fa none (subst (λ n. Cont S a hi′ vars chans k n w) p cont) near-on)) bound))
-      ]
-      pairs-way all e s (pair e₂ s₂ ps) {i} g two fa f same near μ r q = elim (pair-parts S e s (pair e₂ s₂ ps) g) [
+      pairs-way all noPair g two fa f same near μ r q = stop-way g (cont-bound S a cont)
+        where
+          stop-way : {i j : ℕ} → Seg (S .xs) i (operation I.stopp ∷ []) j → S .off j ≤ hi′ → Goes vars chans (before (IF all) k) hi′ μ i r
+          stop-way (at x nil) bound = arrived (onto r q (pt-none x (cont-placed S a cont) fa same)) bound
+      pairs-way all (pair e s ps) {i} g two fa f same near μ r q = elim (pair-parts S e s ps g) [
         | tested m g₁ x g₂ d g₃ ↦
             let test = i + wholeSize e in
             let later : suc test ≤ suc m = omega (arith, seg-length g₂) in
@@ -206,10 +198,10 @@ module _ (S : Setting) (a : Part) where
             omega (arith, rises-le S i (suc m) (omega arith) (omega (arith, inside S d))) in
             let hop : S .off (suc test) ≤ S .off (suc m) = rises-le S (suc test) (suc m) later (inside S d) in
             through-expr (before (IF all) k) e (f .0) g₁ q (λ r′ val q′.
-            pair-way all e s (pair e₂ s₂ ps) two fa (f .1) same near-on x g₂ d
+            pair-way all e s ps two fa (f .1) same near-on x g₂ d
             (omega (arith, seg-length g₃)) val q′ (eqb (value σ e) 0) refl
             (λ z none.
-            falls x (inside S d) z hop (pairs-way all e₂ s₂ ps g₃ two fa (f .2) none near-next μ r′ q′)))
+            falls x (inside S d) z hop (pairs-way all ps g₃ two fa (f .2) none near-next μ r′ q′)))
       ]
 
     -- a VAR's or CHAN's code
@@ -442,14 +434,13 @@ module _ (S : Setting) (a : Part) where
 
     module _ {hi i i′ w : ℕ} {vars chans : List Site} {k : List Frame} (c : Cont S a hi vars chans k i′ w) (near : hi ≤ whole S + S .off i)
         (v : Sound S a σ vars chans) where
-      if-comes : (e : Whole) (s : Stmt) (ps : Pairs) → Seg (S .xs) i (code (S .word) w i (IF (pair e s ps))) i′
-          → Fine (S .word) a vars chans w (IF (pair e s ps))
-          → Comes vars chans hi (before (IF (pair e s ps)) k) i w
+      if-comes : (ps : Pairs) → Seg (S .xs) i (code (S .word) w i (IF ps)) i′ → Fine (S .word) a vars chans w (IF ps)
+          → Comes vars chans hi (before (IF ps) k) i w
       unfolding code
-      if-comes e s ps g f =
-          let over = i + sizePairs (pair e s ps) in
-          let p : over ≡ i′ = sym (seg-length g ∙ ap (λ n. i + n) (pairs-length (S .word) w i over (pair e s ps))) in
-          comes s-none tt (here c) (pairs-way c v (pair e s ps) e s ps (rw p at g) (f .0) (f .1) (f .1) refl near)
+      if-comes ps g f =
+          let over = i + sizePairs ps in
+          let p : over ≡ i′ = sym (seg-length g ∙ ap (λ n. i + n) (pairs-length (S .word) w i over ps)) in
+          comes s-none tt (here c) (pairs-way c v ps ps (rw p at g) (f .0) (f .1) (f .1) refl near)
 
       while-comes : (e : Whole) (s : Stmt) → Seg (S .xs) i (code (S .word) w i (WHILE e s)) i′
           → Fine (S .word) a vars chans w (WHILE e s) → Comes vars chans hi (before (WHILE e s) k) i w
@@ -549,8 +540,7 @@ module _ (S : Setting) (a : Part) where
       enters (SEQ ss) g f c near v rest = enters-all ss g f c near v rest
       enters (PAR p noStmt) nil f c near v (comes sk settled sub way) = comes (s-par sk) settled sub way
       enters (PAR p (stmt s ss)) g f c near v rest = par-comes c near v p s ss g f
-      enters (IF noPair) nil f c near v (comes sk settled sub way) = comes (s-if sk) settled sub way
-      enters (IF (pair e s ps)) g f c near v rest = if-comes c near v e s ps g f
+      enters (IF ps) g f c near v rest = if-comes c near v ps g f
       enters (WHILE e s) g f c near v rest = while-comes c near v e s g f
       enters (ALT gs) g f c near v rest = alt-comes c near v gs g f
 

@@ -1,7 +1,7 @@
--- Assignments, the tests of IF and WHILE, STOP.
+-- Assignments, the tests of IF and WHILE, STOP and an IF without a true condition.
 use Prim.Native.Nat.{ℕ, suc, _+_, _^_, _≤_, _<_}
 use native.Mathlib.Omega.{arith}
-use mathlib.Core.Path.{_≡_, refl, sym, _∙_, subst}
+use mathlib.Core.Path.{_≡_, refl, sym, ap, _∙_, subst}
 use mathlib.Core.Logic.{_≢_}
 use mathlib.Core.Bool.{true}
 use mathlib.Core.List.{List, [], _∷_, List·Memᴰ}
@@ -16,8 +16,8 @@ use Rattle.model.specs.Code.{functionIn, operandIn}
 use Rattle.model.specs.Scheme.{code}
 use Rattle.model.specs.Machine.{World, withCpu, goto, resumeWord}
 use Rattle.model.specs.Execute.{pop}
-use Rattle.model.specs.Occam.{value, store, Frame, inWhile, Process, before, atStop, resume, begin, go, firstTrue}
-use Rattle.model.specs.Occam.{framesOf, put, State, Step, begins}
+use Rattle.model.specs.Occam.{value, store, Frame, inWhile, Process, before, atStop, resume, begin, moved, go, firstTrue}
+use Rattle.model.specs.Occam.{framesOf, State, begins}
 use Rattle.model.specs.Demand.{liveIn}
 use Rattle.model.proofs.Cases.{never, by-bool}
 use Rattle.model.proofs.Ways.{Mem}
@@ -35,7 +35,8 @@ use Rattle.model.proofs.Effects.{cpuOf, stored, exec-stl, exec-cj-jumps
 use Rattle.model.proofs.Acts.{exec-stopp-general}
 use Rattle.model.proofs.Kernel.{Loaded, S, root, size, LeafAt, Rest, Real}
 use Rattle.model.proofs.Writes.{upd-other, changed, after-leaf, after-lined, node, part-small, write-own, write-var, left-out}
-use Rattle.model.proofs.Puts.{putting, rest-then}
+use Rattle.model.proofs.Puts.{rest-then}
+use Rattle.model.proofs.Traces.{begins-as}
 use Rattle.model.proofs.Grounds.{var-in, small-size, sound-at}
 use Rattle.model.proofs.Running.{Only, Did, Executes, executes, Acting}
 use Rattle.model.proofs.Reals.{size-is, real-state, real-cpu, real-stored, link-own, link-var}
@@ -110,46 +111,41 @@ module _ (L : Loaded) where
     -- on to p in the same store, at an instruction
     steps-on : {x : Instruction} {nx h : ℕ} (u : World) (p : Process) → Executes L x s u → u .talk ≡ s .talk → Real L u st μ ws
         → cpuOf u .running ≡ true → cpuOf u .operand ≡ 0 → cpuOf u .place ≡ L .off nx → cpuOf u .workspace ≡ cpuOf s .workspace
-        → nx ≤ length (S L .xs) → go d k (st .store) .process ≡ p → go d k (st .store) .store ≡ st .store → Leaf p
+        → nx ≤ length (S L .xs) → go d k (st .store) ≡ moved p (st .store) → Leaf p
         → ((x : Site) → List·Memᴰ x (liveIn (framesOf p)) → List·Memᴰ x (i .vars)) → Silent p
         → Comes (S L) b (st .store) (i .vars) (i .chans) h p nx (cpuOf s .workspace)
         → Placed (S L) b (cpuOf s .workspace) (i .vars) (i .chans) → h ≤ whole (S L) + L .off nx
         → Did L (Executes L x s) s st (bytesLeft (S L) t)
-    steps-on u p ran talk real run operand place work inner ep es l live quiet c placed near =
-        let one : Step st [] (putting path p st) =
-        subst (λ y. Step st [] (record { process = put path p (st .process); store = y; offers = st .offers })) es
-        (subst (λ z. Step st [] (record { process = put path z (st .process); store = go d k (st .store) .store; offers = st .offers })) ep
-        (begins path (A .leaf .found))) in
+    steps-on u p ran talk real run operand place work inner e l live quiet c placed near =
         advances L real (A .leaf) (A .rest) (A .lined) clean (before-silent d k) p l
         (record { vars = i .vars; chans = i .chans; w = cpuOf s .workspace; left = whole (S L) }) placed (omega arith)
-        (A .rest .vars (node L (A .leaf))) (A .rest .chans (node L (A .leaf))) live quiet one ran (silent L s u talk)
+        (A .rest .vars (node L (A .leaf))) (A .rest .chans (node L (A .leaf))) live quiet (begins-as path (A .leaf .found) e) ran (silent L s u talk)
         (record { run = run; operand = operand; place = place; work = work; inside = inner }) c clean near
 
     -- CJ with a true condition: on to what stands behind it
-    goes-on : {g h : ℕ} {p : Process} → cpuOf s .a ≢ 0 → go d k (st .store) .process ≡ p → go d k (st .store) .store ≡ st .store → Leaf p
+    goes-on : {g h : ℕ} {p : Process} → cpuOf s .a ≢ 0 → go d k (st .store) ≡ moved p (st .store) → Leaf p
         → ((x : Site) → List·Memᴰ x (liveIn (framesOf p)) → List·Memᴰ x (i .vars)) → Silent p
         → Comes (S L) b (st .store) (i .vars) (i .chans) h p (suc at) (cpuOf s .workspace)
         → Placed (S L) b (cpuOf s .workspace) (i .vars) (i .chans) → h ≤ whole (S L) + L .off (suc at)
         → Did L (Executes L (distance I.cj g at) s) s st (bytesLeft (S L) t)
     unfolding functionIn operandIn
-    goes-on v ep es l live quiet c placed near =
+    goes-on v e l live quiet c placed near =
         let r = pop (cpuOf s) in
         steps-on (withCpu r s) _ (executes (exec-cj-goes-on _ s v)) refl (real-cpu L r refl refl refl (A .real))
         (A .run) (A .operand) (A .placed)
-        refl (A .inside) ep es l live quiet c placed near
+        refl (A .inside) e l live quiet c placed near
 
     -- CJ with a false condition: a jump
-    goes-to : {g h : ℕ} {p : Process} → g ≤ length (S L .xs) → cpuOf s .a ≡ 0 → go d k (st .store) .process ≡ p
-        → go d k (st .store) .store ≡ st .store → Leaf p
+    goes-to : {g h : ℕ} {p : Process} → g ≤ length (S L .xs) → cpuOf s .a ≡ 0 → go d k (st .store) ≡ moved p (st .store) → Leaf p
         → ((x : Site) → List·Memᴰ x (liveIn (framesOf p)) → List·Memᴰ x (i .vars)) → Silent p
         → Comes (S L) b (st .store) (i .vars) (i .chans) h p g (cpuOf s .workspace)
         → Placed (S L) b (cpuOf s .workspace) (i .vars) (i .chans) → h ≤ whole (S L) + L .off g
         → Did L (Executes L (distance I.cj g at) s) s st (bytesLeft (S L) t)
     unfolding functionIn operandIn
-    goes-to {g} inner v ep es l live quiet c placed near =
+    goes-to {g} inner v e l live quiet c placed near =
         let r = goto (low (cpuOf s .place + less (L .off g) (L .off (suc at)))) (cpuOf s) in
         steps-on (withCpu r s) _ (executes (exec-cj-jumps _ s v)) refl (real-cpu L r refl refl refl (A .real)) (A .run) (A .operand)
-        (target L A g inner) refl inner ep es l live quiet c placed near
+        (target L A g inner) refl inner e l live quiet c placed near
 
     live-here : (x : Site) → List·Memᴰ x (liveIn k) → List·Memᴰ x (i .vars)
     live-here = A .rest .live (A .leaf)
@@ -168,19 +164,8 @@ module _ (L : Loaded) where
         let near-on : h ≤ whole (S L) + L .off (suc at) = omega (arith, S L .rises at (suc at) (omega arith) (A .inside)) in
         let near-end : h ≤ whole (S L) + L .off m =
         omega (arith, rises-le (S L) (suc at) m (omega (arith, seg-length g)) (cont-inside (S L) b c)) in
-        goes-on A clean v e refl (leaf-begin d k) (live-begin d k (i .vars) (live-here A clean)) (λ c v f e. silent-begin d k e)
+        goes-on A clean v (ap (λ p. moved p (st .store)) e) (leaf-begin d k) (live-begin d k (i .vars) (live-here A clean)) (λ c v f e. silent-begin d k e)
         (enters (S L) b (st .store) d g f c near-on sound (arrives (S L) b (st .store) c near-end sound)) (cont-placed (S L) b c) near-on
-
-    -- an IF without a true condition goes on
-    pub did-none : {ps : Pairs} {g h : ℕ} (A : Acting L s st μ t path (before (IF ps) k) b i (Only path) ws at hi) → Unmarked (S L) b i st μ
-        → suc at ≤ g → cpuOf s .a ≡ 0 → firstTrue (st .store) ps k ≡ resume k → Cont (S L) b h (i .vars) (i .chans) k g (cpuOf s .workspace)
-        → h ≤ whole (S L) + L .off at → Did L (Executes L (distance I.cj g at) s) s st (bytesLeft (S L) t)
-    unfolding go
-    did-none {g = g} {h} A clean l v e c near =
-        let inner = cont-inside (S L) b c in
-        let near-on : h ≤ whole (S L) + L .off g = omega (arith, rises-le (S L) at g (omega arith) inner) in
-        goes-to A clean inner v e refl (leaf-resume k) (live-resume k (i .vars) (live-here A clean)) (λ c v f e. silent-resume k e)
-        (arrives (S L) b (st .store) c near-on (sound-at L (A .rest) (A .leaf))) (cont-placed (S L) b c) near-on
 
     -- a WHILE's test
     pub did-while : {e : Whole} {d : Stmt} {g m h h′ : ℕ} (A : Acting L s st μ t path (before (WHILE e d) k) b i (Only path) ws at hi)
@@ -198,16 +183,17 @@ module _ (L : Loaded) where
         let near-end : h′ ≤ whole (S L) + L .off m =
         omega (arith, rises-le (S L) (suc at) m (omega (arith, seg-length seg)) (cont-inside (S L) b c′)) in
         by-bool (eqb (value (st .store) e) 0)
-        (λ z. goes-to A clean inner (v ∙ eqb-true _ _ z) (rw z) refl (leaf-resume k) (live-resume k (i .vars) (live-here A clean))
+        (λ z. goes-to A clean inner (v ∙ eqb-true _ _ z) (rw z) (leaf-resume k) (live-resume k (i .vars) (live-here A clean))
         (λ c v f e. silent-resume k e) (arrives (S L) b (st .store) c near-on sound) (cont-placed (S L) b c) near-on)
-        (λ z. goes-on A clean (λ q. eqb-false _ _ z (sym v ∙ q)) (rw z) refl (leaf-begin d (inWhile e d ∷ k))
+        (λ z. goes-on A clean (λ q. eqb-false _ _ z (sym v ∙ q)) (rw z) (leaf-begin d (inWhile e d ∷ k))
         (live-begin d (inWhile e d ∷ k) (i .vars) (live-here A clean)) (λ c v f y. silent-begin d (inWhile e d ∷ k) y)
         (enters (S L) b (st .store) d seg f c′ near′ sound (arrives (S L) b (st .store) c′ near-end sound)) (cont-placed (S L) b c′) near′)
 
-  -- STOPP: coming to STOP
-  module _ {s : World} {st : State} {μ : Mem} {t : Tree (S L) (root L) (st .process)} {path : List ℕ} {k : List Frame} {b : Part} {i : Info}
-      {ws : List ℕ} {at hi : ℕ} (A : Acting L s st μ t path (before STOP k) b i (Only path) ws at hi) (clean : Unmarked (S L) b i st μ)
-      (placed : Placed (S L) b (cpuOf s .workspace) (i .vars) (i .chans)) where
+  -- STOPP: coming to a wait for ever
+  module _ {s : World} {st : State} {μ : Mem} {t : Tree (S L) (root L) (st .process)} {path : List ℕ} {d : Stmt} {k : List Frame} {b : Part}
+      {i : Info} {ws : List ℕ} {at hi : ℕ} (A : Acting L s st μ t path (before d k) b i (Only path) ws at hi)
+      (clean : Unmarked (S L) b i st μ) (placed : Placed (S L) b (cpuOf s .workspace) (i .vars) (i .chans))
+      (stops : go d k (st .store) ≡ moved (atStop k) (st .store)) where
     abbrev v : ℕ
     v = resumeWord (cpuOf s .workspace)
 
@@ -237,9 +223,9 @@ module _ (L : Loaded) where
         clean c m (subst (Own b) (upd-other μ v (cpuOf s .place) (S L .word c)
         (λ e. absurd (omega (arith, placed .scoped .chans-above c m, below, e)))) o)
 
-    pub did-stop : Did L (Executes L (operation I.stopp) s) s st (bytesLeft (S L) t)
-    unfolding go functionIn operandIn
-    did-stop =
+    waits-for-ever : Did L (Executes L (operation I.stopp) s) s st (bytesLeft (S L) t)
+    unfolding functionIn operandIn
+    waits-for-ever =
         let real = real-stored L v (cpuOf s .place) (omega (arith, v-high, high))
         (link-own L (A .lined) (A .leaf) refl v v-low v-high) (A .real) in
         let j : Info = record { vars = i .vars; chans = i .chans; w = cpuOf s .workspace; left = whole (S L) } in
@@ -248,7 +234,22 @@ module _ (L : Loaded) where
         (rest-then L (A .leaf) (atStop k) l-stop j sits stop-rest refl (stop-rest .vars (node L (A .leaf)))
         (stop-rest .chans (node L (A .leaf))) (A .rest .live (A .leaf)) (λ c m o. m) (λ c v f e other r d z y n m. never (cc))
         (λ c v f e other r d z y n m g o. never (cc)))
-        (h-stop stop-clean) (A .operand) (begins path (A .leaf .found))
+        (h-stop stop-clean) (A .operand) (begins-as path (A .leaf .found) stops)
         (λ x f g. executes (exec-stopp-general (cpuOf s .workspace) (cpuOf s .place) s refl refl
         (rw (size-is L (A .real)) (omega (arith, v-high, high))) ∙ f))
         (silent L s (stored v (cpuOf s .place) s) refl)
+
+  module _ {s : World} {st : State} {μ : Mem} {t : Tree (S L) (root L) (st .process)} {path : List ℕ} {k : List Frame} {b : Part} {i : Info}
+      {ws : List ℕ} {at hi : ℕ} where
+    -- STOP
+    pub did-stop : (A : Acting L s st μ t path (before STOP k) b i (Only path) ws at hi) → Unmarked (S L) b i st μ
+        → Placed (S L) b (cpuOf s .workspace) (i .vars) (i .chans) → Did L (Executes L (operation I.stopp) s) s st (bytesLeft (S L) t)
+    unfolding go
+    did-stop A clean placed = waits-for-ever A clean placed refl
+
+    -- an IF without a true condition
+    pub did-none : {ps : Pairs} (A : Acting L s st μ t path (before (IF ps) k) b i (Only path) ws at hi) → Unmarked (S L) b i st μ
+        → Placed (S L) b (cpuOf s .workspace) (i .vars) (i .chans) → firstTrue (st .store) ps k ≡ atStop k
+        → Did L (Executes L (operation I.stopp) s) s st (bytesLeft (S L) t)
+    unfolding go
+    did-none A clean placed e = waits-for-ever A clean placed (ap (λ p. moved p (st .store)) e)

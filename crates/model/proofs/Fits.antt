@@ -154,7 +154,7 @@ module _ (word : Site → ℕ) (count : ℕ) where
 
     pairs-fit : (sc : Scope) (w i over : ℕ) (ps : Pairs) → WellPairs sc ps → pairNeed ps ≤ 4096 → over ≤ count → i + sizePairs ps ≤ count
         → AllFit count (codePairs word w i over ps)
-    pairs-fit sc w i over noPair h hn ho hi = nil-fits
+    pairs-fit sc w i over noPair h hn ho hi = omega arith ▸ nil-fits
     pairs-fit sc w i over (pair e s ps) h hn ho hi =
         let test = i + exprSize (e .expr) in
         expr-fits sc w (e .expr) (h .0)

@@ -57,7 +57,7 @@ module _ (L : Loaded) {s : World} {st : State} {μ : Mem} {t : Tree (S L) (root 
   point-acts here A clean (pt-chan {j = m′} op f l j e z m) =
       same-does L _ here (subst (λ n. At (S L) n (plain I.stl m′)) (sym e) (op .inits _ j .1)) (did-chan-store L A clean op f l j e z m)
   point-acts here A clean (pt-taken d a v fa e g f c n) = same-does L _ here a (did-taken L d A clean v e g f c n)
-  point-acts here A clean (pt-none a l v fa e c n) = same-does L _ here a (did-none L A clean l v e c n)
+  point-acts here A clean (pt-none a c fa e) = same-does L _ here a (did-none L A clean c e)
   point-acts here A clean (pt-while a l fe v g f c n d m) = same-does L _ here a (did-while L A clean l v g f c n d m)
   point-acts here A clean (pt-in a v c y f k n) = same-does L _ here a (did-in L A v c y f k n clean)
   point-acts here A clean (pt-out a v small c f y k n) = same-does L _ here a (did-out L A v small c f y k n clean)

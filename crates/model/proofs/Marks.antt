@@ -6,7 +6,7 @@ use mathlib.Core.Bool.{true, false}
 use mathlib.Core.List.{List, _∷_, _++_, List·Memᴰ}
 use Rattle.model.specs.Word.{low, less, notProcess}
 use Rattle.model.specs.Syntax.{Site, Whole, Stmt, SKIP, STOP, assign, input, output, VAR, CHAN, SEQ, PAR, IF, WHILE, ALT}
-use Rattle.model.specs.Syntax.{Stmts, noStmt, stmt, Pairs, noPair, pair, Guards, noGuard, inputGuard, skipGuard}
+use Rattle.model.specs.Syntax.{Stmts, noStmt, stmt, Pairs, Guards, noGuard, inputGuard, skipGuard}
 use Rattle.model.specs.Reader.{names}
 use Rattle.model.specs.Counts.{need, sumNeed}
 use Rattle.model.specs.Instruction.{ldc, ldlp, cj, ajw, stl, Instruction, plain, distance, operation}
@@ -64,11 +64,10 @@ pub data Guarded (σ : Store) (c : Site) : Guards → Type 0 where
   g-past-input : {e : Whole} {d x : Site} {s : Stmt} {gs : Guards} → Guarded σ c gs → Guarded σ c (inputGuard e d x s gs)
   g-past-skip : {e : Whole} {s : Stmt} {gs : Guards} → Guarded σ c gs → Guarded σ c (skipGuard e s gs)
 
--- steps without code: SKIP, an IF and a PAR of none
+-- steps without code: SKIP and a PAR of none
 pub data Skips : Process → Process → Type 0 where
   s-none : {p : Process} → Skips p p
   s-skip : {k : List Frame} {q : Process} → Skips (resume k) q → Skips (before SKIP k) q
-  s-if : {k : List Frame} {q : Process} → Skips (resume k) q → Skips (before (IF noPair) k) q
   s-par : {p : ℕ} {k : List Frame} {q : Process} → Skips (resume k) q → Skips (before (PAR p noStmt) k) q
 
 -- a statement with code
@@ -83,8 +82,7 @@ Coded (CHAN p n s) = Unit {0}
 Coded (SEQ ss) = Unit {0}
 Coded (PAR p noStmt) = ⊥
 Coded (PAR p (stmt s ss)) = Unit {0}
-Coded (IF noPair) = ⊥
-Coded (IF (pair e s ps)) = Unit {0}
+Coded (IF ps) = Unit {0}
 Coded (WHILE e s) = Unit {0}
 Coded (ALT gs) = Unit {0}
 
@@ -169,10 +167,8 @@ module _ (S : Setting) (a : Part) where
           → Seg (S .xs) (suc i) (code (S .word) (r .w) (suc i) s) m
           → Fine (S .word) a vars chans (r .w) s → Cont S a hi vars chans k m (r .w) → hi ≤ whole S + S .off i
           → Point (before (IF ps) k) up μ i r
-      pt-none : {ps : Pairs} {k : List Frame} {up : ℕ} {μ : Mem} {i t hi : ℕ} {r : Regs} → At S i (distance cj t i) → suc i ≤ t
-          → r .a ≡ 0 → FinePairs (S .word) a vars chans (r .w) ps → firstTrue σ ps k ≡ resume k → Cont S a hi vars chans k t (r .w)
-          → hi ≤ whole S + S .off i
-          → Point (before (IF ps) k) up μ i r
+      pt-none : {ps : Pairs} {k : List Frame} {up : ℕ} {μ : Mem} {i : ℕ} {r : Regs} → At S i (operation I.stopp) → Clear vars chans (r .w)
+          → FinePairs (S .word) a vars chans (r .w) ps → firstTrue σ ps k ≡ atStop k → Point (before (IF ps) k) up μ i r
       pt-while : {e : Whole} {s : Stmt} {k : List Frame} {up : ℕ} {μ : Mem} {i t m hi hi′ : ℕ} {r : Regs} → At S i (distance cj t i)
           → suc i ≤ t → FineWhole a vars e → r .a ≡ value σ e → Seg (S .xs) (suc i) (code (S .word) (r .w) (suc i) s) m
           → Fine (S .word) a vars chans (r .w) s → Cont S a hi′ vars chans (inWhile e s ∷ k) m (r .w)

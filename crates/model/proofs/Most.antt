@@ -142,11 +142,11 @@ most-branches noStmt = omega arith
 most-branches (stmt s ss) = omega (arith, most-begin s [], processes-one s, most-branches ss)
 
 -- an IF
-most-if : (σ : Store) (ps : Pairs) (k : List Frame) → most (firstTrue σ ps k) ≤ max (pairProcesses ps) (mostAfter k)
-unfolding firstTrue pairProcesses
-most-if σ noPair k = omega (arith, most-resume k)
+most-if : (σ : Store) (ps : Pairs) (k : List Frame) → most (firstTrue σ ps k) ≤ max (max 1 (pairProcesses ps)) (mostAfter k)
+unfolding firstTrue most pairProcesses
+most-if σ noPair k = omega arith
 most-if σ (pair e s ps) k =
-    of-cond (λ p. most p ≤ max (max (processes s) (pairProcesses ps)) (mostAfter k)) (isTrue σ e) (omega (arith, most-begin s k))
+    of-cond (λ p. most p ≤ max (max 1 (max (processes s) (pairProcesses ps))) (mostAfter k)) (isTrue σ e) (omega (arith, most-begin s k))
     (omega (arith, most-if σ ps k))
 
 -- an ALT

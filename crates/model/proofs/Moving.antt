@@ -17,7 +17,7 @@ use Rattle.model.specs.Occam.{framesOf}
 use Rattle.model.specs.Demand.{liveIn}
 use Rattle.model.proofs.Parts.{Part, Within}
 use Rattle.model.proofs.Conts.{Placed}
-use Rattle.model.proofs.Marks.{Own, Skips, s-none, s-skip, s-if, s-par, Settled}
+use Rattle.model.proofs.Marks.{Own, Skips, s-none, s-skip, s-par, Settled}
 use Rattle.model.proofs.Trees.{some-same, Label, alone, alone-part, alone-info, Info, Tree, labelAt, bytesLeft, leaf-bytes}
 use Rattle.model.proofs.Trees.{Kept, kept}
 use Rattle.model.proofs.Zones.{zoneOf}
@@ -69,7 +69,6 @@ settled-silent {c = c} {v} {k} h e = subst (λ z. Settled z) e h
 pub skips-silent : {p q : Process} {c : Site} {v : ℕ} {k : List Frame} → Skips p q → Settled q → p ≡ atOutput c v k → ⊥
 skips-silent s-none h e = settled-silent h e
 skips-silent (s-skip s) h e = never (cc)
-skips-silent (s-if s) h e = never (cc)
 skips-silent (s-par s) h e = never (cc)
 
 pub settled-leaf : (q : Process) → Settled q → Leaf q

@@ -70,7 +70,7 @@ module _ (S : Setting) where
     point-in h μ i r (pt-var op f l j e z m) = rw e (inside S (op .inits _ j .1))
     point-in h μ i r (pt-chan op f l j e z m) = rw e (inside S (op .inits _ j .1))
     point-in h μ i r (pt-taken d x v fa e g f c n) = inside S x
-    point-in h μ i r (pt-none x l v fa e c n) = inside S x
+    point-in h μ i r (pt-none x c fa e) = inside S x
     point-in h μ i r (pt-while x l fe v g f c n d m) = inside S x
     point-in h μ i r (pt-in x v c y f k n) = inside S x
     point-in h μ i r (pt-out x v small c f y k n) = inside S x

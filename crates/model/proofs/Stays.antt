@@ -64,8 +64,8 @@ module _ (S : Setting) (b : Part) (vars chans : List Site) {σ τ : Store}
       pt-chan op f l j e z (λ k d. h (r .w + k) (omega (arith, op .room)) (omega (arith, cont-low S b (op .after))) ∙ m k d)
   point-stays {r} h (pt-taken {ps} d {k} a v fa e g f c n) =
       pt-taken d a v fa (sym (pairs-same b vars same (S .word) chans (r .w) ps k fa) ∙ e) g f c n
-  point-stays {r} h (pt-none {ps} {k} a l v fa e c n) =
-      pt-none a l v fa (sym (pairs-same b vars same (S .word) chans (r .w) ps k fa) ∙ e) c n
+  point-stays {r} h (pt-none {ps} {k} a c fa e) =
+      pt-none a c fa (sym (pairs-same b vars same (S .word) chans (r .w) ps k fa) ∙ e)
   point-stays h (pt-while {e} a l fe v g f c n d m) = pt-while a l fe (v ∙ value-same b vars same e fe) g f c n d m
   point-stays h (pt-in a v c x f k n) = pt-in a v c x f k n
   point-stays h (pt-out {e} a v small c f x k n) =

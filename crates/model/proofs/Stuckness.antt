@@ -11,7 +11,7 @@ use Rattle.model.proofs.Ways.{Regs, Mem}
 use Rattle.model.proofs.Points.{Setting}
 use Rattle.model.proofs.Paths.{look-prefix, prefixed, look-under, under, par-whole}
 use Rattle.model.proofs.Parts.{Part}
-use Rattle.model.proofs.Marks.{Ready, r-input, r-skip, r-past-input, r-past-skip, Skips, s-none, s-skip, s-if, s-par}
+use Rattle.model.proofs.Marks.{Ready, r-input, r-skip, r-past-input, r-past-skip, Skips, s-none, s-skip, s-par}
 use Rattle.model.proofs.Marks.{Settled, Disabling, AltPoint, pt-enable, pt-wait, pt-disable, pt-choose}
 use Rattle.model.proofs.Arrivals.{Comes, comes}
 use Rattle.model.proofs.Onwards.{picks-choice, ready-picks, rest-ready, AltGoes}
@@ -72,7 +72,6 @@ settled-active finished h = a-ends
 skips-active : {st : State} {p : Process} (q : Process) → Settled q → Skips p q → Active st p
 skips-active q h s-none = settled-active q h
 skips-active q h (s-skip m) = a-begins
-skips-active q h (s-if m) = a-begins
 skips-active q h (s-par m) = a-begins
 
 module _ (S : Setting) (a : Part) {st : State} where

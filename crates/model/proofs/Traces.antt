@@ -4,13 +4,13 @@ use native.Mathlib.Omega.{arith}
 use mathlib.Core.Path.{_≡_, refl, ap, subst}
 use mathlib.Core.List.{List, [], _∷_, _++_}
 use mathlib.Core.Option.{some}
-use Rattle.model.specs.Syntax.{SKIP, PAR, IF, noPair, noStmt, Stmt}
-use Rattle.model.specs.Occam.{Frame, Process, before, resume, look, put, go, firstTrue, State, Communication, Step, begins}
+use Rattle.model.specs.Syntax.{SKIP, PAR, noStmt, Stmt}
+use Rattle.model.specs.Occam.{Frame, Process, before, resume, look, put, moved, go, State, Communication, Step, begins}
 use Rattle.model.specs.Occam.{Event, Outside}
 use Rattle.model.specs.Demand.{step, outside, Segment, Valid, reaches, steps, eventsOf, communications}
 use Rattle.model.proofs.Paths.{look-put-same, put-put-same, put-found}
 use Rattle.model.proofs.Most.{most, step-most, outside-most}
-use Rattle.model.proofs.Marks.{Skips, s-none, s-skip, s-if, s-par}
+use Rattle.model.proofs.Marks.{Skips, s-none, s-skip, s-par}
 use Rattle.model.proofs.Puts.{putting}
 
 -- moves that lead from one state to another
@@ -52,30 +52,33 @@ trace-most (t-event s m) = omega (arith, outside-most s, trace-most m)
 pub data Moves (st st′ : State) (cs : List Communication) : Type 0 where
   moves : (g : Segment) → Trace st g st′ cs [] → Moves st st′ cs
 
+-- the step that begins a statement, where it leaves the variables
+pub begins-as : {st : State} (path : List ℕ) {s : Stmt} {k : List Frame} {p : Process} → look path (st .process) ≡ some (before s k)
+    → go s k (st .store) ≡ moved p (st .store) → Step st [] (putting path p st)
+begins-as {st} path e f =
+    subst (λ z. Step st [] (record { process = put path (z .process) (st .process); store = z .store; offers = st .offers })) f
+    (begins path e)
+
 -- a statement whose step leads on at once, and what follows
 one-more : {st : State} (q : Process) (path : List ℕ) (s : Stmt) (k : List Frame) → look path (st .process) ≡ some (before s k)
-    → go s k (st .store) ≡ record { process = resume k; store = st .store }
+    → go s k (st .store) ≡ moved (resume k) (st .store)
     → Moves (putting path (resume k) st) (putting path q (putting path (resume k) st)) [] → Moves st (putting path q st) []
 one-more {st} q path s k e f (moves g m) =
     moves (step [] (putting path (resume k) st) ∷ g)
-    (t-step
-    (subst (λ z. Step st [] (record { process = put path (z .process) (st .process); store = z .store; offers = st .offers })) f
-    (begins path e))
+    (t-step (begins-as path e f)
     (subst (λ z. Trace (putting path (resume k) st) g (record { process = z; store = st .store; offers = st .offers }) [] [])
     (put-put-same path q (resume k) (st .process)) m))
 
 -- a process takes the steps without code that are next
 pub skip-moves : {st : State} (path : List ℕ) {p q : Process} → look path (st .process) ≡ some p → Skips p q
     → Moves st (putting path q st) []
-unfolding go firstTrue
+unfolding go
 skip-moves {st} path e s-none = same-state (put-found path (st .process) e)
   where
     same-state : {p : Process} → p ≡ st .process → Moves st (record { process = p; store = st .store; offers = st .offers }) []
     same-state e = rw (e) (moves [] t-none)
 skip-moves {st} path e (s-skip {k} {q} s) =
     one-more q path SKIP k e refl (skip-moves path (look-put-same path (st .process) (resume k) e) s)
-skip-moves {st} path e (s-if {k} {q} s) =
-    one-more q path (IF noPair) k e refl (skip-moves path (look-put-same path (st .process) (resume k) e) s)
 skip-moves {st} path e (s-par {p} {k} {q} s) =
     one-more q path (PAR p noStmt) k e refl (skip-moves path (look-put-same path (st .process) (resume k) e) s)
 

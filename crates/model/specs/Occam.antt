@@ -120,9 +120,10 @@ unfoldable pub branches : Stmts → Branches
 branches noStmt = noBranch
 branches (stmt s ss) = branch (begin s []) (branches ss)
 
--- an IF takes its first true branch, or goes on where none is true
+-- an IF takes its first true branch; with no true condition, or with no pairs, it comes to a wait, as at STOP (02, order 1, which
+-- prevails here over 01 and 004; 001 has it so)
 unfoldable pub firstTrue : Store → Pairs → List Frame → Process
-firstTrue σ noPair k = resume k
+firstTrue σ noPair k = atStop k
 firstTrue σ (pair e s ps) k = cond (isTrue σ e) (begin s k) (firstTrue σ ps k)
 
 -- a process and the store after a step

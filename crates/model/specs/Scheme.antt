@@ -84,7 +84,7 @@ unfoldable mutual
   sizeEnds (stmt s ss) = size s + 2 + sizeEnds ss
 
   pub sizePairs : Pairs → ℕ
-  sizePairs noPair = 0
+  sizePairs noPair = 1
   sizePairs (pair e s ps) = wholeSize e + 1 + size s + 1 + sizePairs ps
 
   pub sizeEnable : Guards → ℕ
@@ -193,9 +193,10 @@ module _ (word : Site → ℕ) where
     codeEnds w d i (stmt s ss) =
         code (w - d) i s ++ plain ldlp d ∷ operation endp ∷ codeEnds w (d + need s) (i + size s + 2) ss
 
-    -- IF, per pair: condition, CJ next, statement, J end; the last pair too
+    -- IF, per pair: condition, CJ next, statement, J end; the last pair too. 02, order 1: one STOPP after the last pair, before the end
+    -- that each J reaches
     pub codePairs : (w i over : ℕ) → Pairs → List Instruction
-    codePairs w i over noPair = []
+    codePairs w i over noPair = operation stopp ∷ []
     codePairs w i over (pair e s ps) =
         let test = i + wholeSize e in
         let leave = test + 1 + size s in

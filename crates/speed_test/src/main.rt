@@ -72,51 +72,53 @@ fn measure(name: &[u8], code: &[u8]) {
 //     WHILE i > -1: s := s * 3 + (i XOR s); IF s > i: s := s - i, 1: SKIP; i := i + 1
 //
 // AJW -2; LDC 0; STL 0; LDC 0; STL 1
-// LDL 0; LDC -1; GT; CJ 43
+// LDL 0; LDC -1; GT; CJ 45
 // LDL 1; LDC 3; PROD; LDL 0; LDL 1; XOR; SUM; STL 1
-// LDL 1; LDL 0; GT; CJ 8; LDL 1; LDL 0; DIFF; STL 1; J 9
-// LDC 1; CJ 4; J 0
-// LDL 0; LDC 1; SUM; STL 0; J -51; AJW 2
+// LDL 1; LDL 0; GT; CJ 8; LDL 1; LDL 0; DIFF; STL 1; J 11
+// LDC 1; CJ 4; J 2; STOPP
+// LDL 0; LDC 1; SUM; STL 0; J -53; AJW 2
 fn arithmetic() {
     measure(
         b"arithmetic",
         b"\x60\xbe\x40\xd0\x40\xd1\
-        \x70\x60\x4f\xf9\x20\x20\x22\xab\
+        \x70\x60\x4f\xf9\x20\x20\x22\xad\
         \x71\x43\xf8\x70\x71\x23\xf3\x25\xf2\xd1\
-        \x71\x70\xf9\x20\x20\x20\xa8\x71\x70\xf4\xd1\x20\x20\x20\x09\
-        \x41\x20\x20\x20\xa4\x20\x20\x20\x00\
-        \x70\x41\x25\xf2\xd0\x60\x2f\x2c\x0d\xb2",
+        \x71\x70\xf9\x20\x20\x20\xa8\x71\x70\xf4\xd1\x20\x20\x20\x0b\
+        \x41\x20\x20\x20\xa4\x20\x20\x20\x02\x21\xf5\
+        \x70\x41\x25\xf2\xd0\x60\x2f\x2c\x0b\xb2",
     );
 }
 
 // The same with a communication in every sixteenth turn. VAR i, s, t: CHAN c:
-//     WHILE i > -1: s and IF as above; IF (i AND 15) = 0: (PAR c ! s + 1, c ? t); s := s XOR t; i := i + 1
+//     WHILE i > -1: s and IF as above; IF (i AND 15) = 0: (PAR c ! s + 1, c ? t); s := s XOR t, 1: SKIP; i := i + 1
 //
 // AJW -3; LDC 0; STL 0; LDC 0; STL 1; LDC 0; STL 2; AJW -1; MINT; STL 0
-// LDL 1; LDC -1; GT; CJ 100
+// LDL 1; LDC -1; GT; CJ 113
 // LDL 2; LDC 3; PROD; LDL 1; LDL 2; XOR; SUM; STL 2
-// LDL 2; LDL 1; GT; CJ 8; LDL 2; LDL 1; DIFF; STL 2; J 9
-// LDC 1; CJ 4; J 0
+// LDL 2; LDL 1; GT; CJ 8; LDL 2; LDL 1; DIFF; STL 2; J 11
+// LDC 1; CJ 4; J 2; STOPP
 // LDL 1; LDC 15; AND; LDC 0; DIFF; EQC 0; CJ 46
 // AJW -2; LDC 28; LDPI; STL 0; LDC 2; STL 1; LDC 12; LDLP -4; STARTP
 // LDL 4; LDC 1; SUM; LDLP 2; REV; AJW -1; OUTWORD; AJW 1; LDLP 0; ENDP
 // LDLP 9; LDLP 6; LDC 4; IN; LDLP 4; ENDP
-// AJW 2; LDL 2; LDL 3; XOR; STL 2; J 0
-// LDL 1; LDC 1; SUM; STL 1; J -108; AJW 1; AJW 3
+// AJW 2; LDL 2; LDL 3; XOR; STL 2; J 11
+// LDC 1; CJ 4; J 2; STOPP
+// LDL 1; LDC 1; SUM; STL 1; J -121; AJW 1; AJW 3
 fn mixed() {
     measure(
         b"mixed",
         b"\x60\xbd\x40\xd0\x40\xd1\x40\xd2\x60\xbf\x24\xf2\xd0\
-        \x71\x60\x4f\xf9\x20\x20\x26\xa4\
+        \x71\x60\x4f\xf9\x20\x20\x27\xa1\
         \x72\x43\xf8\x71\x72\x23\xf3\x25\xf2\xd2\
-        \x72\x71\xf9\x20\x20\x20\xa8\x72\x71\xf4\xd2\x20\x20\x20\x09\
-        \x41\x20\x20\x20\xa4\x20\x20\x20\x00\
+        \x72\x71\xf9\x20\x20\x20\xa8\x72\x71\xf4\xd2\x20\x20\x20\x0b\
+        \x41\x20\x20\x20\xa4\x20\x20\x20\x02\x21\xf5\
         \x71\x4f\x24\xf6\x40\xf4\xc0\x20\x20\x22\xae\
         \x60\xbe\x20\x20\x21\x4c\x21\xfb\xd0\x42\xd1\x20\x20\x20\x4c\x60\x1c\xfd\
         \x74\x41\x25\xf2\x12\xf0\x60\xbf\xff\xb1\x10\xf3\
         \x19\x16\x44\xf7\x14\xf3\
-        \xb2\x72\x73\x23\xf3\xd2\x20\x20\x20\x00\
-        \x71\x41\x25\xf2\xd1\x60\x2f\x29\x04\xb1\xb3",
+        \xb2\x72\x73\x23\xf3\xd2\x20\x20\x20\x0b\
+        \x41\x20\x20\x20\xa4\x20\x20\x20\x02\x21\xf5\
+        \x71\x41\x25\xf2\xd1\x60\x2f\x28\x07\xb1\xb3",
     );
 }
 

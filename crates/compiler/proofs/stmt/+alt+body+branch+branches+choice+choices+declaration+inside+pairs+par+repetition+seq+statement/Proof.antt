@@ -315,6 +315,8 @@ inside-claims t = (
 
 abbrev pairs-claims : ℕ → pairs-lts.Claims
 pairs-claims t = (
+  operation-reads.Asked,
+  operation-reads.Learnt,
   gen-expr-reads.Asked,
   gen-expr-reads.Learnt,
   plus-reads.Asked,
@@ -550,7 +552,7 @@ inside-returns-6 t c =
     (r .alt .ensures)
 
 pairs-returns : (t : ℕ) → pairs-lts.Need-returns (pairs-claims t) (pairs-at t) pairs.Post
-pairs-returns t c = if-none _ _ _ _ _ _ _ _ (c .if1 .taken)
+pairs-returns t c = let e = c .before .before in if-none _ _ _ _ _ _ _ _ (e .before .before .if1 .taken) (e .operation .ensures)
 
 pairs-returns-2 : (t : ℕ) → pairs-lts.Need-returns-2 (pairs-claims t) (pairs-at t) pairs.Post
 pairs-returns-2 t c =
@@ -765,6 +767,8 @@ pub +alt+body+branch+branches+choice+choices+declaration+inside+pairs+par+repeti
     (λ t. pairs-lts.spec (pairs-claims t)
     (pairs-at t)
     pairs.Post
+    (λ c κs. search needs)
+    (λ c. search needs)
     (pairs-returns t)
     (λ c κs. search needs)
     (λ c κs. search needs)

@@ -1,11 +1,11 @@
--- `bench::print` meets its contract. The memory keeps its length, and each turn leaves fewer turns. Assumes nothing.
+-- `console::print` meets its contract. The memory keeps its length, and each turn leaves fewer turns. Assumes nothing.
 use mathlib.Core.Path.{_≡_, refl, _∙_}
 use borrow.Author.Needs.{needs}
 use borrow.Author.Tests.{not-false}
 use lib.ListN.{length}
 use Rattle.report.specs.Texts.{turnsLeft}
-use Rattle.bench.proofs.print.Statement.{statement}
-use Rattle.bench.proofs.print.Tie as tie
+use Rattle.console.proofs.print.Statement.{statement}
+use Rattle.console.proofs.print.Tie as tie
 
 abbrev Inv-loop : tie.InvT-loop
 Inv-loop code memory₀ report₀ memory report = length memory ≡ length memory₀

@@ -1,12 +1,11 @@
--- `bench::write` meets its contract. Assumes nothing.
-use Prim.Native.Nat.{_≤_}
+-- `console::write` meets its contract. Assumes nothing.
 use native.Mathlib.Omega.{arith}
 use mathlib.Core.Path.{_≡_, sym}
 use borrow.Author.Needs.{needs}
 use lib.ListN.{length}
 use lib.Seq.{length-take-le}
-use Rattle.bench.proofs.write.Statement.{statement}
-use Rattle.bench.proofs.write.Tie as tie
+use Rattle.console.proofs.write.Statement.{statement}
+use Rattle.console.proofs.write.Tie as tie
 
 array-share-prefix-bytes : tie.Need-array-share-prefix-bytes
 array-share-prefix-bytes c =

@@ -1,0 +1,57 @@
+// The report of a table, written to standard output: for the bench program and for tests of it.
+ghost use mathlib.Core.Path.{_≡_};
+ghost use Prim.Native.Nat.{_≤_};
+ghost use lib.ListN.{length};
+
+// Room for the longest code.
+fn code_room() -> [u8; 16384]
+    ensures { λ r. ⌜ 16384 ≡ length r ⌝ }
+{
+    [0; 16384]
+}
+
+// Room for the largest memory.
+fn memory_room() -> [u32; 4096]
+    ensures { λ r. ⌜ 4096 ≡ length r ⌝ }
+{
+    [0; 4096]
+}
+
+// A piece has 64 bytes.
+fn shown(length: usize) -> usize
+    ensures { λ r. ⌜ r ≤ 64 ⌝ }
+{
+    if length < 64 {
+        return length;
+    }
+    64
+}
+
+// Writes a piece of the text.
+fn write(piece: report::Piece) {
+    let bytes = piece.bytes;
+    let n = shown(piece.length);
+    io::write_all(1, &bytes[..n]);
+}
+
+// Writes the text that is still to come.
+fn print(start: report::Report, code: &[u8], memory: &mut [u32]) {
+    let mut report = start;
+    loop {
+        let turn = report::next(report, code, memory);
+        if !turn.more {
+            return;
+        }
+        let piece = turn.piece;
+        write(piece);
+        report = turn.report;
+    }
+}
+
+// Writes what the bench program prints for a table.
+pub fn print_report(table: &[u8]) {
+    let mut code = code_room();
+    let mut memory = memory_room();
+    let opened = report::open(table, &mut code, &mut memory);
+    print(opened, &code, &mut memory);
+}
