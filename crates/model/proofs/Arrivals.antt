@@ -438,8 +438,7 @@ module _ (S : Setting) (a : Part) where
           → Comes vars chans hi (before (IF ps) k) i w
       unfolding code
       if-comes ps g f =
-          let over = i + sizePairs ps in
-          let p : over ≡ i′ = sym (seg-length g ∙ ap (λ n. i + n) (pairs-length (S .word) w i over ps)) in
+          let p : i + sizePairs ps ≡ i′ = sym (seg-length g ∙ ap (λ n. i + n) (pairs-length (S .word) w i _ ps)) in
           comes s-none tt (here c) (pairs-way c v ps ps (rw p at g) (f .0) (f .1) (f .1) refl near)
 
       while-comes : (e : Whole) (s : Stmt) → Seg (S .xs) i (code (S .word) w i (WHILE e s)) i′

@@ -117,7 +117,7 @@ module _ (word : Site → ℕ) (count : ℕ) where
         ⊕ omega arith ▸ nil-fits
     code-fits sc w i (SEQ ss) h hn hi = all-fit sc w i ss h (omega arith) hi
     code-fits sc w i (PAR p ss) h hn hi = par-fits sc w i ss (h .0) (h .1) (omega arith) hi
-    code-fits sc w i (IF ps) h hn hi = pairs-fit sc w i (i + sizePairs ps) ps h (omega arith) hi hi
+    code-fits sc w i (IF ps) h hn hi = pairs-fit sc w i _ ps h (omega arith) (omega arith) hi
     code-fits sc w i (WHILE e s) h hn hi =
         expr-fits sc w (e .expr) (h .0)
         ⊕ omega arith ▸ code-fits sc w (i + exprSize (e .expr) + 1) s (h .1) (omega arith) (omega arith)

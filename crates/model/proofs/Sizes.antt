@@ -70,7 +70,7 @@ module _ (word : Site → ℕ) where
         simp (length-append, initialise-length, code-length (w - n) (i + 1 + (n + n)) s) (omega arith)
     code-length w i (SEQ ss) = all-length w i ss
     code-length w i (PAR p ss) = par-length w i ss
-    code-length w i (IF ps) = pairs-length w i (i + sizePairs ps) ps
+    code-length w i (IF ps) = pairs-length w i _ ps
     code-length w i (WHILE e s) =
         simp (length-append, expr-length, code-length w (i + exprSize (e .expr) + 1) s) (omega arith)
     code-length w i (ALT gs) =
