@@ -119,7 +119,8 @@ module _ (L : Loaded) where
     steps-on u p ran talk real run operand place work inner e l live quiet c placed near =
         advances L real (A .leaf) (A .rest) (A .lined) clean (before-silent d k) p l
         (record { vars = i .vars; chans = i .chans; w = cpuOf s .workspace; left = whole (S L) }) placed (omega arith)
-        (A .rest .vars (node L (A .leaf))) (A .rest .chans (node L (A .leaf))) live quiet (begins-as path (A .leaf .found) e) ran (silent L s u talk)
+        (A .rest .vars (node L (A .leaf))) (A .rest .chans (node L (A .leaf))) live quiet (begins-as path (A .leaf .found) e) ran
+        (silent L s u talk)
         (record { run = run; operand = operand; place = place; work = work; inside = inner }) c clean near
 
     -- CJ with a true condition: on to what stands behind it
@@ -164,7 +165,8 @@ module _ (L : Loaded) where
         let near-on : h ≤ whole (S L) + L .off (suc at) = omega (arith, S L .rises at (suc at) (omega arith) (A .inside)) in
         let near-end : h ≤ whole (S L) + L .off m =
         omega (arith, rises-le (S L) (suc at) m (omega (arith, seg-length g)) (cont-inside (S L) b c)) in
-        goes-on A clean v (ap (λ p. moved p (st .store)) e) (leaf-begin d k) (live-begin d k (i .vars) (live-here A clean)) (λ c v f e. silent-begin d k e)
+        goes-on A clean v (ap (λ p. moved p (st .store)) e) (leaf-begin d k) (live-begin d k (i .vars) (live-here A clean))
+        (λ c v f e. silent-begin d k e)
         (enters (S L) b (st .store) d g f c near-on sound (arrives (S L) b (st .store) c near-end sound)) (cont-placed (S L) b c) near-on
 
     -- a WHILE's test

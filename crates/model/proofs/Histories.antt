@@ -39,7 +39,8 @@ module _ (code : List ℕ) where
   run-stays : (b n : ℕ) (s : World) → (ended (s .machine) || waits (s .machine)) ≡ true → runFrom b code n s .world ≡ s
   run-stays b n s z =
       by-bool (ended (s .machine)) (λ e. ap (λ (f : Finish). f .world) (run-ends code n s b e))
-      (λ e. by-bool (s .machine .cpu .running) (λ r. never (cc (rw (e, r) at z))) (λ r. ap (λ (f : Finish). f .world) (run-waits code n s b r)))
+      (λ e. by-bool (s .machine .cpu .running) (λ r. never (cc (rw (e, r) at z)))
+      (λ r. ap (λ (f : Finish). f .world) (run-waits code n s b r)))
 
   bytes-stay : (b : ℕ) (rest : List ℕ) (s : World) → (ended (s .machine) || waits (s .machine)) ≡ true → bytes b code rest s ≡ []
   unfolding bytes
