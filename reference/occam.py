@@ -500,7 +500,7 @@ class Machine:
         at %= WORD
         if at >= self.base + self.inputs + self.outputs:
             raise Fault("word", at)
-        return self.writes.get(at, self.memory[at] if at not in self.writes else 0)
+        return self.writes[at] if at in self.writes else self.memory[at]
 
     def store(self, at, value):
         at %= WORD
