@@ -1,5 +1,6 @@
-"""Document 01 and the orders of document 02 that apply, written again apart from the Rattle code: the reader of tables, the compiler and
-the machine. It gives the test programs' expected output (expect.py). Names in brackets are places in the documents."""
+"""Document 01 and the orders of document 02 that apply, in Python: the reader of tables, the compiler and the machine. It has no code in
+common with the Rattle side, and gives the test programs' expected output (expect.py); docs/DECISIONS.md, 65, says how far that goes. Names
+in brackets are places in the documents."""
 
 WORD = 1 << 32
 NOT_PROCESS = 0x80000000

@@ -48,7 +48,8 @@ fn print(start: report::Report, code: &[u8], memory: &mut [u32]) {
     }
 }
 
-// Writes what the bench program prints for a table.
+// Writes what the bench program prints for a table. What is written are the pieces that `report` promises; a contract cannot speak of what
+// a call of the system wrote, so there is none here.
 pub fn print_report(table: &[u8]) {
     let mut code = code_room();
     let mut memory = memory_room();
