@@ -86,14 +86,10 @@ class Reader:
         left = self.expression(depth + 1, vs)
         return "binary", operator, left, self.expression(depth + 1, vs)
 
-    def whole(self, depth, vs):
-        place = self.at
-        return self.expression(depth, vs), place
-
     def guard(self, depth, vs, cs):
         if self.ranged(0, 1) == 1:
-            return "skip", self.whole(depth, vs), self.statement(depth, vs, cs)
-        condition = self.whole(depth, vs)
+            return "skip", self.expression(depth, vs), self.statement(depth, vs, cs)
+        condition = self.expression(depth, vs)
         channel = self.name(cs, "out")
         variable = self.name(vs)
         return "input", condition, channel, variable, self.statement(depth, vs, cs)
@@ -106,11 +102,11 @@ class Reader:
         if kind == 1:
             return ("STOP",)
         if kind == 2:
-            return "assign", self.name(vs), self.whole(inner, vs)
+            return "assign", self.name(vs), self.expression(inner, vs)
         if kind == 3:
             return "input", self.name(cs, "out"), self.name(vs)
         if kind == 4:
-            return "output", self.name(cs, "in"), self.whole(inner, vs)
+            return "output", self.name(cs, "in"), self.expression(inner, vs)
         if kind in (5, 6):
             names = [Name() for _ in range(self.ranged(1, 32))]
             if kind == 5:
@@ -121,9 +117,9 @@ class Reader:
         if kind == 8:
             return "PAR", [self.statement(inner, vs, cs) for _ in range(self.ranged(0, 16))], place
         if kind == 9:
-            return "IF", [(self.whole(inner, vs), self.statement(inner, vs, cs)) for _ in range(self.ranged(0, 32))]
+            return "IF", [(self.expression(inner, vs), self.statement(inner, vs, cs)) for _ in range(self.ranged(0, 32))]
         if kind == 10:
-            condition = self.whole(inner, vs)
+            condition = self.expression(inner, vs)
             return "WHILE", condition, self.statement(inner, vs, cs)
         return "ALT", [self.guard(inner, vs, cs) for _ in range(self.ranged(0, 32))]
 
@@ -182,7 +178,7 @@ def usage(s):
     """Names that a branch changes, uses, inputs from and outputs to. Names that it declares are objects of no other branch."""
     changes, uses, inputs, outputs = set(), set(), set(), set()
     for p in inside(s):
-        for e, _ in wholes(p):
+        for e in wholes(p):
             uses.update(variables(e))
         if p[0] == "assign":
             changes.add(p[1])
@@ -201,11 +197,27 @@ def clash(branches):
 
 
 def registers(e):
+    """[02, order 2] What an expression needs, never over 3."""
     if e[0] in ("constant", "variable"):
         return 1
     if e[0] == "not":
         return registers(e[1])
-    return max(registers(e[2]), 1 + registers(e[3]))
+    left, right = registers(e[2]), registers(e[3])
+    return min(3, left + 1 if left == right else max(left, right))
+
+
+def stores(left, right):
+    """[02, order 2] The right value is stored where both sides need 3 registers."""
+    return registers(left) == registers(right) == 3
+
+
+def stored(e):
+    """[02, order 2] The values that an expression holds together at most."""
+    if e[0] in ("constant", "variable"):
+        return 0
+    if e[0] == "not":
+        return stored(e[1])
+    return max(stored(e[2]) + (1 if stores(e[2], e[3]) else 0), stored(e[3]))
 
 
 def processes(s):
@@ -220,18 +232,19 @@ def need(s):
         return len(s[1]) + inner[0]
     if s[0] == "PAR":
         return 2 + sum(inner)
-    return max(inner + [{"input": 3, "output": 4, "ALT": 4}.get(s[0], 2)])
+    least = {"input": 3, "output": 4, "ALT": 4}.get(s[0], 2)
+    held = max([stored(e) for e in wholes(s)], default=0)
+    if held:  # [02, order 2]
+        least = max(least, held + {"output": 3, "ALT": 8}.get(s[0], 2))
+    return max(inner + [least])
 
 
 def read(table):
-    """A program, or the refusals 1 to 9."""
+    """A program, or the refusals 1 to 7 and 9."""
     inputs, outputs, channels, body = program = Reader(table).program()
     for s in inside(body):
         if s[0] == "PAR" and clash(s[1]):
             raise Refused(7, s[2])
-    deep = [place for s in inside(body) for e, place in wholes(s) if registers(e) > 3]
-    if deep:
-        raise Refused(8, min(deep))
     if processes(body) > 64:
         raise Refused(9, 0)
     return program
@@ -265,23 +278,45 @@ class Generator:
     def mark(self, label):
         self.items.append(label)
 
-    def expression(self, e, w):
+    def expression(self, e, w, held):
+        """`held` values are stored before it."""
         if e[0] == "constant":
             self.put(LDC, signed(e[1]))
         elif e[0] == "variable":
             self.put(LDL, e[1].word - w)
         elif e[0] == "not":
-            self.expression(e[1], w)
+            self.expression(e[1], w, held)
             self.put(EQC, 0)
         else:
-            self.expression(e[2], w)
-            self.expression(e[3], w)
+            self.sides(e[2], e[3], w, held)
             self.op((SUM, DIFF, PROD, GT, DIFF, AND, OR, XOR)[e[1]])
             if e[1] == 4:
                 self.put(EQC, 0)
 
-    def whole(self, e, w):
-        self.expression(e[0], w)
+    def sides(self, left, right, w, held):
+        """[02, order 2] Right first where it needs more, or where it is stored."""
+        if stores(left, right):
+            self.expression(right, w, held)
+            self.put(STL, held)
+            self.expression(left, w, held + 1)
+            self.put(LDL, held)
+        elif registers(left) < registers(right):
+            self.expression(right, w, held)
+            self.expression(left, w, held)
+            self.op(REV)
+        else:
+            self.expression(left, w, held)
+            self.expression(right, w, held)
+
+    def whole(self, e, w, below=0):
+        """[02, order 2] An expression that stands in no other: wrapped where it stores, in a guard below the ALT's words."""
+        t = stored(e)
+        n = t + below if t else 0
+        if n:
+            self.put(AJW, -n)
+        self.expression(e, w - n, 0)
+        if n:
+            self.put(AJW, n)
 
     def input(self, channel, variable, w):
         self.put(LDLP, variable.word - w)
@@ -356,7 +391,7 @@ class Generator:
         self.put(AJW, -1)
         self.op(ALT)
         for g in guards:
-            self.whole(g[1], w - 1)
+            self.whole(g[1], w - 1, 5)
             if g[0] == "input":
                 self.put(LDLP, g[2].word - (w - 1))
                 self.op(REV, ENBC)
@@ -364,7 +399,7 @@ class Generator:
                 self.op(ENBS)
         self.op(ALTWT)
         for g, branch in zip(guards, branches):
-            self.whole(g[1], w - 1)
+            self.whole(g[1], w - 1, 5)
             if g[0] == "input":
                 self.put(LDLP, g[2].word - (w - 1))
                 self.op(REV)
@@ -452,7 +487,7 @@ def coded(function, v, count):
 
 
 class Compiled:
-    """A program's facts and code, or the refusals 1 to 10."""
+    """A program's facts and code, or the refusals 1 to 7, 9 and 10."""
 
     def __init__(self, table):
         self.inputs, self.outputs, channels, body = read(table)

@@ -8,7 +8,7 @@ use mathlib.Core.List.{List, [], _∷_, _++_, append-assoc}
 use lib.ListN.{length, length-append}
 use lib.Seq.{sets}
 use Rattle.model.specs.Word.{low, less, minus}
-use Rattle.model.specs.Syntax.{Site, Whole, Stmt, ALT, Guards, noGuard, inputGuard, skipGuard}
+use Rattle.model.specs.Syntax.{Site, Expr, Stmt, ALT, Guards, noGuard, inputGuard, skipGuard}
 use Rattle.model.specs.Reader as M
 use Rattle.model.specs.Counts.{need, guardNeed}
 use Rattle.model.specs.Instruction as I
@@ -16,8 +16,8 @@ use Rattle.model.specs.Instruction.{Operation, Instruction, plain, distance, op
 use Rattle.model.specs.Instruction.{enbc, enbs, functionCode, operationCode}
 use Rattle.model.specs.Prefix.{fewest, fewestFrom, enough}
 use Rattle.model.specs.Code.{prefixesOf, bytesIn, encode}
-use Rattle.model.specs.Scheme.{size, sizeEnable, sizeDisable, sizeBranches, local, wholeCode, inputCode, code, codeEnable, codeDisable}
-use Rattle.model.specs.Scheme.{codeBranches}
+use Rattle.model.specs.Scheme.{size, sizeEnable, sizeDisable, sizeBranches, local, guardCode, inputCode, code, codeEnable, codeDisable}
+use Rattle.model.specs.Scheme.{codeBranches, altWords}
 use Rattle.model.proofs.Well.{Laid, LaidGuards}
 use Rattle.model.proofs.Sizes.{code-length, enable-length, disable-length, branches-length}
 use Rattle.emitter.specs.Emits.{at, operationInto}
@@ -26,13 +26,14 @@ use Rattle.emitter.specs.Simples.{inInto, inputInto}
 use Rattle.compiler.specs.Alts.{stmtInto, innerAt, guardInto, guarded, behindGuard, enableInto, enabling, disableInto, choiceInto}
 use Rattle.compiler.specs.Alts.{choicesInto}
 use Rattle.compiler.specs.declared.alt.Guard.{Guard}
-use Rattle.compiler.proofs.Spelled.{NumeralAt, OneAt, WholeAt, CountAt, StmtAt, GuardsAt, noGuardAt, inputGuardAt, skipGuardAt}
+use Rattle.compiler.proofs.Spelled.{NumeralAt, OneAt, ExprAt, CountAt, StmtAt, GuardsAt, noGuardAt, inputGuardAt, skipGuardAt}
+use Rattle.compiler.proofs.Planned.{next-is, Plans}
 use Rattle.compiler.proofs.Fills.{bytes-append, fill-then, fill-before, fill-swap, Room, room-left, emits-fills, emits-at}
 use Rattle.compiler.proofs.Fills.{distance-fills, Stands, stands-first, stands-next, stands-both, stands-last, gap-fills}
 use Rattle.compiler.proofs.Fills.{then-distance, then-operation, emits, distance-bytes}
-use Rattle.compiler.proofs.ExprCode.{expr-code, local-is}
-use Rattle.compiler.proofs.ExtentIs.{next-is, extent-is}
-use Rattle.compiler.proofs.Compiles.{scopeOf, Scoped, inner-scope, Placed, Written, Compiles}
+use Rattle.compiler.proofs.ExprCode.{whole-code, local-is}
+use Rattle.compiler.proofs.ExtentIs.{extent-is}
+use Rattle.compiler.proofs.Compiles.{scopeOf, Scoped, inner-scope, scope-depth, Placed, Written, Compiles}
 
 -- a guard, its condition written
 abbrev guardOf : (next here : ℕ) → Bool → Guard
@@ -55,60 +56,60 @@ same-less h n l =
     let e : h + n + 2 ^ 32 - h ≡ n + 2 ^ 32 = omega arith in
     rw e (omega arith)
 
-module _ (word : Site → ℕ) (workspace : ℕ → ℕ) (off : ℕ → ℕ) (s : List ℕ) where
+module _ (word : Site → ℕ) (workspace : ℕ → ℕ) (off : ℕ → ℕ) (s plan : List ℕ) (planned : Plans s plan) where
   -- a guard's enabling and its disabling begin with G
   abbrev Begins : (depth : ℕ) (vs cs : List ℕ) (w i next h : ℕ) (o : List ℕ) → Bool → List Instruction → Type 0
   Begins d vs cs w i n h o waits G =
-      Room h G → guardInto d w vs cs s i (at h o) ≡ guarded (guardOf n (h + bytesIn G) waits) (sets o h (encode off G))
+      Room h G → guardInto d w vs cs plan s i (at h o) ≡ guarded (guardOf n (h + bytesIn G) waits) (sets o h (encode off G))
 
   module _ {d : ℕ} {sc : M.Scope} {vs cs : List ℕ} (scope : Scoped word (suc d) sc vs cs) where
     -- what enabling and disabling begin with: the condition, and for a guard that waits LDLP channel, REV
-    abbrev waiting : (w : ℕ) → Whole → Site → List Instruction
-    waiting w e c = wholeCode word w e ++ plain ldlp (local word w c) ∷ operation rev ∷ []
+    abbrev waiting : (w : ℕ) → Expr → Site → List Instruction
+    waiting w e c = guardCode word w e ++ plain ldlp (local word w c) ∷ operation rev ∷ []
 
-    waiting-fills : {i n m p : ℕ} {e : Whole} {c : Site} (w h : ℕ) (o : List ℕ) → NumeralAt s i 0 n → WholeAt s (sc .variables) d n e m
+    waiting-fills : {i n m p : ℕ} {e : Expr} {c : Site} (w h : ℕ) (o : List ℕ) → NumeralAt s i 0 n → ExprAt s (sc .variables) d n e m
         → OneAt s (sc .channels) m c p → Begins d vs cs w i m h o true (waiting w e c)
     unfolding guardInto functionCode operationCode operationInto
     waiting-fills {e = e} {c = c} w h o k x ch r =
         rw (
           k .value,
-          expr-code word off s (scope .variables) w (x .expr) h o (room-left h (wholeCode word w e) _ r),
+          whole-code word off s altWords (omega arith) (scope .variables) planned w x h o (room-left h (guardCode word w e) _ r),
           ch .there .value,
           local-is word off s (scope .channels) w ch,
-          emits-fills off (plain ldlp (local word w c) ∷ operation rev ∷ []) h (wholeCode word w e) o r,
+          emits-fills off (plain ldlp (local word w c) ∷ operation rev ∷ []) h (guardCode word w e) o r,
         )
         refl
 
-    skipping-fills : {i n m : ℕ} {e : Whole} (w h : ℕ) (o : List ℕ) → NumeralAt s i 1 n → WholeAt s (sc .variables) d n e m
-        → Begins d vs cs w i m h o false (wholeCode word w e)
+    skipping-fills : {i n m : ℕ} {e : Expr} (w h : ℕ) (o : List ℕ) → NumeralAt s i 1 n → ExprAt s (sc .variables) d n e m
+        → Begins d vs cs w i m h o false (guardCode word w e)
     unfolding guardInto
-    skipping-fills w h o k x r = rw (k .value, expr-code word off s (scope .variables) w (x .expr) h o r) refl
+    skipping-fills w h o k x r = rw (k .value, whole-code word off s altWords (omega arith) (scope .variables) planned w x h o r) refl
 
-    enable-waits : (w : ℕ) (e : Whole) (c x : Site) (y : Stmt) (gs : Guards)
+    enable-waits : (w : ℕ) (e : Expr) (c x : Site) (y : Stmt) (gs : Guards)
         → codeEnable word w (inputGuard e c x y gs) ≡ waiting w e c ++ operation enbc ∷ [] ++ codeEnable word w gs
     unfolding codeEnable
     enable-waits w e c x y gs = simp append-assoc
 
-    enable-skips : (w : ℕ) (e : Whole) (y : Stmt) (gs : Guards)
-        → codeEnable word w (skipGuard e y gs) ≡ wholeCode word w e ++ operation enbs ∷ [] ++ codeEnable word w gs
+    enable-skips : (w : ℕ) (e : Expr) (y : Stmt) (gs : Guards)
+        → codeEnable word w (skipGuard e y gs) ≡ guardCode word w e ++ operation enbs ∷ [] ++ codeEnable word w gs
     unfolding codeEnable
     enable-skips w e y gs = simp append-assoc
 
-    disable-waits : (w choice b : ℕ) (e : Whole) (c x : Site) (y : Stmt) (gs : Guards)
+    disable-waits : (w choice b : ℕ) (e : Expr) (c x : Site) (y : Stmt) (gs : Guards)
         → codeDisable word w choice b (inputGuard e c x y gs)
         ≡ waiting w e c ++ disabling disc b choice ++ codeDisable word w choice (b + 1 + 4 + size y + 1) gs
     unfolding codeDisable
     disable-waits w choice b e c x y gs = simp append-assoc
 
-    disable-skips : (w choice b : ℕ) (e : Whole) (y : Stmt) (gs : Guards)
+    disable-skips : (w choice b : ℕ) (e : Expr) (y : Stmt) (gs : Guards)
         → codeDisable word w choice b (skipGuard e y gs)
-        ≡ wholeCode word w e ++ disabling diss b choice ++ codeDisable word w choice (b + 1 + size y + 1) gs
+        ≡ guardCode word w e ++ disabling diss b choice ++ codeDisable word w choice (b + 1 + size y + 1) gs
     unfolding codeDisable
     disable-skips w choice b e y gs = simp append-assoc
 
     -- the enabling of k guards is E, and their disabling has the bytes of D
     record Enables (w k i n before h : ℕ) (o : List ℕ) (E D : List Instruction) : Type 0 where
-      enables : enableInto k d w vs cs s i before (at h o)
+      enables : enableInto k d w vs cs plan s i before (at h o)
           ≡ enabling (record { next = n; here = h + bytesIn E; disabling = before + bytesIn D }) (sets o h (encode off E))
 
     none-enabled : {i : ℕ} (w choice b before h : ℕ) (o : List ℕ)
@@ -121,7 +122,7 @@ module _ (word : Site → ℕ) (workspace : ℕ → ℕ) (off : ℕ → ℕ) (s 
         {E D C T : List Instruction} → C ≡ G ++ operation op ∷ [] ++ E → T ≡ G ++ disabling on b choice ++ D
         → bytesIn (disabling on b choice) ≡ 6 → cond waits 72 73 ≡ operationCode op → Room h C → before + bytesIn T < 2 ^ 32
         → Begins d vs cs w i m h o waits G
-        → extentAt d s (behindGuard s (guardOf m (h + bytesIn G) waits)) .next ≡ q
+        → extentAt d plan s (behindGuard s (guardOf m (h + bytesIn G) waits)) .next ≡ q
         → ((before h : ℕ) (o : List ℕ) → Room h E → before + bytesIn D < 2 ^ 32 → Enables w k q n before h o E D)
         → Enables w (suc k) i n before h o C T
     unfolding enableInto
@@ -158,11 +159,12 @@ module _ (word : Site → ℕ) (workspace : ℕ → ℕ) (off : ℕ → ℕ) (s 
     enable-fills w choice b before h o (inputGuardAt {e = e} {c = c} {x = x} {b = y} {gs = gs} k t ch v a g) few r l =
         enable-more true enbc disc w choice b before h o (waiting w e c) (enable-waits w e c x y gs)
         (disable-waits w choice b e c x y gs) (disc-bytes b choice) refl r l (waiting-fills w h o k t ch)
-        (rw (next-is s (ch .there), next-is s (v .there), extent-is s a (omega arith)))
+        (rw (next-is s (ch .there), next-is s (v .there), extent-is s plan planned a (scope-depth scope) (omega arith)))
         (λ before h o r l. enable-fills w choice (b + 1 + 4 + size y + 1) before h o g (omega arith) r l)
     enable-fills w choice b before h o (skipGuardAt {e = e} {b = y} {gs = gs} k t a g) few r l =
-        enable-more false enbs diss w choice b before h o (wholeCode word w e) (enable-skips w e y gs)
-        (disable-skips w choice b e y gs) (diss-bytes b choice) refl r l (skipping-fills w h o k t) (rw (extent-is s a (omega arith)))
+        enable-more false enbs diss w choice b before h o (guardCode word w e) (enable-skips w e y gs)
+        (disable-skips w choice b e y gs) (diss-bytes b choice) refl r l (skipping-fills w h o k t)
+        (rw (extent-is s plan planned a (scope-depth scope) (omega arith)))
         (λ before h o r l. enable-fills w choice (b + 1 + size y + 1) before h o g (omega arith) r l)
 
   -- one branch with its J, and its disabling, each in its own area
@@ -188,10 +190,10 @@ module _ (word : Site → ℕ) (workspace : ℕ → ℕ) (off : ℕ → ℕ) (s 
       (ap (λ c. c .out) (fill-then off a xs xs2 (sets o h (encode off (ys ++ J ∷ ys2)))))
 
   module _ {d : ℕ} {sc : M.Scope} {vs cs : List ℕ} (w : ℕ) (fits : w ≤ 4096) (scope : Scoped word (suc d) sc vs cs)
-      (inner : Compiles word workspace off s d) where
+      (inner : Compiles word workspace off s plan d) where
     -- the disabling of k guards is D, in an area of its own, and their branches are B
     record Chooses (k i n base dis h : ℕ) (o : List ℕ) (D B : List Instruction) : Type 0 where
-      chooses : choicesInto k d (innerAt d s) (scopeOf w sc) vs cs s i dis base (at h o)
+      chooses : choicesInto k d (innerAt d plan s) (scopeOf w sc) vs cs plan s i dis base (at h o)
           ≡ record { next = n; here = h + bytesIn B; out = sets (sets o h (encode off B)) dis (encode off D) }
 
     none-chosen : {i : ℕ} (choice b over base dis h : ℕ) (o : List ℕ)
@@ -206,8 +208,8 @@ module _ (word : Site → ℕ) (workspace : ℕ → ℕ) (off : ℕ → ℕ) (s 
         → cond waits 47 48 ≡ operationCode op → off (suc choice) ≡ base → b + length F ≡ j → j + size y + 1 + length R ≡ over
         → Laid workspace w y → need y ≤ 4096 → Stands off b h A → Room h A → dis + bytesIn C ≤ h
         → Begins d vs cs (w - 1) i m dis o waits G
-        → ((o : List ℕ) → choiceInto (guardOf m (dis + bytesIn G) waits) (innerAt d s) (scopeOf w sc) vs cs s (at h o)
-        ≡ stmtInto d (scopeOf w sc) vs cs s z (emits off F (at h o))) → StmtAt s d sc z y q
+        → ((o : List ℕ) → choiceInto (guardOf m (dis + bytesIn G) waits) (innerAt d plan s) (scopeOf w sc) vs cs s (at h o)
+        ≡ stmtInto d (scopeOf w sc) vs cs plan s z (emits off F (at h o))) → StmtAt s d sc z y q
         → ((dis h : ℕ) (o : List ℕ) → Stands off (j + size y + 1) h R → Room h R → dis + bytesIn D ≤ h → Chooses k q n base dis h o D R)
         → Chooses (suc k) i n base dis h o C A
     unfolding choicesInto disableInto functionCode prefixesOf
@@ -278,14 +280,14 @@ module _ (word : Site → ℕ) (workspace : ℕ → ℕ) (off : ℕ → ℕ) (s 
         (λ dis h o p r l. choices-fill choice after over base dis h o g (laid .1) (omega arith) (omega arith) user p r l)
     choices-fill choice b over base dis h o (skipGuardAt {e = e} {b = y} {gs = gs} k t a g) laid few is user p r l =
         let after = b + 1 + size y + 1 in
-        choice-more false diss choice b (b + 1) over base dis h o (wholeCode word (w - 1) e) (plain ajw 1 ∷ [])
+        choice-more false diss choice b (b + 1) over base dis h o (guardCode word (w - 1) e) (plain ajw 1 ∷ [])
         (disable-skips scope (w - 1) choice b e y gs) refl (diss-bytes b choice) refl user
         (omega arith) (omega (arith, branches-length word w after over gs)) (laid .0) (omega arith) p r l
         (skipping-fills scope (w - 1) dis o k t) (λ o. refl) a
         (λ dis h o p r l. choices-fill choice after over base dis h o g (laid .1) (omega arith) (omega arith) user p r l)
 
     pub alt-code : {i n m q k : ℕ} {gs : Guards} (j h : ℕ) → NumeralAt s i 11 n → CountAt s 0 32 n k m → GuardsAt s d sc k m gs q
-        → Placed word workspace off s w j h (ALT gs) → Written word workspace off s (suc d) sc vs cs w j h i q (ALT gs)
+        → Placed word workspace off s plan w j h (ALT gs) → Written word workspace off s plan (suc d) sc vs cs w j h i q (ALT gs)
     unfolding stmtInto code need functionCode operationCode operationInto
     alt-code {gs = gs} j h t c a p o =
         let choice = j + 2 + sizeEnable gs + 1 + sizeDisable gs in

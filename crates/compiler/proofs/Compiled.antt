@@ -19,6 +19,7 @@ use Rattle.model.proofs.Accepts.{compile-accepts}
 use Rattle.model.proofs.Cases.{never}
 use Rattle.table.proofs.SameItems.{Bytes}
 use Rattle.emitter.specs.Emits.{at}
+use Rattle.emitter.specs.Plans.{planOf}
 use Rattle.compiler.specs.Codes.{tableInto, sizeOf}
 use Rattle.compiler.proofs.TableCode.{factsOf, table-code}
 
@@ -44,10 +45,10 @@ module _ (s : List ℕ) (room : ℕ) where
     words-is : f .words ≡ memoryWords p
     words-is = ap (λ (x : Facts). x .words) facts
 
-    written-is : f .words ≤ 4096 → (o : List ℕ) → tableInto s f o ≡ at (length (codeOf p)) (sets o 0 (codeOf p))
+    written-is : f .words ≤ 4096 → (o : List ℕ) → tableInto (planOf s) s f o ≡ at (length (codeOf p)) (sets o 0 (codeOf p))
     written-is l o = rw facts (table-code s p b is (rw words-is at l) o)
 
-    size-is : f .words ≤ 4096 → sizeOf s f ≡ length (codeOf p)
+    size-is : f .words ≤ 4096 → sizeOf (planOf s) s f ≡ length (codeOf p)
     unfolding sizeOf
     size-is l = ap (λ c. c .here) (written-is l _)
 
@@ -56,14 +57,15 @@ module _ (s : List ℕ) (room : ℕ) where
     unfolding fitting
     words-refused l = as-fitting ∙ rw (lt-leb (memoryWords p) 4096 (rw words-is at l))
 
-    pub bytes-refused : f .words ≤ 4096 → 16384 < sizeOf s f → compile s room ≡ refused 10 0
+    pub bytes-refused : f .words ≤ 4096 → 16384 < sizeOf (planOf s) s f → compile s room ≡ refused 10 0
     unfolding fitting
     bytes-refused h l =
         as-fitting
         ∙ rw (le-leb (memoryWords p) 4096 (rw words-is at h), lt-leb (length (codeOf p)) 16384 (rw (size-is h) at l))
 
     -- the buffer too short: 11 with the size
-    pub room-refused : f .words ≤ 4096 → sizeOf s f ≤ 16384 → room < sizeOf s f → compile s room ≡ refused 11 (sizeOf s f)
+    pub room-refused : f .words ≤ 4096 → sizeOf (planOf s) s f ≤ 16384 → room < sizeOf (planOf s) s f
+        → compile s room ≡ refused 11 (sizeOf (planOf s) s f)
     unfolding fitting
     room-refused h l m =
         as-fitting
@@ -74,7 +76,7 @@ module _ (s : List ℕ) (room : ℕ) where
           size-is h,
         )
 
-    as-compiled : f .words ≤ 4096 → sizeOf s f ≤ 16384 → sizeOf s f ≤ room → compile s room ≡ compiled p (codeOf p)
+    as-compiled : f .words ≤ 4096 → sizeOf (planOf s) s f ≤ 16384 → sizeOf (planOf s) s f ≤ room → compile s room ≡ compiled p (codeOf p)
     unfolding fitting
     as-compiled h l m =
         as-fitting
@@ -85,11 +87,12 @@ module _ (s : List ℕ) (room : ℕ) where
         )
 
     -- the code in front, and the rest as it was
-    pub code-answered : f .words ≤ 4096 → sizeOf s f ≤ 16384 → sizeOf s f ≤ room → compiledAnswer (compile s room) ≡ CodeOf (sizeOf s f)
+    pub code-answered : f .words ≤ 4096 → sizeOf (planOf s) s f ≤ 16384 → sizeOf (planOf s) s f ≤ room
+        → compiledAnswer (compile s room) ≡ CodeOf (sizeOf (planOf s) s f)
     code-answered h l m = rw (as-compiled h l m, size-is h)
 
-    pub code-written : f .words ≤ 4096 → sizeOf s f ≤ 16384 → sizeOf s f ≤ room → (o : List ℕ) → length o ≡ room
-        → tableInto s f o .out ≡ bufferAfter (compile s room) o
+    pub code-written : f .words ≤ 4096 → sizeOf (planOf s) s f ≤ 16384 → sizeOf (planOf s) s f ≤ room → (o : List ℕ) → length o ≡ room
+        → tableInto (planOf s) s f o .out ≡ bufferAfter (compile s room) o
     code-written h l m o long =
         let c = codeOf p in
         rw (as-compiled h l m, written-is h o) (sets-eq c o 0 (omega (arith, size-is h)) ∙ rw zero-add)

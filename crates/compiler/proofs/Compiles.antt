@@ -5,7 +5,7 @@ use mathlib.Core.Path.{_≡_, sym, ap}
 use mathlib.Core.List.{List, [], _∷_}
 use lib.ListN.{length}
 use Rattle.model.specs.Word.{minus}
-use Rattle.model.specs.Syntax.{Site, Whole, Stmt, SKIP, STOP, assign, input, output}
+use Rattle.model.specs.Syntax.{Site, Expr, Stmt, SKIP, STOP, assign, input, output}
 use Rattle.model.specs.Reader as M
 use Rattle.model.specs.Counts.{need}
 use Rattle.model.specs.Instruction as I
@@ -18,9 +18,10 @@ use Rattle.emitter.specs.Simples.{inputInto, outputInto, assignInto, inInto, ou
 use Rattle.compiler.specs.Stmts.{scoped}
 use Rattle.compiler.specs.Alts.{stmtInto}
 use Rattle.compiler.specs.declared.stmt.Scope.{Scope}
-use Rattle.compiler.proofs.Spelled.{NumeralAt, OneAt, WholeAt, StmtAt}
+use Rattle.compiler.proofs.Spelled.{NumeralAt, OneAt, ExprAt, StmtAt}
+use Rattle.compiler.proofs.Planned.{Plans}
 use Rattle.compiler.proofs.Fills.{filled, fill-none, Room, room-left, emits-fills, emits-at, Stands}
-use Rattle.compiler.proofs.ExprCode.{Named, local-is, expr-code}
+use Rattle.compiler.proofs.ExprCode.{Named, local-is, whole-code}
 
 -- the workspace, and the numbers of names in scope
 abbrev pub scopeOf : (w : ℕ) → M.Scope → Scope
@@ -38,13 +39,17 @@ inner-names h = record { inside = h .inside; word-is = h .word-is; long = h .lon
 pub inner-scope : {word : Site → ℕ} {d : ℕ} {sc : M.Scope} {vs cs : List ℕ} → Scoped word (suc d) sc vs cs → Scoped word d sc vs cs
 inner-scope h = record { variables = inner-names (h .variables); channels = inner-names (h .channels) }
 
+-- inside a statement at most 32 levels are left
+pub scope-depth : {word : Site → ℕ} {d : ℕ} {sc : M.Scope} {vs cs : List ℕ} → Scoped word (suc d) sc vs cs → d ≤ 32
+scope-depth h = omega (arith, h .variables .few)
+
 -- STOPP: a STOP, and what stands behind an IF's last pair
 pub stopp-fills : (off : ℕ → ℕ) (h : ℕ) (o : List ℕ) → Room h (operation I.stopp ∷ [])
     → operationInto 21 (at h o) ≡ filled off h (operation I.stopp ∷ []) o
 unfolding functionCode operationCode operationInto
 stopp-fills off h o room = emits-at off (operation I.stopp ∷ []) h o room
 
-module _ (word : Site → ℕ) (workspace : ℕ → ℕ) (off : ℕ → ℕ) (s : List ℕ) where
+module _ (word : Site → ℕ) (workspace : ℕ → ℕ) (off : ℕ → ℕ) (s plan : List ℕ) where
   -- a statement laid out at w, whose code stands at index j and place h
   pub record Placed (w j h : ℕ) (b : Stmt) : Type 0 where
     pub laid : Laid workspace w b
@@ -56,14 +61,15 @@ module _ (word : Site → ℕ) (workspace : ℕ → ℕ) (off : ℕ → ℕ) (s 
   -- what the generator writes for a statement at a place of the table is the model's code
   abbrev pub Written : (depth : ℕ) → M.Scope → (vs cs : List ℕ) → (w j h i n : ℕ) → Stmt → Type 0
   Written d sc vs cs w j h i n b =
-      (o : List ℕ) → stmtInto d (scopeOf w sc) vs cs s i (at h o) ≡ written n (filled off h (code word w j b) o)
+      (o : List ℕ) → stmtInto d (scopeOf w sc) vs cs plan s i (at h o) ≡ written n (filled off h (code word w j b) o)
 
   -- the generator writes the model's code of every statement that is spelt with `depth` left
   pub record Compiles (depth : ℕ) : Type 0 where
     pub compiles : {sc : M.Scope} {i n : ℕ} {b : Stmt} {vs cs : List ℕ} (w j h : ℕ) → StmtAt s depth sc i b n → Scoped word depth sc vs cs
         → Placed w j h b → Written depth sc vs cs w j h i n b
 
-  module _ {d : ℕ} {sc : M.Scope} {vs cs : List ℕ} (w j h : ℕ) (names : Scoped word (suc d) sc vs cs) where
+  module _ {d : ℕ} {sc : M.Scope} {vs cs : List ℕ} (w j h : ℕ) (planned : Plans s plan)
+      (names : Scoped word (suc d) sc vs cs) where
     pub skip-code : {i n : ℕ} → NumeralAt s i 0 n → Placed w j h SKIP → Written (suc d) sc vs cs w j h i n SKIP
     unfolding stmtInto simpleInto code
     skip-code k p o = rw (k .value) (ap (written _) (sym (fill-none off h o)))
@@ -72,15 +78,15 @@ module _ (word : Site → ℕ) (workspace : ℕ → ℕ) (off : ℕ → ℕ) (s 
     unfolding stmtInto simpleInto code
     stop-code k p o = rw (k .value) (ap (written _) (stopp-fills off h o (p .room)))
 
-    pub assign-code : {i n m q : ℕ} {x : Site} {e : Whole} → NumeralAt s i 2 n → OneAt s (sc .variables) n x m
-        → WholeAt s (sc .variables) d m e q → Placed w j h (assign x e) → Written (suc d) sc vs cs w j h i q (assign x e)
+    pub assign-code : {i n m q : ℕ} {x : Site} {e : Expr} → NumeralAt s i 2 n → OneAt s (sc .variables) n x m
+        → ExprAt s (sc .variables) d m e q → Placed w j h (assign x e) → Written (suc d) sc vs cs w j h i q (assign x e)
     unfolding stmtInto simpleInto assignInto code functionCode
     assign-code {x = x} {e = e} k a c p o =
         rw (
           k .value,
           a .there .value,
           local-is word off s (names .variables) w a,
-          expr-code word off s (names .variables) w (c .expr) h o (room-left h (wholeCode word w e) _ (p .room)),
+          whole-code word off s 0 (omega arith) (names .variables) planned w c h o (room-left h (wholeCode word w e) _ (p .room)),
         )
         (ap (written _) (emits-fills off (plain stl (local word w x) ∷ []) h (wholeCode word w e) o (p .room)))
 
@@ -97,15 +103,15 @@ module _ (word : Site → ℕ) (workspace : ℕ → ℕ) (off : ℕ → ℕ) (s 
         )
         (ap (written _) (emits-at off (inputCode word w c x) h o (p .room)))
 
-    pub output-code : {i n m q : ℕ} {c : Site} {e : Whole} → NumeralAt s i 4 n → OneAt s (sc .channels) n c m
-        → WholeAt s (sc .variables) d m e q → Placed w j h (output c e) → Written (suc d) sc vs cs w j h i q (output c e)
+    pub output-code : {i n m q : ℕ} {c : Site} {e : Expr} → NumeralAt s i 4 n → OneAt s (sc .channels) n c m
+        → ExprAt s (sc .variables) d m e q → Placed w j h (output c e) → Written (suc d) sc vs cs w j h i q (output c e)
     unfolding stmtInto simpleInto outInto outputInto code functionCode operationCode operationInto
     output-code {c = c} {e = e} k a b p o =
         rw (
           k .value,
           a .there .value,
           local-is word off s (names .channels) w a,
-          expr-code word off s (names .variables) w (b .expr) h o (room-left h (wholeCode word w e) _ (p .room)),
+          whole-code word off s 0 (omega arith) (names .variables) planned w b h o (room-left h (wholeCode word w e) _ (p .room)),
         )
         (ap (written _) (emits-fills off
         (plain ldlp (local word w c) ∷ operation I.rev ∷ plain ajw (minus 1) ∷ operation I.outword ∷ plain ajw 1 ∷ [])

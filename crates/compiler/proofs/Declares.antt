@@ -127,7 +127,7 @@ module _ (off : ℕ → ℕ) where
       )
       (initial-fills kind first is left (suc j) t h xs o (omega arith) l m)
 
-module _ (word : Site → ℕ) (workspace : ℕ → ℕ) (off : ℕ → ℕ) (s : List ℕ)
+module _ (word : Site → ℕ) (workspace : ℕ → ℕ) (off : ℕ → ℕ) (s plan : List ℕ)
     (declared-is : (p j : ℕ) → word (declared p j) ≡ workspace p + j) where
   -- a statement is spelt where there is depth left
   pub some-depth : {d : ℕ} {sc : M.Scope} {i n : ℕ} {b : Stmt} → StmtAt s d sc i b n → 1 ≤ d
@@ -148,12 +148,12 @@ module _ (word : Site → ℕ) (workspace : ℕ → ℕ) (off : ℕ → ℕ) (s 
   abbrev declaration : (first : Instruction) (n : ℕ) → List Instruction → List Instruction
   declaration first n body = plain ajw (minus n) ∷ initialise first n ++ body ++ plain ajw n ∷ []
 
-  module _ {d : ℕ} {sc : M.Scope} {vs cs : List ℕ} (w j h : ℕ) (inner : Compiles word workspace off s d) where
+  module _ {d : ℕ} {sc : M.Scope} {vs cs : List ℕ} (w j h : ℕ) (inner : Compiles word workspace off s plan d) where
     declaration-code : (kind : ℕ) (first : Instruction) → ((c : Code) → firstInto kind c ≡ emits off (first ∷ []) c)
         → {m q : ℕ} {b : Stmt} (n : ℕ) → n ≤ 32 → StmtAt s d sc m b q → Scoped word d sc vs cs → Laid workspace (w - n) b → w ≤ 4096
         → n + need b ≤ 4096 → let X = declaration first n (code word (w - n) (j + 1 + (n + n)) b) in
         Stands off j h X → Room h X → (o : List ℕ)
-        → let r = stmtInto d (scopeOf (w - n) sc) vs cs s m (initialInto n kind 0 (plainInto 0xb0 (minus n) (at h o))) in
+        → let r = stmtInto d (scopeOf (w - n) sc) vs cs plan s m (initialInto n kind 0 (plainInto 0xb0 (minus n) (at h o))) in
         written (r .next) (plainInto 0xb0 n (codeOf r)) ≡ written q (filled off h X o)
     unfolding functionCode initialise
     declaration-code kind first is {q = q} {b = b} n l a scope laid fits few p room o =
@@ -175,9 +175,9 @@ module _ (word : Site → ℕ) (workspace : ℕ → ℕ) (off : ℕ → ℕ) (s 
         (ap (written q) (emits-fills off (plain ajw n ∷ []) h (F ++ I ++ B) o room))
 
   module _ {d : ℕ} {sc : M.Scope} {vs cs : List ℕ} (w j h : ℕ) (scope : Scoped word (suc d) sc vs cs)
-      (inner : Compiles word workspace off s d) where
+      (inner : Compiles word workspace off s plan d) where
     pub var-code : {i n m q k : ℕ} {b : Stmt} → NumeralAt s i 5 n → CountAt s 1 32 n k m → StmtAt s d (withVariables i k sc) m b q
-        → Placed word workspace off s w j h (VAR i k b) → Written word workspace off s (suc d) sc vs cs w j h i q (VAR i k b)
+        → Placed word workspace off s plan w j h (VAR i k b) → Written word workspace off s plan (suc d) sc vs cs w j h i q (VAR i k b)
     unfolding stmtInto code firstInto functionCode operationCode operationInto need
     var-code {i} {k = k} t c a p o =
         rw (t .value, c .there .value, names-counted i k (w - k) (c .most) (scope .variables))
@@ -190,7 +190,7 @@ module _ (word : Site → ℕ) (workspace : ℕ → ℕ) (off : ℕ → ℕ) (s 
         (p .laid .1) (p .low) (p .few) (p .stands) (p .room) o)
 
     pub chan-code : {i n m q k : ℕ} {b : Stmt} → NumeralAt s i 6 n → CountAt s 1 32 n k m → StmtAt s d (withChannels i k sc) m b q
-        → Placed word workspace off s w j h (CHAN i k b) → Written word workspace off s (suc d) sc vs cs w j h i q (CHAN i k b)
+        → Placed word workspace off s plan w j h (CHAN i k b) → Written word workspace off s plan (suc d) sc vs cs w j h i q (CHAN i k b)
     unfolding stmtInto code firstInto functionCode operationCode operationInto need
     chan-code {i} {k = k} t c a p o =
         rw (t .value, c .there .value, names-counted i k (w - k) (c .most) (scope .channels))

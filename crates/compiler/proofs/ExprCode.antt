@@ -1,24 +1,33 @@
 -- The generator writes the model's code of expressions.
-use Prim.Native.Nat.{ℕ, suc, _+_, _*_, _^_, _≤_, _<_}
+use Prim.Native.Nat.{ℕ, zero, suc, _+_, _-_, _*_, _^_, _≤_, _<_}
 use native.Mathlib.Omega.{arith}
-use mathlib.Core.Path.{_≡_, refl, ap}
-use mathlib.Core.List.{List, [], _∷_, _++_}
+use native.Mathlib.Nat.{mod-eq-of-lt}
+use mathlib.Core.Path.{_≡_, refl, ap, _∙_}
+use mathlib.Core.Bool.{cond, _&&_}
+use mathlib.Core.List.{List, [], _∷_, _++_, append-assoc}
 use mathlib.Core.Option.{some}
 use lib.ListN.{length, getD, getElem?}
 use lib.Seq.{sets}
-use borrow.Author.Tests.{lt-ltb}
+use lib.Dec.{ltb, eqb}
+use borrow.Author.Tests.{lt-ltb, ne-eqb}
+use Rattle.model.specs.Word.{low, minus}
 use Rattle.model.specs.Syntax.{Site, Operator, Expr}
+use Rattle.model.specs.Counts.{Order, leftFirst, rightFirst, rightStored, orderOf, order, sidesHold, registers, temporaries}
 use Rattle.model.specs.Reader.{operators}
 use Rattle.model.specs.Instruction as I
-use Rattle.model.specs.Instruction.{plain, operation, ldc, ldl, eqc, functionCode, operationCode}
+use Rattle.model.specs.Instruction.{Instruction, plain, operation, ldc, ldl, stl, ajw, eqc, rev, functionCode, operationCode}
 use Rattle.model.specs.Prefix.{fewest}
 use Rattle.model.specs.Code.{prefixesOf, bytesIn, encode}
-use Rattle.model.specs.Scheme.{operatorCode, local, exprCode}
+use Rattle.model.specs.Scheme.{operatorCode, sidesCode, wrapped, local, exprCode}
+use Rattle.model.proofs.Cases.{by-bool}
 use Rattle.table.proofs.SameItems.{each}
-use Rattle.emitter.specs.Emits.{at, localOf}
-use Rattle.emitter.specs.Exprs.{written, operationFor, operatorInto, leafInto, exprInto}
+use Rattle.emitter.specs.Emits.{Code, at, localOf}
+use Rattle.emitter.specs.Exprs.{Wrote, written, codeOf, operationFor, operatorInto, leafInto, orderNumber, betweenInto, behindInto}
+use Rattle.emitter.specs.Exprs.{exprInto, lowering, adjustInto, wholeInto}
 use Rattle.compiler.proofs.Spelled.{OneAt, ExprAt, constantAt, variableAt, notAt, binaryAt}
-use Rattle.compiler.proofs.Fills.{filled, fill-then, plain-fills, operation-fills, then-plain, Room, room-left, room-right}
+use Rattle.compiler.proofs.Planned.{Plans, holds-few}
+use Rattle.compiler.proofs.Fills.{filled, fill-then, plain-fills, operation-fills, then-plain, then-operation, Room, room-left}
+use Rattle.compiler.proofs.Fills.{room-right, emits-at}
 
 -- each name's word stands at its number, with room for the names that `depth` levels may declare
 pub record Named (word : Site → ℕ) (depth : ℕ) (sites : List Site) (ws : List ℕ) : Type 0 where
@@ -26,6 +35,90 @@ pub record Named (word : Site → ℕ) (depth : ℕ) (sites : List Site) (ws : L
   pub word-is : (k : ℕ) (x : Site) → getElem? sites k ≡ some x → getD ws k 0 ≡ word x
   pub long : length ws ≡ 1024
   pub few : length sites + 32 * depth ≤ 1056
+
+-- the order of two sides by number
+abbrev numberOf : Order → ℕ
+numberOf leftFirst = 0
+numberOf rightFirst = 1
+numberOf rightStored = 2
+
+order-is : (l r : ℕ) → orderNumber l r ≡ numberOf (orderOf l r)
+unfolding orderNumber orderOf
+order-is l r =
+    by-bool (ltb l r) (λ f. rw f)
+    (λ f. by-bool (eqb l 3 && eqb r 3) (λ g. rw (f, g)) (λ g. rw (f, g)))
+
+module _ (off : ℕ → ℕ) where
+  -- what writes the code of instructions, for a part of the table that ends before a place
+  abbrev Writes : (Code → Wrote) → (next : ℕ) → List Instruction → Type 0
+  Writes into n xs = (h : ℕ) (o : List ℕ) → Room h xs → into (at h o) ≡ written n (filled off h xs o)
+
+  -- two sides in each order. Left stands at a place, right behind it; g values are held before
+  sides-fill : (inner : (held at : ℕ) → Code → Wrote) (ord : Order) (i p q g tl tr : ℕ) (left : ℕ → List Instruction)
+      (right : List Instruction) → g + sidesHold ord tl tr ≤ 4096
+      → ((k : ℕ) → k + tl ≤ 4096 → Writes (inner k i) p (left k)) → (g + tr ≤ 4096 → Writes (inner g p) q right)
+      → (h : ℕ) (o : List ℕ) → Room h (sidesCode ord g left right)
+      → let k = numberOf ord in
+      let one = inner g (cond (eqb k 0) i p) (at h o) in
+      let two = inner (cond (eqb k 2) (low (g + 1)) g) (cond (eqb k 0) p i) (betweenInto k g (codeOf one)) in
+      behindInto k g (codeOf two) ≡ filled off h (sidesCode ord g left right) o
+  unfolding sidesCode sidesHold betweenInto behindInto functionCode operationCode
+  sides-fill inner leftFirst i p q g tl tr left right few wl wr h o r =
+      let L = left g in
+      rw (
+        wl g (omega arith) h o (room-left h L right r),
+        wr (omega arith) (h + bytesIn L) (sets o h (encode off L)) (room-right h L right r),
+      )
+      (fill-then off h L right o)
+  sides-fill inner rightFirst i p q g tl tr left right few wl wr h o r =
+      let L = left g in
+      let sides = room-left h (right ++ L) (operation rev ∷ []) r in
+      rw (
+        wr (omega arith) h o (room-left h right L sides),
+        wl g (omega arith) (h + bytesIn right) (sets o h (encode off right)) (room-right h right L sides),
+        fill-then off h right L o,
+      )
+      (then-operation off rev 0 h (right ++ L) o refl r)
+  sides-fill inner rightStored i p q g tl tr left right few wl wr h o r =
+      let L = left (suc g) in
+      let next : low (g + 1) ≡ suc g = mod-eq-of-lt (omega arith) ∙ omega arith in
+      let stored = right ++ plain stl g ∷ [] in
+      let all : stored ++ L ≡ right ++ plain stl g ∷ L = append-assoc right (plain stl g ∷ []) L in
+      let sides : Room h (stored ++ L) = rw all (room-left h (right ++ plain stl g ∷ L) (plain ldl g ∷ []) r) in
+      rw (
+        next,
+        wr (omega arith) h o (room-left h right _ (room-left h stored L sides)),
+        then-plain off stl 0xd0 g h right o refl (room-left h stored L sides),
+        wl (suc g) (omega arith) (h + bytesIn stored) (sets o h (encode off stored)) (room-right h stored L sides),
+        fill-then off h stored L o,
+        all,
+      )
+      (then-plain off ldl 0x70 g h (right ++ plain stl g ∷ L) o refl r)
+
+  -- code with t stored values, wrapped in its two AJWs
+  wrapped-fills : (into : (w : ℕ) → Code → Wrote) (n t more w : ℕ) (code : ℕ → List Instruction) → t + more ≤ 8192
+      → ((v : ℕ) → Writes (into v) n (code v))
+      → let m = lowering t more in
+      Writes (λ c. let e = into (w - m) (adjustInto m (minus m) c) in written (e .next) (adjustInto m m (codeOf e))) n
+      (wrapped t more w code)
+  unfolding lowering adjustInto wrapped functionCode
+  wrapped-fills into n zero more w code few f h o r =
+      let same : w - 0 ≡ w = omega arith in
+      rw (same, f w h o r)
+  wrapped-fills into n (suc t) more w code few f h o r =
+      let m = suc t + more in
+      let A = plain ajw (minus m) ∷ [] in
+      let C = code (w - m) in
+      let front = room-left h (A ++ C) (plain ajw m ∷ []) r in
+      let lowered : lowering (suc t) more ≡ m = rw (ne-eqb (suc t) 0 (omega arith)) (mod-eq-of-lt (omega arith)) in
+      rw (
+        lowered,
+        ne-eqb m 0 (omega arith),
+        emits-at off A h o (room-left h A C front),
+        f (w - m) (h + bytesIn A) (sets o h (encode off A)) (room-right h A C front),
+        fill-then off h A C o,
+      )
+      (ap (written n) (then-plain off ajw 0xb0 m h (A ++ C) o refl r))
 
 module _ (word : Site → ℕ) (off : ℕ → ℕ) (s : List ℕ) where
   plain-bytes : (f : I.Function) (n : ℕ) → bytesIn (plain f n ∷ []) ≡ suc (fewest n)
@@ -61,31 +154,51 @@ module _ (word : Site → ℕ) (off : ℕ → ℕ) (s : List ℕ) where
       )
       e
 
-  module _ {k : ℕ} {vs : List Site} {ws : List ℕ} (names : Named word k vs ws) (w : ℕ) where
-    pub local-is : {i n : ℕ} {x : Site} (a : OneAt s vs i x n) → localOf ws (a .index) w ≡ local word w x
-    unfolding localOf
-    local-is a =
-        rw (lt-ltb (a .index) 1024 (names .inside (a .index) _ (a .listed)), names .word-is (a .index) _ (a .listed))
+  pub local-is : {k : ℕ} {vs : List Site} {ws : List ℕ} → Named word k vs ws → (w : ℕ) {i n : ℕ} {x : Site} (a : OneAt s vs i x n)
+      → localOf ws (a .index) w ≡ local word w x
+  unfolding localOf
+  local-is names w a =
+      rw (lt-ltb (a .index) 1024 (names .inside (a .index) _ (a .listed)), names .word-is (a .index) _ (a .listed))
 
-    pub expr-code : {d i n : ℕ} {e : Expr} → ExprAt s vs d i e n → (h : ℕ) (o : List ℕ) → Room h (exprCode word w e)
-        → exprInto d w ws s i (at h o) ≡ written n (filled off h (exprCode word w e) o)
-    unfolding exprInto exprCode leafInto functionCode
-    expr-code (constantAt v k t) h o l =
-        rw (k .value, t .value) (ap (written _) (plain-fills off ldc 0x40 v h o refl (rw plain-bytes at l)))
-    expr-code (variableAt k x) h o l =
-        rw (k .value, x .there .value, local-is x) (ap (written _) (plain-fills off ldl 0x70 _ h o refl (rw plain-bytes at l)))
-    expr-code (notAt {e = e} k a) h o l =
-        rw (k .value, expr-code a h o (room-left h _ _ l)) (ap (written _) (then-plain off eqc 0xc0 0 h (exprCode word w e) o refl l))
-    expr-code (binaryAt {op = op} {l = le} {r = re} k v a c) h o l =
-        let L = exprCode word w le in
-        let R = exprCode word w re in
-        let sides = room-left h (L ++ R) (operatorCode op) l in
+  module _ {k : ℕ} {vs : List Site} {ws plan : List ℕ} (names : Named word k vs ws) (planned : Plans s plan) (w : ℕ) where
+    expr-code : {d i n : ℕ} {e : Expr} → ExprAt s vs d i e n → d ≤ 32 → (g : ℕ) → g + temporaries e ≤ 4096
+        → Writes off (λ c. exprInto d w ws plan s g i c) n (exprCode word w g e)
+    unfolding exprInto exprCode leafInto functionCode temporaries
+    expr-code (constantAt v k t) deep g few h o r =
+        rw (k .value, t .value) (ap (written _) (plain-fills off ldc 0x40 v h o refl (rw plain-bytes at r)))
+    expr-code (variableAt k x) deep g few h o r =
+        rw (k .value, x .there .value, local-is names w x) (ap (written _) (plain-fills off ldl 0x70 _ h o refl (rw plain-bytes at r)))
+    expr-code (notAt {e = e} k a) deep g few h o r =
+        rw (k .value, expr-code a (omega arith) g few h o (room-left h _ _ r))
+        (ap (written _) (then-plain off eqc 0xc0 0 h (exprCode word w g e) o refl r))
+    expr-code (binaryAt {d = d} {m = m} {p = p} {q = q} {op = op} {l = le} {r = re} k v a c) deep g few h o r =
+        let S = sidesCode (order le re) g (λ k. exprCode word w k le) (exprCode word w g re) in
+        let x = planned .tells a (omega arith) in
+        let y = planned .tells c (omega arith) in
         rw (
           k .value,
           v .there .value,
-          expr-code a h o (room-left h L R sides),
-          expr-code c (h + bytesIn L) (sets o h (encode off L)) (room-right h L R sides),
-          fill-then off h L R o,
-          operator-fills op (v .index) (h + bytesIn (L ++ R)) (sets o h (encode off (L ++ R))) (v .listed) (room-right h (L ++ R) _ l),
+          x .next,
+          x .needs,
+          y .next,
+          y .needs,
+          order-is (registers le) (registers re),
+          sides-fill off (λ g i c. exprInto d w ws plan s g i c) (order le re) m p q g (temporaries le) (temporaries re)
+              (λ k. exprCode word w k le) (exprCode word w g re) few (λ k l. expr-code a (omega arith) k l)
+              (λ l. expr-code c (omega arith) g l) h o (room-left h S (operatorCode op) r),
+          operator-fills op (v .index) (h + bytesIn S) (sets o h (encode off S)) (v .listed) (room-right h S _ r),
         )
-        (ap (written _) (fill-then off h (L ++ R) (operatorCode op) o))
+        (ap (written _) (fill-then off h S (operatorCode op) o))
+
+  -- a whole expression, with so many words more below W
+  pub whole-code : {d i n : ℕ} {vs : List Site} {ws plan : List ℕ} {e : Expr} (more : ℕ) → more ≤ 4096 → Named word (suc d) vs ws
+      → Plans s plan → (w : ℕ) → ExprAt s vs d i e n → (h : ℕ) (o : List ℕ)
+      → let X = wrapped (temporaries e) more w (λ v. exprCode word v 0 e) in
+      Room h X → wholeInto d w more ws plan s i (at h o) ≡ written n (filled off h X o)
+  unfolding wholeInto
+  whole-code {d} {i} {n} {vs} {ws} {plan} {e} more few names planned w a =
+      let deep : d ≤ 32 = omega (arith, names .few) in
+      let held = holds-few s a in
+      rw (planned .tells a deep .holds)
+      (wrapped-fills off (λ v c. exprInto d v ws plan s 0 i c) n (temporaries e) more w (λ v. exprCode word v 0 e) (omega arith)
+      (λ v. expr-code names planned v a deep 0 (omega arith)))

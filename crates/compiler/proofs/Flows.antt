@@ -7,7 +7,7 @@ use mathlib.Core.List.{List, [], _∷_, _++_, append-assoc}
 use lib.ListN.{length, length-append}
 use lib.Seq.{sets}
 use Rattle.model.specs.Word.{low}
-use Rattle.model.specs.Syntax.{Site, Whole, Stmt, SEQ, IF, WHILE, Stmts, Pairs}
+use Rattle.model.specs.Syntax.{Site, Expr, Stmt, SEQ, IF, WHILE, Stmts, Pairs}
 use Rattle.model.specs.Reader as M
 use Rattle.model.specs.Counts.{need, mostNeed, pairNeed}
 use Rattle.model.specs.Instruction as I
@@ -15,23 +15,24 @@ use Rattle.model.specs.Instruction.{Instruction, distance, cj, functionCode}
 use Rattle.model.specs.Code.{prefixesOf, bytesIn, encode}
 use Rattle.model.specs.Scheme.{wholeSize, size, sizePairs, wholeCode, code, codeAll, codePairs}
 use Rattle.model.proofs.Well.{Laid, LaidAll, LaidPairs}
-use Rattle.model.proofs.Sizes.{expr-length, code-length, pairs-length}
+use Rattle.model.proofs.Sizes.{whole-length, code-length, pairs-length}
 use Rattle.emitter.specs.Emits.{Code, at, distanceInto}
-use Rattle.emitter.specs.Exprs.{Wrote, written, exprInto}
+use Rattle.emitter.specs.Exprs.{Wrote, written, wholeInto}
 use Rattle.compiler.specs.Stmts.{seqInto, ifInto}
 use Rattle.compiler.specs.Alts.{stmtInto}
-use Rattle.compiler.proofs.Spelled.{NumeralAt, WholeAt, CountAt, StmtAt, StmtsAt, noStmtAt, stmtsAt, PairsAt, noPairAt, pairAt}
+use Rattle.compiler.proofs.Spelled.{NumeralAt, ExprAt, CountAt, StmtAt, StmtsAt, noStmtAt, stmtsAt, PairsAt, noPairAt, pairAt}
+use Rattle.compiler.proofs.Planned.{Plans}
 use Rattle.compiler.proofs.Fills.{bytes-append, filled, fill-then, fill-none, Room, room-left, room-right, distance-fills, Stands}
 use Rattle.compiler.proofs.Fills.{stands-first, stands-next, stands-both, stands-last, gap-fills}
-use Rattle.compiler.proofs.ExprCode.{expr-code}
+use Rattle.compiler.proofs.ExprCode.{whole-code}
 use Rattle.compiler.proofs.Compiles.{scopeOf, Scoped, inner-scope, Placed, Written, Compiles, stopp-fills}
 
-module _ (word : Site → ℕ) (workspace : ℕ → ℕ) (off : ℕ → ℕ) (s : List ℕ) where
-  module _ {d : ℕ} {sc : M.Scope} {vs cs : List ℕ} (w : ℕ) (fits : w ≤ 4096) (scope : Scoped word (suc d) sc vs cs)
-      (inner : Compiles word workspace off s d) where
+module _ (word : Site → ℕ) (workspace : ℕ → ℕ) (off : ℕ → ℕ) (s plan : List ℕ) where
+  module _ {d : ℕ} {sc : M.Scope} {vs cs : List ℕ} (w : ℕ) (fits : w ≤ 4096) (planned : Plans s plan)
+      (scope : Scoped word (suc d) sc vs cs) (inner : Compiles word workspace off s plan d) where
     seq-parts : {k i n : ℕ} {ss : Stmts} (j h : ℕ) → StmtsAt s d sc k i ss n → LaidAll workspace w ss → mostNeed ss ≤ 4096
         → Stands off j h (codeAll word w j ss) → Room h (codeAll word w j ss) → (o : List ℕ)
-        → seqInto k (λ i c. stmtInto d (scopeOf w sc) vs cs s i c) i (at h o) ≡ written n (filled off h (codeAll word w j ss) o)
+        → seqInto k (λ i c. stmtInto d (scopeOf w sc) vs cs plan s i c) i (at h o) ≡ written n (filled off h (codeAll word w j ss) o)
     unfolding seqInto codeAll mostNeed
     seq-parts j h noStmtAt laid few p r o = ap (written _) (sym (fill-none off h o))
     seq-parts j h (stmtsAt {b = b} {ss = ss} a c) laid few p r o =
@@ -46,7 +47,7 @@ module _ (word : Site → ℕ) (workspace : ℕ → ℕ) (off : ℕ → ℕ) (s 
         (ap (written _) (fill-then off h B (codeAll word w (j + size b) ss) o))
 
     pub seq-code : {i n m q k : ℕ} {ss : Stmts} (j h : ℕ) → NumeralAt s i 7 n → CountAt s 0 32 n k m → StmtsAt s d sc k m ss q
-        → Placed word workspace off s w j h (SEQ ss) → Written word workspace off s (suc d) sc vs cs w j h i q (SEQ ss)
+        → Placed word workspace off s plan w j h (SEQ ss) → Written word workspace off s plan (suc d) sc vs cs w j h i q (SEQ ss)
     unfolding stmtInto code need
     seq-code j h t c a p o =
         rw (t .value, c .there .value) (seq-parts j h a (p .laid) (omega (arith, p .few)) (p .stands) (p .room) o)
@@ -54,9 +55,9 @@ module _ (word : Site → ℕ) (workspace : ℕ → ℕ) (off : ℕ → ℕ) (s 
     -- a tested body: condition, CJ behind the J, body, J; then the rest. The J reaches a place that the rest's end gives
     abbrev testedInto : (reached : ℕ → ℕ) (rest : ℕ → Code → Wrote) (at : ℕ) → Code → Wrote
     testedInto reached rest i c =
-        let t = exprInto d w vs s i c in
+        let t = wholeInto d w 0 vs plan s i c in
         let begin = low (t .here + 4) in
-        let b = stmtInto d (scopeOf w sc) vs cs s (t .next) (at begin (t .out)) in
+        let b = stmtInto d (scopeOf w sc) vs cs plan s (t .next) (at begin (t .out)) in
         let next = low (b .here + 4) in
         let r = rest (b .next) (at next (b .out)) in
         let j = distanceInto 0 (reached (r .here)) next (at (b .here) (r .out)) in
@@ -64,10 +65,10 @@ module _ (word : Site → ℕ) (workspace : ℕ → ℕ) (off : ℕ → ℕ) (s 
         record { next = r .next; here = r .here; out = cj .out }
 
     -- the place of the J that leaves a tested body
-    abbrev leaves : (j : ℕ) → Whole → Stmt → ℕ
+    abbrev leaves : (j : ℕ) → Expr → Stmt → ℕ
     leaves j e b = j + wholeSize e + 1 + size b
 
-    abbrev testedCode : (j over : ℕ) → Whole → Stmt → List Instruction → List Instruction
+    abbrev testedCode : (j over : ℕ) → Expr → Stmt → List Instruction → List Instruction
     testedCode j over e b rest =
         let test = j + wholeSize e in
         wholeCode word w e
@@ -76,8 +77,8 @@ module _ (word : Site → ℕ) (workspace : ℕ → ℕ) (off : ℕ → ℕ) (s 
         ++ distance I.j over (leaves j e b)
         ∷ rest
 
-    tested-code : {i m n q : ℕ} {e : Whole} {b : Stmt} (reached : ℕ → ℕ) (rest : ℕ → Code → Wrote) (j over h : ℕ) (P : List Instruction)
-        (o : List ℕ) → WholeAt s (sc .variables) d i e m → StmtAt s d sc m b n → Laid workspace w b → need b ≤ 4096
+    tested-code : {i m n q : ℕ} {e : Expr} {b : Stmt} (reached : ℕ → ℕ) (rest : ℕ → Code → Wrote) (j over h : ℕ) (P : List Instruction)
+        (o : List ℕ) → ExprAt s (sc .variables) d i e m → StmtAt s d sc m b n → Laid workspace w b → need b ≤ 4096
         → Stands off j h (testedCode j over e b P) → Room h (testedCode j over e b P)
         → ((h : ℕ) (o : List ℕ) → Stands off (leaves j e b + 1) h P → Room h P
         → (off over ≡ reached (h + bytesIn P)) × (rest n (at h o) ≡ written q (filled off h P o)))
@@ -90,7 +91,7 @@ module _ (word : Site → ℕ) (workspace : ℕ → ℕ) (off : ℕ → ℕ) (s 
         let B = code word w (test + 1) b in
         let T = distance cj (leave + 1) test in
         let J = distance I.j over leave in
-        let long : length E ≡ wholeSize e = expr-length word w (e .expr) in
+        let long : length E ≡ wholeSize e = whole-length word w e in
         let size-is : length B ≡ size b = code-length word w (test + 1) b in
         let sides = stands-both off (E ++ T ∷ B) p in
         let front : bytesIn (E ++ T ∷ B) ≡ bytesIn E + 4 + bytesIn B = bytes-append E (T ∷ B) ∙ omega arith in
@@ -112,7 +113,7 @@ module _ (word : Site → ℕ) (workspace : ℕ → ℕ) (off : ℕ → ℕ) (s 
         let all : E ++ T ∷ B ++ J ∷ P ≡ E ++ T ∷ (B ++ J ∷ P) = append-assoc E (T ∷ B) (J ∷ P) in
         let end : h + bytesIn (E ++ T ∷ B ++ J ∷ P) ≡ next + bytesIn P = omega arith in
         rw (
-          expr-code word off s (scope .variables) w (c .expr) h o (omega arith),
+          whole-code word off s 0 (omega arith) (scope .variables) planned w c h o (omega arith),
           begins,
           inner .compiles w (test + 1) begin a (inner-scope scope)
               (record { laid = laid; low = fits; few = few; stands = body-stands; room = omega arith }) O,
@@ -129,9 +130,9 @@ module _ (word : Site → ℕ) (workspace : ℕ → ℕ) (off : ℕ → ℕ) (s 
         )
         refl
 
-    pub while-code : {i n m q : ℕ} {e : Whole} {b : Stmt} (j h : ℕ) → NumeralAt s i 10 n → WholeAt s (sc .variables) d n e m
-        → StmtAt s d sc m b q → Placed word workspace off s w j h (WHILE e b)
-        → Written word workspace off s (suc d) sc vs cs w j h i q (WHILE e b)
+    pub while-code : {i n m q : ℕ} {e : Expr} {b : Stmt} (j h : ℕ) → NumeralAt s i 10 n → ExprAt s (sc .variables) d n e m
+        → StmtAt s d sc m b q → Placed word workspace off s plan w j h (WHILE e b)
+        → Written word workspace off s plan (suc d) sc vs cs w j h i q (WHILE e b)
     unfolding stmtInto code need
     while-code j h t c a p o =
         rw (t .value)
@@ -140,7 +141,7 @@ module _ (word : Site → ℕ) (workspace : ℕ → ℕ) (off : ℕ → ℕ) (s 
 
     if-parts : {k i n : ℕ} {ps : Pairs} (j over h : ℕ) → over ≡ j + sizePairs ps → PairsAt s d sc k i ps n → LaidPairs workspace w ps
         → pairNeed ps ≤ 4096 → Stands off j h (codePairs word w j over ps) → Room h (codePairs word w j over ps) → (o : List ℕ)
-        → ifInto k d w vs (λ i c. stmtInto d (scopeOf w sc) vs cs s i c) s i (at h o)
+        → ifInto k d w vs (λ i c. stmtInto d (scopeOf w sc) vs cs plan s i c) plan s i (at h o)
         ≡ written n (filled off h (codePairs word w j over ps) o)
     unfolding ifInto codePairs pairNeed sizePairs
     if-parts j over h is noPairAt laid few p r o = ap (written _) (stopp-fills off h o r)
@@ -148,12 +149,12 @@ module _ (word : Site → ℕ) (workspace : ℕ → ℕ) (off : ℕ → ℕ) (s 
         let next = leaves j e b + 1 in
         let P = codePairs word w next over ps in
         let end : next + length P ≡ over = omega (arith, is, pairs-length word w next over ps) in
-        tested-code (λ x. x) (λ i c. ifInto k d w vs (λ i c. stmtInto d (scopeOf w sc) vs cs s i c) s i c) j over h P o c a (laid .0)
-        (omega arith) p r
+        tested-code (λ x. x) (λ i c. ifInto k d w vs (λ i c. stmtInto d (scopeOf w sc) vs cs plan s i c) plan s i c) j over h P o c a
+        (laid .0) (omega arith) p r
         (λ h o p r. (rw end at (stands-last off P p), if-parts next over h (omega (arith, is)) g (laid .1) (omega arith) p r o))
 
     pub if-code : {i n m q k : ℕ} {ps : Pairs} (j h : ℕ) → NumeralAt s i 9 n → CountAt s 0 32 n k m → PairsAt s d sc k m ps q
-        → Placed word workspace off s w j h (IF ps) → Written word workspace off s (suc d) sc vs cs w j h i q (IF ps)
+        → Placed word workspace off s plan w j h (IF ps) → Written word workspace off s plan (suc d) sc vs cs w j h i q (IF ps)
     unfolding stmtInto code need
     if-code {ps = ps} j h t c a p o =
         rw (t .value, c .there .value) (if-parts j (j + sizePairs ps) h refl a (p .laid) (omega (arith, p .few)) (p .stands) (p .room) o)

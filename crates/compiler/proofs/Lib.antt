@@ -1,4 +1,5 @@
 pub mod Spelled
+pub mod Planned
 pub mod Fills
 pub mod ExprCode
 pub mod ExtentIs

@@ -23,13 +23,14 @@ use Rattle.emitter.specs.Exprs.{written}
 use Rattle.compiler.specs.Stmts.{startsEnd, startInto, branchesInto, headerInto, parInto}
 use Rattle.compiler.specs.Alts.{stmtInto, innerAt}
 use Rattle.compiler.proofs.Spelled.{NumeralAt, CountAt, StmtAt, StmtsAt, noStmtAt, stmtsAt}
+use Rattle.compiler.proofs.Planned.{Plans}
 use Rattle.compiler.proofs.Fills.{bytes-append, filled, fill-then, fill-before, fill-none, Room, room-left, room-right, emits-fills}
 use Rattle.compiler.proofs.Fills.{emits-at, distance-fills, Stands, stands-first, stands-next, stands-both, stands-last, gap-fills}
 use Rattle.compiler.proofs.Fills.{areas-fill, no-bytes, no-code, distance-bytes}
 use Rattle.compiler.proofs.ExtentIs.{extent-is}
-use Rattle.compiler.proofs.Compiles.{scopeOf, Scoped, inner-scope, Placed, Written, Compiles}
+use Rattle.compiler.proofs.Compiles.{scopeOf, Scoped, inner-scope, scope-depth, Placed, Written, Compiles}
 
-module _ (word : Site → ℕ) (workspace : ℕ → ℕ) (off : ℕ → ℕ) (s : List ℕ) where
+module _ (word : Site → ℕ) (workspace : ℕ → ℕ) (off : ℕ → ℕ) (s plan : List ℕ) (planned : Plans s plan) where
   -- the start of a branch: LDC start, LDLP -d, STARTP
   abbrev start : (d j b : ℕ) → List Instruction
   start d j b = distance ldc b (j + 2) ∷ plain ldlp (minus d) ∷ operation startp ∷ []
@@ -38,18 +39,19 @@ module _ (word : Site → ℕ) (workspace : ℕ → ℕ) (off : ℕ → ℕ) (s 
   unfolding bytesIn prefixesOf operationCode fewest fewestFrom enough
   start-bytes d j b = omega arith
 
-  starts-end : {d k i n : ℕ} {sc : M.Scope} {ss : Stmts} (m j b h : ℕ) → StmtsAt s d sc k i ss n → m + sumNeed ss ≤ 4096
-      → Room h (codeStarts word m j b ss) → startsEnd k d s i m h ≡ h + bytesIn (codeStarts word m j b ss)
+  starts-end : {d k i n : ℕ} {sc : M.Scope} {ss : Stmts} (m j b h : ℕ) → StmtsAt s d sc k i ss n → d ≤ 32
+      → m + sumNeed ss ≤ 4096
+      → Room h (codeStarts word m j b ss) → startsEnd k d plan s i m h ≡ h + bytesIn (codeStarts word m j b ss)
   unfolding startsEnd codeStarts sumNeed
-  starts-end m j b h noStmtAt l r = omega (arith, no-bytes)
-  starts-end m j b h (stmtsAt {b = x} {ss = ss} a c) l r =
+  starts-end m j b h noStmtAt deep l r = omega (arith, no-bytes)
+  starts-end m j b h (stmtsAt {b = x} {ss = ss} a c) deep l r =
       let rest = codeStarts word (m + need x) (j + 3) (b + size x + 2) ss in
       let bytes = bytes-append (start m j b) rest in
       let sum : low (m + need x) ≡ m + need x = mod-eq-of-lt (omega arith) in
       let next : low (h + (fewest (minus m) + 6)) ≡ h + (fewest (minus m) + 6) =
       mod-eq-of-lt (omega (arith, bytes, start-bytes m j b, r)) in
-      rw (extent-is s a (omega arith), sum, next)
-      (starts-end (m + need x) (j + 3) (b + size x + 2) (h + (fewest (minus m) + 6)) c (omega arith)
+      rw (extent-is s plan planned a deep (omega arith), sum, next)
+      (starts-end (m + need x) (j + 3) (b + size x + 2) (h + (fewest (minus m) + 6)) c deep (omega arith)
       (omega (arith, bytes, start-bytes m j b, r)) ∙ omega (arith, bytes, start-bytes m j b))
 
   start-fills : (d j b st hb : ℕ) (o : List ℕ) → off b ≡ hb → Stands off j st (start d j b) → Room st (start d j b)
@@ -70,13 +72,13 @@ module _ (word : Site → ℕ) (workspace : ℕ → ℕ) (off : ℕ → ℕ) (s 
       (ap (λ x. at x (sets o st (encode off (start d j b)))) (omega arith)))
 
   module _ {d : ℕ} {sc : M.Scope} {vs cs : List ℕ} (w : ℕ) (fits : w ≤ 4096) (scope : Scoped word (suc d) sc vs cs)
-      (inner : Compiles word workspace off s d) where
+      (inner : Compiles word workspace off s plan d) where
     -- a branch m words below: its code, LDLP m, ENDP
     abbrev branch : (m j : ℕ) → Stmt → List Instruction
     branch m j b = code word (w - m) j b ++ plain ldlp m ∷ operation endp ∷ []
 
     body-written : {i n : ℕ} {b : Stmt} (m j h : ℕ) → StmtAt s d sc i b n → Laid workspace (w - m) b → need b ≤ 4096
-        → Stands off j h (branch m j b) → Room h (branch m j b) → Written word workspace off s d sc vs cs (w - m) j h i n b
+        → Stands off j h (branch m j b) → Room h (branch m j b) → Written word workspace off s plan d sc vs cs (w - m) j h i n b
     body-written {b = b} m j h a laid few p r =
         let B = code word (w - m) j b in
         inner .compiles (w - m) j h a (inner-scope scope)
@@ -86,7 +88,7 @@ module _ (word : Site → ℕ) (workspace : ℕ → ℕ) (off : ℕ → ℕ) (s 
     branches-fill : {k i n : ℕ} {ss : Stmts} (m js st j h : ℕ) (o : List ℕ) → StmtsAt s d sc k i ss n → LaidBranches workspace (w - m) ss
         → m + sumNeed ss ≤ 4096 → Stands off js st (codeStarts word m js j ss) → Stands off j h (codeEnds word w m j ss)
         → st + bytesIn (codeStarts word m js j ss) ≤ h → Room h (codeEnds word w m j ss)
-        → branchesInto k d (innerAt d s) (scopeOf w sc) vs cs s i m st (at h o)
+        → branchesInto k d (innerAt d plan s) (scopeOf w sc) vs cs plan s i m st (at h o)
         ≡ record {
           next = n;
           here = h + bytesIn (codeEnds word w m j ss);
@@ -114,7 +116,7 @@ module _ (word : Site → ℕ) (workspace : ℕ → ℕ) (off : ℕ → ℕ) (s 
           start-fills m js j st h o (stands-first off q) (p2 .0) (omega (arith, starts, l, r)),
           body-written m j h a (laid .0) (omega arith) (q2 .0) (room-left h B B2 r2) (sets o st (encode off S)),
           emits-fills off (plain ldlp m ∷ operation endp ∷ []) h C (sets o st (encode off S)) (room-left h B B2 r2),
-          extent-is s a (omega arith),
+          extent-is s plan planned a (scope-depth scope) (omega arith),
           sum,
           branches-fill (m + need b) (js + 3) (st + bytesIn S) (j + size b + 2) (h + bytesIn B)
               (sets (sets o st (encode off S)) h (encode off B)) c (rw lower at (laid .1)) (omega arith) (p2 .1) (rw index at (q2 .1))
@@ -125,11 +127,12 @@ module _ (word : Site → ℕ) (workspace : ℕ → ℕ) (off : ℕ → ℕ) (s 
         rw (place, areas-fill off st S S2 h B B2 o (omega (arith, starts, l))))
 
   module _ {d : ℕ} {sc : M.Scope} {vs cs : List ℕ} (w : ℕ) (fits : w ≤ 4096) (scope : Scoped word (suc d) sc vs cs)
-      (inner : Compiles word workspace off s d) where
+      (inner : Compiles word workspace off s plan d) where
     branches-code : {k i m n : ℕ} {b : Stmt} {ss : Stmts} (j h : ℕ) (o : List ℕ) → StmtAt s d sc i b m → StmtsAt s d sc k m ss n
         → howMany ss ≡ k → LaidBranches workspace (w - 2) (stmt b ss) → 2 + sumNeed (stmt b ss) ≤ 4096
         → Stands off j h (codePar word w j (stmt b ss)) → Room h (codePar word w j (stmt b ss))
-        → parInto (suc k) d (innerAt d s) (scopeOf w sc) vs cs s i (at h o) ≡ written n (filled off h (codePar word w j (stmt b ss)) o)
+        → parInto (suc k) d (innerAt d plan s) (scopeOf w sc) vs cs plan s i (at h o)
+        ≡ written n (filled off h (codePar word w j (stmt b ss)) o)
     unfolding codePar sumNeed headerInto functionCode operationCode operationInto prefixesOf
     branches-code {k} {i} {m} {n} {b} {ss} j h o a c many laid few p r =
         let first = j + 6 + 3 * howMany ss in
@@ -186,9 +189,9 @@ module _ (word : Site → ℕ) (workspace : ℕ → ℕ) (off : ℕ → ℕ) (s 
           emits-fills off (plain stl 0 ∷ plain ldc (suc k) ∷ plain stl 1 ∷ []) (ha + 4) D (sets o h (encode off H))
               (rw u-is (omega (arith, bytes, r2))),
           u-is,
-          extent-is s a (omega arith),
+          extent-is s plan planned a (scope-depth scope) (omega arith),
           one-less,
-          starts-end (need b) (j + 6) (first + size b + 2) hs c (omega arith) (omega (arith, bytes, r2)),
+          starts-end (need b) (j + 6) (first + size b + 2) hs c (scope-depth scope) (omega arith) (omega (arith, bytes, r2)),
           zero-less,
           inner .compiles (w - 2) first hc a (inner-scope scope)
               (record {
@@ -226,7 +229,7 @@ module _ (word : Site → ℕ) (workspace : ℕ → ℕ) (off : ℕ → ℕ) (s 
     count-is (stmtsAt a c) = ap suc (count-is c)
 
     pub par-code : {i n m q k : ℕ} {ss : Stmts} (j h : ℕ) → NumeralAt s i 8 n → CountAt s 0 16 n k m → StmtsAt s d sc k m ss q
-        → Placed word workspace off s w j h (PAR i ss) → Written word workspace off s (suc d) sc vs cs w j h i q (PAR i ss)
+        → Placed word workspace off s plan w j h (PAR i ss) → Written word workspace off s plan (suc d) sc vs cs w j h i q (PAR i ss)
     unfolding stmtInto code need
     par-code j h t c noStmtAt p o = rw (t .value, c .there .value) (ap (written _) (sym (fill-none off h o)))
     par-code j h t c (stmtsAt a g) p o =

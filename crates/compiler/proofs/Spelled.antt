@@ -8,15 +8,15 @@ use mathlib.Core.List.{List}
 use mathlib.Core.Option.{some as just}
 use lib.ListN.{length, getD, drop, getElem?}
 use lib.Dec.{ltb, leb, eqb}
-use borrow.Author.Tests.{ltb-true}
+use borrow.Author.Tests.{ltb-true, leb-false}
 use Rattle.numbers.specs.Items.{groupsAt, grouped, valueAt}
 use Rattle.numbers.specs.declared.NumberRead.{NumberRead}
 use Rattle.numbers.specs.declared.NumberRead.the-variants.{Number, Bad}
-use Rattle.model.specs.Syntax.{Site, Operator, Expr, constant, variable, NOT, binary, Whole, Stmt, SKIP, STOP, assign, input, output, VAR}
+use Rattle.model.specs.Syntax.{Site, Operator, Expr, constant, variable, NOT, binary, Stmt, SKIP, STOP, assign, input, output, VAR}
 use Rattle.model.specs.Syntax.{CHAN}
 use Rattle.model.specs.Syntax.{SEQ, PAR, IF, WHILE, ALT, Stmts, noStmt, stmt, Pairs, noPair, pair, Guards, noGuard, inputGuard, skipGuard}
 use Rattle.model.specs.Reader.{Parsed, parsed, fails, Reader, onward, Scope, withVariables, withChannels, readName, operators}
-use Rattle.model.specs.Reader.{exprKinds, exprOf, readExpr, readWhole, readMany, stmtKinds, stmtOf, readStmt, readPair, guardKinds, guardOf}
+use Rattle.model.specs.Reader.{exprKinds, exprOf, readExpr, readMany, stmtKinds, stmtOf, readStmt, readPair, guardKinds, guardOf}
 use Rattle.model.specs.Reader.{readGuard, Inner, readNumber, readCount, oneOf, tooDeep, anySite, canInput, canOutput, applied}
 use Rattle.model.proofs.Cases.{by-bool, by-option, never}
 use Rattle.table.proofs.SameItems.{Bytes, Same, gives, turns, NumberAt, count-same, one-same, word-same, each, Each}
@@ -25,36 +25,46 @@ use Rattle.table.proofs.SameItems.{Bytes, Same, gives, turns, NumberAt, count-s
 pub record NumeralAt (s : List ℕ) (at v n : ℕ) : Type 0 where
   pub value : valueAt s at ≡ record { value = v; next = n }
   pub ahead : at < n
+  pub inside : n ≤ length s
 
-grouped-small : (b : ℕ) (x : NumberRead) (v n : ℕ) → b < 256 → grouped b x ≡ Number v n → v < 2 ^ 32
-grouped-small b Bad v n h e = never (cc)
-grouped-small b (Number w m) v n h e =
-    by-bool (eqb w 0) (λ f. never (cc (rw f at e)))
+-- a number is a word, and ends in the table
+record Bounded (s : List ℕ) (x : NumberRead) : Type 0 where
+  bounded : (v n : ℕ) → x ≡ Number v n → (v < 2 ^ 32) × (n ≤ length s)
+
+grouped-bounded : (s : List ℕ) (b : ℕ) (x : NumberRead) → b < 256 → Bounded s x → Bounded s (grouped b x)
+grouped-bounded s b Bad h r = record { bounded = λ v n e. never (cc) }
+grouped-bounded s b (Number w m) h r =
+    by-bool (eqb w 0) (λ f. rw f (record { bounded = λ v n e. never (cc) }))
     (λ f. by-bool (ltb w 33554432)
-    (λ g. is (ltb-true _ _ g) (rw (f, g) at e))
-    (λ g. never (cc (rw (f, g) at e))))
+    (λ g. rw (f, g) (record { bounded = is (ltb-true _ _ g) }))
+    (λ g. rw (f, g) (record { bounded = λ v n e. never (cc) })))
   where
-    is : w < 33554432 → Number (b - 128 + 128 * w) m ≡ Number v n → v < 2 ^ 32
-    is l q = let same : b - 128 + 128 * w ≡ v = cc in omega arith
+    is : w < 33554432 → (v n : ℕ) → Number (b - 128 + 128 * w) m ≡ Number v n → (v < 2 ^ 32) × (n ≤ length s)
+    is l v n q =
+        let same : b - 128 + 128 * w ≡ v = cc in
+        let end : m ≡ n = cc in
+        (omega arith, omega (arith, r .bounded w m refl .1))
 
-groups-small : (k : ℕ) (s : List ℕ) (at v n : ℕ) → Bytes s → groupsAt k s at ≡ Number v n → v < 2 ^ 32
+groups-bounded : (k : ℕ) (s : List ℕ) (at : ℕ) → Bytes s → Bounded s (groupsAt k s at)
 unfolding groupsAt
-groups-small zero s at v n b e = never (cc)
-groups-small (suc k) s at v n b e =
-    by-bool (leb (length s) at) (λ f. never (cc (rw f at e)))
+groups-bounded zero s at b = record { bounded = λ v n e. never (cc) }
+groups-bounded (suc k) s at b =
+    by-bool (leb (length s) at) (λ f. rw f (record { bounded = λ v n e. never (cc) }))
     (λ f. by-bool (ltb (getD s at 0) 128)
-    (λ g. is (rw (f, g) at e))
-    (λ g. grouped-small (getD s at 0) (groupsAt k s (at + 1)) v n (b at) (rw (f, g) at e)))
+    (λ g. rw (f, g) (record { bounded = is (leb-false _ _ f) }))
+    (λ g. rw (f, g) (grouped-bounded s (getD s at 0) (groupsAt k s (at + 1)) (b at) (groups-bounded k s (at + 1) b))))
   where
-    is : Number (getD s at 0) (at + 1) ≡ Number v n → v < 2 ^ 32
-    is q = let same : getD s at 0 ≡ v = cc in omega (arith, b at)
+    is : at < length s → (v n : ℕ) → Number (getD s at 0) (at + 1) ≡ Number v n → (v < 2 ^ 32) × (n ≤ length s)
+    is l v n q =
+        let same : getD s at 0 ≡ v = cc in
+        let end : at + 1 ≡ n = cc in
+        (omega (arith, b at), omega arith)
 
 numeral : {s : List ℕ} {at v n : ℕ} → Bytes s → NumberAt s at v n → NumeralAt s at v n
 unfolding valueAt
-numeral {s} {at} {v} {n} b t = record {
-  value = rw (t .number, mod-eq-of-lt (groups-small 5 s at v n b (t .number)));
-  ahead = t .ahead;
-}
+numeral {s} {at} {v} {n} b t =
+    let h = groups-bounded 5 s at b .bounded v n (t .number) in
+    record { value = rw (t .number, mod-eq-of-lt (h .0)); ahead = t .ahead; inside = h .1 }
 
 -- what the model reads from a place on: the bytes after it are those of the table, and a fact on what was read and where it ends
 pub data Gives {A : Type 0} (s : List ℕ) (P : A → ℕ → Type 0) : Parsed A → Type 0 where
@@ -85,10 +95,6 @@ pub data ExprAt (s : List ℕ) (vs : List Site) : (depth at : ℕ) → Expr → 
   binaryAt : {d at n m p q : ℕ} {op : Operator} {l r : Expr} → NumeralAt s at 3 n → OneAt s operators n op m
       → ExprAt s vs d m l p → ExprAt s vs d p r q → ExprAt s vs (suc d) at (binary op l r) q
 
--- an expression that stands in no other
-pub record WholeAt (s : List ℕ) (vs : List Site) (depth at : ℕ) (e : Whole) (n : ℕ) : Type 0 where
-  pub expr : ExprAt s vs depth at (e .expr) n
-
 -- a number from lo to hi
 pub record CountAt (s : List ℕ) (lo hi at v n : ℕ) : Type 0 where
   pub there : NumeralAt s at v n
@@ -100,12 +106,12 @@ mutual
   pub data StmtAt (s : List ℕ) : (depth : ℕ) → Scope → (at : ℕ) → Stmt → (next : ℕ) → Type 0 where
     skipAt : {d at n : ℕ} {w : Scope} → NumeralAt s at 0 n → StmtAt s (suc d) w at SKIP n
     stopAt : {d at n : ℕ} {w : Scope} → NumeralAt s at 1 n → StmtAt s (suc d) w at STOP n
-    assignAt : {d at n m p : ℕ} {w : Scope} {x : Site} {e : Whole} → NumeralAt s at 2 n → OneAt s (w .variables) n x m
-        → WholeAt s (w .variables) d m e p → StmtAt s (suc d) w at (assign x e) p
+    assignAt : {d at n m p : ℕ} {w : Scope} {x : Site} {e : Expr} → NumeralAt s at 2 n → OneAt s (w .variables) n x m
+        → ExprAt s (w .variables) d m e p → StmtAt s (suc d) w at (assign x e) p
     inputAt : {d at n m p : ℕ} {w : Scope} {c x : Site} → NumeralAt s at 3 n → OneAt s (w .channels) n c m
         → OneAt s (w .variables) m x p → StmtAt s (suc d) w at (input c x) p
-    outputAt : {d at n m p : ℕ} {w : Scope} {c : Site} {e : Whole} → NumeralAt s at 4 n → OneAt s (w .channels) n c m
-        → WholeAt s (w .variables) d m e p → StmtAt s (suc d) w at (output c e) p
+    outputAt : {d at n m p : ℕ} {w : Scope} {c : Site} {e : Expr} → NumeralAt s at 4 n → OneAt s (w .channels) n c m
+        → ExprAt s (w .variables) d m e p → StmtAt s (suc d) w at (output c e) p
     varAt : {d at n m p k : ℕ} {w : Scope} {b : Stmt} → NumeralAt s at 5 n → CountAt s 1 32 n k m
         → StmtAt s d (withVariables at k w) m b p → StmtAt s (suc d) w at (VAR at k b) p
     chanAt : {d at n m p k : ℕ} {w : Scope} {b : Stmt} → NumeralAt s at 6 n → CountAt s 1 32 n k m
@@ -116,7 +122,7 @@ mutual
         → StmtsAt s d w k m ss p → StmtAt s (suc d) w at (PAR at ss) p
     ifAt : {d at n m p k : ℕ} {w : Scope} {ps : Pairs} → NumeralAt s at 9 n → CountAt s 0 32 n k m
         → PairsAt s d w k m ps p → StmtAt s (suc d) w at (IF ps) p
-    whileAt : {d at n m p : ℕ} {w : Scope} {e : Whole} {b : Stmt} → NumeralAt s at 10 n → WholeAt s (w .variables) d n e m
+    whileAt : {d at n m p : ℕ} {w : Scope} {e : Expr} {b : Stmt} → NumeralAt s at 10 n → ExprAt s (w .variables) d n e m
         → StmtAt s d w m b p → StmtAt s (suc d) w at (WHILE e b) p
     altAt : {d at n m p k : ℕ} {w : Scope} {gs : Guards} → NumeralAt s at 11 n → CountAt s 0 32 n k m
         → GuardsAt s d w k m gs p → StmtAt s (suc d) w at (ALT gs) p
@@ -128,16 +134,16 @@ mutual
 
   pub data PairsAt (s : List ℕ) : (depth : ℕ) → Scope → (count at : ℕ) → Pairs → (next : ℕ) → Type 0 where
     noPairAt : {d at : ℕ} {w : Scope} → PairsAt s d w 0 at noPair at
-    pairAt : {d k at n m p : ℕ} {w : Scope} {e : Whole} {b : Stmt} {ps : Pairs} → WholeAt s (w .variables) d at e n → StmtAt s d w n b m
+    pairAt : {d k at n m p : ℕ} {w : Scope} {e : Expr} {b : Stmt} {ps : Pairs} → ExprAt s (w .variables) d at e n → StmtAt s d w n b m
         → PairsAt s d w k m ps p → PairsAt s d w (suc k) at (pair e b ps) p
 
   pub data GuardsAt (s : List ℕ) : (depth : ℕ) → Scope → (count at : ℕ) → Guards → (next : ℕ) → Type 0 where
     noGuardAt : {d at : ℕ} {w : Scope} → GuardsAt s d w 0 at noGuard at
-    inputGuardAt : {d k at n m p q r t : ℕ} {w : Scope} {e : Whole} {c x : Site} {b : Stmt} {gs : Guards} → NumeralAt s at 0 n
-        → WholeAt s (w .variables) d n e m → OneAt s (w .channels) m c p → OneAt s (w .variables) p x q → StmtAt s d w q b r
+    inputGuardAt : {d k at n m p q r t : ℕ} {w : Scope} {e : Expr} {c x : Site} {b : Stmt} {gs : Guards} → NumeralAt s at 0 n
+        → ExprAt s (w .variables) d n e m → OneAt s (w .channels) m c p → OneAt s (w .variables) p x q → StmtAt s d w q b r
         → GuardsAt s d w k r gs t → GuardsAt s d w (suc k) at (inputGuard e c x b gs) t
-    skipGuardAt : {d k at n m r t : ℕ} {w : Scope} {e : Whole} {b : Stmt} {gs : Guards} → NumeralAt s at 1 n
-        → WholeAt s (w .variables) d n e m → StmtAt s d w m b r → GuardsAt s d w k r gs t → GuardsAt s d w (suc k) at (skipGuard e b gs) t
+    skipGuardAt : {d k at n m r t : ℕ} {w : Scope} {e : Expr} {b : Stmt} {gs : Guards} → NumeralAt s at 1 n
+        → ExprAt s (w .variables) d n e m → StmtAt s d w m b r → GuardsAt s d w k r gs t → GuardsAt s d w (suc k) at (skipGuard e b gs) t
 
 module _ (s : List ℕ) (b : Bytes s) where
   one : {A : Type 0} (things : List A) (hi : ℕ) (at : ℕ) → length things ≡ suc hi
@@ -189,10 +195,6 @@ module _ (s : List ℕ) (b : Bytes s) where
       )
       (h .listed) (h .there))
 
-  whole : (d : ℕ) (w : Scope) (at : ℕ) → Gives s (WholeAt s (w .variables) d at) (readWhole d w at (drop at s))
-  unfolding readWhole
-  whole d w at = and-then _ (expr-spelled d w at) (λ e n h. parses _ n (record { expr = h }))
-
   -- so many parts, one after the other
   many : {A L : Type 0} (P : A → ℕ → ℕ → Type 0) (Q : ℕ → L → ℕ → ℕ → Type 0) (empty : L) (more : A → L → L) (part : Reader A)
       → ((at : ℕ) → Gives s (λ a n. P a at n) (part at (drop at s))) → ((at : ℕ) → Q 0 empty at at)
@@ -219,14 +221,14 @@ module _ (s : List ℕ) (b : Bytes s) where
         (λ k b ss at n m h g. stmtsAt h g) k at
 
     abbrev within : Scope → Inner
-    within w = record { expr = readWhole d w; stmt = readStmt d }
+    within w = record { expr = readExpr d w; stmt = readStmt d }
 
     pairs : (w : Scope) (k at : ℕ)
         → Gives s (λ ps n. PairsAt s d w k at ps n) (readMany noPair applied (readPair w (within w)) k at (drop at s))
     unfolding readPair
     pairs w k at =
         many (λ f at n. PairAt d w f at n) (λ k ps at n. PairsAt s d w k at ps n) noPair applied (readPair w (within w))
-        (λ at. and-then _ (whole d w at)
+        (λ at. and-then _ (expr-spelled d w at)
         (λ e n h. and-then _ (inner w n) (λ b m g. parses (pair e b) m (record { before = λ k ps p r. pairAt h g r }))))
         (λ at. noPairAt) (λ k f ps at n m h g. h .before k ps m g) k at
 
@@ -238,13 +240,13 @@ module _ (s : List ℕ) (b : Bytes s) where
         (λ at. and-then _ (one guardKinds 1 at refl)
         (λ g n h. each (λ v g. NumeralAt s at v n → Gives s (λ f m. GuardAt d w f at m) (guardOf w (within w) g n (drop n s)))
         guardKinds (h .index) (
-          λ t. and-then _ (whole d w n)
+          λ t. and-then _ (expr-spelled d w n)
               (λ e m q. and-then _ (name canInput (w .channels) m)
               (λ c p r. and-then _ (name anySite (w .variables) p)
               (λ x u y. and-then _ (inner w u)
               (λ b z i. parses (inputGuard e c x b) z (record { before = λ k gs p l. inputGuardAt t q r y i l }))))),
           (
-            λ t. and-then _ (whole d w n)
+            λ t. and-then _ (expr-spelled d w n)
                 (λ e m q. and-then _ (inner w m) (λ b z i. parses (skipGuard e b) z (record { before = λ k gs p l. skipGuardAt t q i l }))),
             tt,
           ),
@@ -262,13 +264,13 @@ module _ (s : List ℕ) (b : Bytes s) where
         λ t. parses STOP n (stopAt t),
         (
           λ t. and-then _ (name anySite (w .variables) n)
-              (λ x m h. and-then _ (whole d w m) (λ e p g. parses (assign x e) p (assignAt t h g))),
+              (λ x m h. and-then _ (expr-spelled d w m) (λ e p g. parses (assign x e) p (assignAt t h g))),
           (
             λ t. and-then _ (name canInput (w .channels) n)
                 (λ c m h. and-then _ (name anySite (w .variables) m) (λ x p g. parses (input c x) p (inputAt t h g))),
             (
               λ t. and-then _ (name canOutput (w .channels) n)
-                  (λ c m h. and-then _ (whole d w m) (λ e p g. parses (output c e) p (outputAt t h g))),
+                  (λ c m h. and-then _ (expr-spelled d w m) (λ e p g. parses (output c e) p (outputAt t h g))),
               (
                 λ t. and-then _ (count 1 32 n)
                     (λ k m h. and-then _ (inner (withVariables at k w) m) (λ b p g. parses (VAR at k b) p (varAt t h g))),
@@ -282,7 +284,8 @@ module _ (s : List ℕ) (b : Bytes s) where
                       (
                         λ t. and-then _ (count 0 32 n) (λ k m h. and-then _ (pairs w k m) (λ ps p g. parses (IF ps) p (ifAt t h g))),
                         (
-                          λ t. and-then _ (whole d w n) (λ e m h. and-then _ (inner w m) (λ b p g. parses (WHILE e b) p (whileAt t h g))),
+                          λ t. and-then _ (expr-spelled d w n) (λ e m h. and-then _ (inner w m)
+                              (λ b p g. parses (WHILE e b) p (whileAt t h g))),
                           (
                             λ t. and-then _ (count 0 32 n) (λ k m h. and-then _ (guards w k m)
                                 (λ gs p g. parses (ALT gs) p (altAt t h g))),
@@ -306,5 +309,5 @@ module _ (s : List ℕ) (b : Bytes s) where
   stmt-spelled (suc d) w at =
       and-then _ (one stmtKinds 11 at refl)
       (λ k n h. each (λ v k. NumeralAt s at v n → Gives s (StmtAt s (suc d) w at)
-      (stmtOf at w (record { expr = readWhole d w; stmt = readStmt d }) k n (drop n s))) stmtKinds (h .index)
+      (stmtOf at w (record { expr = readExpr d w; stmt = readStmt d }) k n (drop n s))) stmtKinds (h .index)
       (kinds d (stmt-spelled d) w at n) (h .listed) (h .there))

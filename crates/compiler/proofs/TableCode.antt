@@ -29,6 +29,7 @@ use Rattle.model.proofs.Points.{getElem-inside as inside}
 use Rattle.table.proofs.SameItems.{Bytes}
 use Rattle.table.proofs.SameSimple.{numbered-at, lookup-append, length-numbered}
 use Rattle.emitter.specs.Emits.{at, declaredWords}
+use Rattle.emitter.specs.Plans.{planOf}
 use Rattle.emitter.specs.Exprs.{written}
 use Rattle.compiler.specs.Stmts.{scoped}
 use Rattle.compiler.specs.Alts.{stmtInto}
@@ -36,7 +37,7 @@ use Rattle.compiler.specs.Codes.{tableInto}
 use Rattle.compiler.proofs.Spelled.{CountAt, StmtAt, Gives, parses, and-then, count, stmt-spelled}
 use Rattle.compiler.proofs.Fills.{bytes-append, filled, Room, Stands, ends, stands}
 use Rattle.compiler.proofs.ExprCode.{Named}
-use Rattle.compiler.proofs.ExtentIs.{next-is}
+use Rattle.compiler.proofs.Planned.{next-is, plan-of}
 use Rattle.compiler.proofs.Declares.{words-new, words-long}
 use Rattle.compiler.proofs.StmtCode.{compiles-all}
 use Rattle.compiler.proofs.Bounds.{stmt-bound, bytes-bound}
@@ -120,14 +121,15 @@ scheme-room s p whole q =
 body-code : (s : List ℕ) (p : Program) → ReadWhole s p → (q : ProgramAt s p (length s)) → base p ≤ 4096 → (none : List ℕ)
     → length none ≡ 1024 → (o : List ℕ)
     → stmtInto 32 (scoped (base p) 0 (p .inputs + p .outputs)) none
-    (declaredWords (p .inputs + p .outputs) 0 (base p) none) s (q .third) (at 0 o)
+    (declaredWords (p .inputs + p .outputs) 0 (base p) none) (planOf s) s (q .third) (at 0 o)
     ≡ written (length s) (filled (placeOf (scheme p)) 0 (scheme p) o)
 unfolding scheme wordOf bytesIn
 body-code s p whole q few none long o =
     let workspace : ℕ → ℕ = λ x. workspaceOf x (layout (base p) (p .body)) in
     let ws = declaredWords (p .inputs + p .outputs) 0 (base p) none in
     rw (outside-long p) at
-    (compiles-all (wordOf p) workspace (placeOf (scheme p)) s (λ x j. refl) 32 .compiles {vs = none} {cs = ws} (base p) 0 0 (q .body)
+    (compiles-all (wordOf p) workspace (placeOf (scheme p)) s (planOf s) (plan-of s (whole .short)) (λ x j. refl) 32
+    .compiles {vs = none} {cs = ws} (base p) 0 0 (q .body)
     (record {
       variables = record { inside = λ k x e. never cc; word-is = λ k x e. never cc; long = long; few = omega arith };
       channels = outside-named p none (whole .well .0) (whole .well .1) few long;
@@ -143,7 +145,7 @@ body-code s p whole q few none long o =
 
 -- the generator writes the model's code of an accepted table
 pub table-code : (s : List ℕ) (p : Program) → Bytes s → accept s ≡ program p → memoryWords p ≤ 4096 → (o : List ℕ)
-    → tableInto s (factsOf p) o ≡ at (length (codeOf p)) (sets o 0 (codeOf p))
+    → tableInto (planOf s) s (factsOf p) o ≡ at (length (codeOf p)) (sets o 0 (codeOf p))
 unfolding tableInto codeOf
 table-code s p b e few o =
     let read = accept-reads s p e in

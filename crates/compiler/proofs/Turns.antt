@@ -10,7 +10,7 @@ use Rattle.model.specs.Word.{low, minus}
 use Rattle.numbers.specs.Items.{valueAt}
 use Rattle.numbers.specs.declared.Value.{Value}
 use Rattle.emitter.specs.Emits.{Code, at, plainInto, distanceInto, operationInto, declaredWords}
-use Rattle.emitter.specs.Exprs.{Wrote, written, codeOf, exprInto}
+use Rattle.emitter.specs.Exprs.{Wrote, written, codeOf, wholeInto}
 use Rattle.emitter.specs.Extents.{extentAt}
 use Rattle.emitter.specs.Simples.{inInto, simpleInto}
 use Rattle.emitter.specs.declared.extent.Extent.{Extent}
@@ -21,182 +21,183 @@ use Rattle.compiler.specs.declared.stmt.Scope.{Scope}
 use Rattle.compiler.specs.declared.alt.Guard.{Guard}
 
 -- a statement: no depth left; a simple one; one with statements inside
-pub stmt-none : (d : ℕ) (sc : Scope) (vs cs s : List ℕ) (i : ℕ) (c : Code) → d ≡ 0 → written i c ≡ stmtInto d sc vs cs s i c
+pub stmt-none : (d : ℕ) (sc : Scope) (vs cs plan s : List ℕ) (i : ℕ) (c : Code) → d ≡ 0 → written i c ≡ stmtInto d sc vs cs plan s i c
 unfolding stmtInto
-stmt-none d sc vs cs s i c e = rw e
+stmt-none d sc vs cs plan s i c e = rw e
 
-abbrev byKind : (d : ℕ) (sc : Scope) (vs cs s : List ℕ) → Code → Value → Wrote
-byKind d sc vs cs s c k =
-    cond (ltb (k .value) 5) (simpleInto (k .value) (d - 1) (sc .w) vs cs s (k .next) c)
-    (insideAt (k .value) (d - 1) sc vs cs s (k .next) c)
+abbrev byKind : (d : ℕ) (sc : Scope) (vs cs plan s : List ℕ) → Code → Value → Wrote
+byKind d sc vs cs plan s c k =
+    cond (ltb (k .value) 5) (simpleInto (k .value) (d - 1) (sc .w) vs cs plan s (k .next) c)
+    (insideAt (k .value) (d - 1) sc vs cs plan s (k .next) c)
 
-stmt-turn : (d : ℕ) (sc : Scope) (vs cs s : List ℕ) (i : ℕ) (c : Code) → (d ≡ 0 → ⊥)
-    → stmtInto d sc vs cs s i c ≡ byKind d sc vs cs s c (valueAt s i)
+stmt-turn : (d : ℕ) (sc : Scope) (vs cs plan s : List ℕ) (i : ℕ) (c : Code) → (d ≡ 0 → ⊥)
+    → stmtInto d sc vs cs plan s i c ≡ byKind d sc vs cs plan s c (valueAt s i)
 unfolding stmtInto insideAt
-stmt-turn zero sc vs cs s i c p = absurd (p refl)
-stmt-turn (suc d) sc vs cs s i c p = let e : suc d - 1 ≡ d = omega arith in rw e
+stmt-turn zero sc vs cs plan s i c p = absurd (p refl)
+stmt-turn (suc d) sc vs cs plan s i c p = let e : suc d - 1 ≡ d = omega arith in rw e
 
-module _ (d : ℕ) (sc : Scope) (vs cs s : List ℕ) where
+module _ (d : ℕ) (sc : Scope) (vs cs plan s : List ℕ) where
   pub stmt-simple : (i : ℕ) (c : Code) {k : Value} {r : Wrote} → (d ≡ 0 → ⊥) → k ≡ valueAt s i
-      → k .value < 5 → r ≡ simpleInto (k .value) (d - 1) (sc .w) vs cs s (k .next) c → r ≡ stmtInto d sc vs cs s i c
-  stmt-simple i c {k} p q t e = e ∙ sym (stmt-turn d sc vs cs s i c p ∙ simp (← q, lt-ltb (k .value) 5 t))
+      → k .value < 5 → r ≡ simpleInto (k .value) (d - 1) (sc .w) vs cs plan s (k .next) c → r ≡ stmtInto d sc vs cs plan s i c
+  stmt-simple i c {k} p q t e = e ∙ sym (stmt-turn d sc vs cs plan s i c p ∙ simp (← q, lt-ltb (k .value) 5 t))
 
   pub stmt-inside : (i : ℕ) (c : Code) {k : Value} {r : Wrote} → (d ≡ 0 → ⊥) → k ≡ valueAt s i
-      → 5 ≤ k .value → r ≡ insideAt (k .value) (d - 1) sc vs cs s (k .next) c → r ≡ stmtInto d sc vs cs s i c
-  stmt-inside i c {k} p q t e = e ∙ sym (stmt-turn d sc vs cs s i c p ∙ simp (← q, le-ltb (k .value) 5 t))
+      → 5 ≤ k .value → r ≡ insideAt (k .value) (d - 1) sc vs cs plan s (k .next) c → r ≡ stmtInto d sc vs cs plan s i c
+  stmt-inside i c {k} p q t e = e ∙ sym (stmt-turn d sc vs cs plan s i c p ∙ simp (← q, le-ltb (k .value) 5 t))
 
   -- the body of VAR and of CHAN
   pub body-variables : (k n i : ℕ) (c : Code) {w v : ℕ} {more : List ℕ} {r : Wrote}
       → w ≡ sc .w - n → k ≡ 5 → more ≡ declaredWords n (sc .variables) w vs → v ≡ low (sc .variables + n)
-      → r ≡ stmtInto d (scoped w v (sc .channels)) more cs s i c → r ≡ bodyAt k n d sc vs cs s i c
+      → r ≡ stmtInto d (scoped w v (sc .channels)) more cs plan s i c → r ≡ bodyAt k n d sc vs cs plan s i c
   unfolding bodyAt
   body-variables k n i c p t m q e = e ∙ rw (m, q, p, eq-eqb k 5 t)
 
   pub body-channels : (k n i : ℕ) (c : Code) {w v : ℕ} {more : List ℕ} {r : Wrote}
       → w ≡ sc .w - n → (k ≡ 5 → ⊥) → more ≡ declaredWords n (sc .channels) w cs → v ≡ low (sc .channels + n)
-      → r ≡ stmtInto d (scoped w (sc .variables) v) vs more s i c → r ≡ bodyAt k n d sc vs cs s i c
+      → r ≡ stmtInto d (scoped w (sc .variables) v) vs more plan s i c → r ≡ bodyAt k n d sc vs cs plan s i c
   unfolding bodyAt
   body-channels k n i c p t m q e = e ∙ rw (m, q, p, ne-eqb k 5 t)
 
   pub declaration-is : (k i : ℕ) (c : Code) {n : Value} {m : ℕ} {a st e : Code} {b : Wrote}
       → n ≡ valueAt s i → m ≡ minus (n .value) → a ≡ plainInto 0xb0 m c → st ≡ initialInto (n .value) k 0 a
-      → b ≡ bodyAt k (n .value) d sc vs cs s (n .next) st → e ≡ plainInto 0xb0 (n .value) (codeOf b)
-      → written (b .next) e ≡ declarationAt k d sc vs cs s i c
+      → b ≡ bodyAt k (n .value) d sc vs cs plan s (n .next) st → e ≡ plainInto 0xb0 (n .value) (codeOf b)
+      → written (b .next) e ≡ declarationAt k d sc vs cs plan s i c
   unfolding declarationAt bodyAt
   declaration-is k i c pn pm pa pst pb pe = rw (pe, pb, pst, pa, pm, pn)
 
   -- SEQ
-  pub seq-none : (n i : ℕ) (c : Code) → n ≡ 0 → written i c ≡ seqAt n d sc vs cs s i c
+  pub seq-none : (n i : ℕ) (c : Code) → n ≡ 0 → written i c ≡ seqAt n d sc vs cs plan s i c
   unfolding seqAt seqInto
   seq-none n i c e = rw e
 
-  pub seq-more : (n i : ℕ) (c : Code) {p r : Wrote} → (n ≡ 0 → ⊥) → p ≡ stmtInto d sc vs cs s i c
-      → r ≡ seqAt (n - 1) d sc vs cs s (p .next) (codeOf p) → r ≡ seqAt n d sc vs cs s i c
+  pub seq-more : (n i : ℕ) (c : Code) {p r : Wrote} → (n ≡ 0 → ⊥) → p ≡ stmtInto d sc vs cs plan s i c
+      → r ≡ seqAt (n - 1) d sc vs cs plan s (p .next) (codeOf p) → r ≡ seqAt n d sc vs cs plan s i c
   unfolding seqAt seqInto
   seq-more zero i c l pp pr = absurd (l refl)
   seq-more (suc n) i c l pp pr = let e : suc n - 1 ≡ n = omega arith in pr ∙ rw (pp, e)
 
   -- IF
-  pub if-none : (n i : ℕ) (c : Code) {e : Code} → n ≡ 0 → e ≡ operationInto 21 c → written i e ≡ ifAt n d sc vs cs s i c
+  pub if-none : (n i : ℕ) (c : Code) {e : Code} → n ≡ 0 → e ≡ operationInto 21 c → written i e ≡ ifAt n d sc vs cs plan s i c
   unfolding ifAt ifInto
   if-none n i c z pe = rw (pe, z)
 
   pub if-more : (n i : ℕ) (c : Code) {t b r : Wrote} {begin next : ℕ} {j cj : Code} → (n ≡ 0 → ⊥)
-      → t ≡ exprInto d (sc .w) vs s i c → begin ≡ low (t .here + 4) → b ≡ stmtInto d sc vs cs s (t .next) (at begin (t .out))
-      → next ≡ low (b .here + 4) → r ≡ ifAt (n - 1) d sc vs cs s (b .next) (at next (b .out))
+      → t ≡ wholeInto d (sc .w) 0 vs plan s i c → begin ≡ low (t .here + 4) → b ≡ stmtInto d sc vs cs plan s (t .next) (at begin (t .out))
+      → next ≡ low (b .here + 4) → r ≡ ifAt (n - 1) d sc vs cs plan s (b .next) (at next (b .out))
       → j ≡ distanceInto 0 (r .here) next (at (b .here) (r .out)) → cj ≡ distanceInto 0xa0 next begin (at (t .here) (j .out))
-      → record { next = r .next; here = r .here; out = cj .out } ≡ ifAt n d sc vs cs s i c
+      → record { next = r .next; here = r .here; out = cj .out } ≡ ifAt n d sc vs cs plan s i c
   unfolding ifAt ifInto
   if-more zero i c l pt pg pb pn pr pj pc = absurd (l refl)
   if-more (suc n) i c l pt pg pb pn pr pj pc = let e : suc n - 1 ≡ n = omega arith in rw (pc, pj, pr, pn, pb, pg, pt, e)
 
   -- WHILE
   pub while-is : (i : ℕ) (c : Code) {t b : Wrote} {begin end : ℕ} {j cj : Code}
-      → t ≡ exprInto d (sc .w) vs s i c → begin ≡ low (t .here + 4) → b ≡ stmtInto d sc vs cs s (t .next) (at begin (t .out))
+      → t ≡ wholeInto d (sc .w) 0 vs plan s i c → begin ≡ low (t .here + 4) → b ≡ stmtInto d sc vs cs plan s (t .next) (at begin (t .out))
       → end ≡ low (b .here + 4) → j ≡ distanceInto 0 (c .here) end (at (b .here) (b .out))
       → cj ≡ distanceInto 0xa0 end begin (at (t .here) (j .out))
-      → record { next = b .next; here = end; out = cj .out } ≡ whileAt d sc vs cs s i c
+      → record { next = b .next; here = end; out = cj .out } ≡ whileAt d sc vs cs plan s i c
   unfolding whileAt
   while-is i c pt pg pb pn pj pc = rw (pc, pj, pn, pb, pg, pt)
 
   -- PAR
   pub branch-is : (b i : ℕ) (c : Code) {w : ℕ} {r : Wrote} {l e : Code} → w ≡ sc .w - b
-      → r ≡ stmtInto d (scoped w (sc .variables) (sc .channels)) vs cs s i c → l ≡ plainInto 0x10 b (codeOf r) → e ≡ operationInto 3 l
-      → written (r .next) e ≡ branchAt b d sc vs cs s i c
+      → r ≡ stmtInto d (scoped w (sc .variables) (sc .channels)) vs cs plan s i c → l ≡ plainInto 0x10 b (codeOf r) → e ≡ operationInto 3 l
+      → written (r .next) e ≡ branchAt b d sc vs cs plan s i c
   unfolding branchAt
   branch-is b i c pw pr pl pe = rw (pe, pl, pr, pw)
 
-  pub branches-none : (n i b start : ℕ) (c : Code) → n ≡ 0 → written i c ≡ branchesAt n d sc vs cs s i b start c
+  pub branches-none : (n i b start : ℕ) (c : Code) → n ≡ 0 → written i c ≡ branchesAt n d sc vs cs plan s i b start c
   unfolding branchesAt branchesInto
   branches-none n i b start c e = rw e
 
   pub branches-more : (n i b start : ℕ) (c : Code) {st : Code} {o r : Wrote} {own : Extent} {l : ℕ}
-      → (n ≡ 0 → ⊥) → st ≡ startInto b (c .here) (at start (c .out)) → o ≡ branchAt b d sc vs cs s i (at (c .here) (st .out))
-      → own ≡ extentAt d s i → l ≡ low (b + own .need) → r ≡ branchesAt (n - 1) d sc vs cs s (o .next) l (st .here) (codeOf o)
-      → r ≡ branchesAt n d sc vs cs s i b start c
+      → (n ≡ 0 → ⊥) → st ≡ startInto b (c .here) (at start (c .out)) → o ≡ branchAt b d sc vs cs plan s i (at (c .here) (st .out))
+      → own ≡ extentAt d plan s i → l ≡ low (b + own .need) → r ≡ branchesAt (n - 1) d sc vs cs plan s (o .next) l (st .here) (codeOf o)
+      → r ≡ branchesAt n d sc vs cs plan s i b start c
   unfolding branchesAt branchesInto branchAt
   branches-more zero i b start c l ps po pw pl pr = absurd (l refl)
   branches-more (suc n) i b start c l ps po pw pl pr = let e : suc n - 1 ≡ n = omega arith in pr ∙ rw (pl, pw, po, ps, e)
 
-  pub par-none : (n i : ℕ) (c : Code) → n ≡ 0 → written i c ≡ parAt n d sc vs cs s i c
+  pub par-none : (n i : ℕ) (c : Code) → n ≡ 0 → written i c ≡ parAt n d sc vs cs plan s i c
   unfolding parAt
   par-none n i c e = rw (eq-eqb n 0 e)
 
   pub par-more : (n i : ℕ) (c : Code) {m o g w : ℕ} {a u h l z : Code} {e : Extent} {b r : Wrote}
       → (n ≡ 0 → ⊥) → m ≡ minus 2 → a ≡ plainInto 0xb0 m c → o ≡ low (a .here + 4) → u ≡ operationInto 27 (at o (a .out))
-      → h ≡ headerInto n u → e ≡ extentAt d s i → g ≡ startsEnd (n - 1) d s (e .next) (e .need) (h .here) → w ≡ sc .w - 2
-      → b ≡ branchAt 0 d (scoped w (sc .variables) (sc .channels)) vs cs s i (at g (h .out))
-      → r ≡ branchesAt (n - 1) d (scoped w (sc .variables) (sc .channels)) vs cs s (b .next) (e .need) (h .here) (codeOf b)
+      → h ≡ headerInto n u → e ≡ extentAt d plan s i → g ≡ startsEnd (n - 1) d plan s (e .next) (e .need) (h .here) → w ≡ sc .w - 2
+      → b ≡ branchAt 0 d (scoped w (sc .variables) (sc .channels)) vs cs plan s i (at g (h .out))
+      → r ≡ branchesAt (n - 1) d (scoped w (sc .variables) (sc .channels)) vs cs plan s (b .next) (e .need) (h .here) (codeOf b)
       → l ≡ distanceInto 0x40 (r .here) (u .here) (at (a .here) (r .out)) → z ≡ plainInto 0xb0 2 (at (r .here) (l .out))
-      → written (r .next) z ≡ parAt n d sc vs cs s i c
+      → written (r .next) z ≡ parAt n d sc vs cs plan s i c
   unfolding parAt branchAt branchesAt
   par-more n i c q pm pa po pu ph pe pg pw pb pr pl pz =
       rw (pz, pl, pr, pb, pw, pg, pe, ph, pu, po, pa, pm, ne-eqb n 0 q)
 
   -- ALT
   pub choice-waits : (g : Guard) (c : Code) {a : Code} {i r : Wrote} → a ≡ plainInto 0xb0 1 c
-      → g .waits ≡ true → i ≡ inInto (sc .w) vs cs s (g .next) a → r ≡ stmtInto d sc vs cs s (i .next) (codeOf i)
-      → r ≡ choiceAt g d sc vs cs s c
+      → g .waits ≡ true → i ≡ inInto (sc .w) vs cs s (g .next) a → r ≡ stmtInto d sc vs cs plan s (i .next) (codeOf i)
+      → r ≡ choiceAt g d sc vs cs plan s c
   unfolding choiceAt
   choice-waits g c pa t pi pr = pr ∙ rw (pi, pa, t)
 
   pub choice-skips : (g : Guard) (c : Code) {a : Code} {r : Wrote} → a ≡ plainInto 0xb0 1 c
-      → g .waits ≡ false → r ≡ stmtInto d sc vs cs s (g .next) a → r ≡ choiceAt g d sc vs cs s c
+      → g .waits ≡ false → r ≡ stmtInto d sc vs cs plan s (g .next) a → r ≡ choiceAt g d sc vs cs plan s c
   unfolding choiceAt
   choice-skips g c pa t pr = pr ∙ rw (pa, t)
 
-  pub choices-none : (n i dis base : ℕ) (c : Code) → n ≡ 0 → written i c ≡ choicesAt n d sc vs cs s i dis base c
+  pub choices-none : (n i dis base : ℕ) (c : Code) → n ≡ 0 → written i c ≡ choicesAt n d sc vs cs plan s i dis base c
   unfolding choicesAt choicesInto
   choices-none n i dis base c e = rw e
 
   pub choices-more : (n i dis base : ℕ) (c : Code) {w next : ℕ} {g : Guarded} {f j : Code} {b r : Wrote}
-      → (n ≡ 0 → ⊥) → w ≡ sc .w - 1 → g ≡ guardInto d w vs cs s i (at dis (c .out)) → f ≡ disableInto (g .guard) (c .here) base (g .out)
-      → b ≡ choiceAt (g .guard) d sc vs cs s (at (c .here) (f .out)) → next ≡ low (b .here + 4)
-      → r ≡ choicesAt (n - 1) d sc vs cs s (b .next) (f .here) base (at next (b .out))
+      → (n ≡ 0 → ⊥) → w ≡ sc .w - 1 → g ≡ guardInto d w vs cs plan s i (at dis (c .out))
+      → f ≡ disableInto (g .guard) (c .here) base (g .out) → b ≡ choiceAt (g .guard) d sc vs cs plan s (at (c .here) (f .out))
+      → next ≡ low (b .here + 4) → r ≡ choicesAt (n - 1) d sc vs cs plan s (b .next) (f .here) base (at next (b .out))
       → j ≡ distanceInto 0 (r .here) next (at (b .here) (r .out))
-      → record { next = r .next; here = r .here; out = j .out } ≡ choicesAt n d sc vs cs s i dis base c
+      → record { next = r .next; here = r .here; out = j .out } ≡ choicesAt n d sc vs cs plan s i dis base c
   unfolding choicesAt choicesInto choiceAt
   choices-more zero i dis base c l pw pg pf pb pn pr pj = absurd (l refl)
   choices-more (suc n) i dis base c l pw pg pf pb pn pr pj = let e : suc n - 1 ≡ n = omega arith in rw (pj, pr, pn, pb, pf, pg, pw, e)
 
   pub alt-is : (n i : ℕ) (c : Code) {m w o : ℕ} {a b wt end : Code} {e : Enabling} {r : Wrote}
-      → m ≡ minus 1 → a ≡ plainInto 0xb0 m c → b ≡ operationInto 67 a → w ≡ sc .w - 1 → e ≡ enableInto n d w vs cs s i 0 b
+      → m ≡ minus 1 → a ≡ plainInto 0xb0 m c → b ≡ operationInto 67 a → w ≡ sc .w - 1 → e ≡ enableInto n d w vs cs plan s i 0 b
       → wt ≡ operationInto 68 (at (e .enabled .here) (e .out)) → o ≡ low (wt .here + e .enabled .disabling)
-      → end ≡ operationInto 69 (at o (wt .out)) → r ≡ choicesAt n d sc vs cs s i (wt .here) (end .here) end → r ≡ altAt n d sc vs cs s i c
+      → end ≡ operationInto 69 (at o (wt .out)) → r ≡ choicesAt n d sc vs cs plan s i (wt .here) (end .here) end
+      → r ≡ altAt n d sc vs cs plan s i c
   unfolding altAt choicesAt
   alt-is n i c pm pa pb pw pe pt po pz pr = pr ∙ rw (pz, po, pt, pe, pw, pb, pa, pm)
 
   -- what follows the kinds 5 to 11
   pub inside-declaration : (k i : ℕ) (c : Code) {r : Wrote} → k < 7
-      → r ≡ declarationAt k d sc vs cs s i c → r ≡ insideAt k d sc vs cs s i c
+      → r ≡ declarationAt k d sc vs cs plan s i c → r ≡ insideAt k d sc vs cs plan s i c
   unfolding insideAt declarationAt
   inside-declaration k i c t e = e ∙ simp (lt-ltb k 7 t)
 
   pub inside-while : (k i : ℕ) (c : Code) {r : Wrote} → 7 ≤ k → k ≡ 10
-      → r ≡ whileAt d sc vs cs s i c → r ≡ insideAt k d sc vs cs s i c
+      → r ≡ whileAt d sc vs cs plan s i c → r ≡ insideAt k d sc vs cs plan s i c
   unfolding insideAt whileAt
   inside-while k i c t u e = e ∙ simp (le-ltb k 7 t, eq-eqb k 10 u)
 
   pub inside-seq : (k i : ℕ) (c : Code) {n : Value} {r : Wrote} → 7 ≤ k → (k ≡ 10 → ⊥)
-      → n ≡ valueAt s i → k ≡ 7 → r ≡ seqAt (n .value) d sc vs cs s (n .next) c → r ≡ insideAt k d sc vs cs s i c
+      → n ≡ valueAt s i → k ≡ 7 → r ≡ seqAt (n .value) d sc vs cs plan s (n .next) c → r ≡ insideAt k d sc vs cs plan s i c
   unfolding insideAt seqAt
   inside-seq k i c t u q v e = e ∙ rw (q, le-ltb k 7 t, ne-eqb k 10 u, eq-eqb k 7 v)
 
   pub inside-par : (k i : ℕ) (c : Code) {n : Value} {r : Wrote} → 7 ≤ k → (k ≡ 10 → ⊥)
-      → n ≡ valueAt s i → (k ≡ 7 → ⊥) → k ≡ 8 → r ≡ parAt (n .value) d sc vs cs s (n .next) c → r ≡ insideAt k d sc vs cs s i c
+      → n ≡ valueAt s i → (k ≡ 7 → ⊥) → k ≡ 8 → r ≡ parAt (n .value) d sc vs cs plan s (n .next) c → r ≡ insideAt k d sc vs cs plan s i c
   unfolding insideAt parAt
   inside-par k i c t u q v w e = e ∙ rw (q, le-ltb k 7 t, ne-eqb k 10 u, ne-eqb k 7 v, eq-eqb k 8 w)
 
   pub inside-if : (k i : ℕ) (c : Code) {n : Value} {r : Wrote} → 7 ≤ k → (k ≡ 10 → ⊥)
-      → n ≡ valueAt s i → (k ≡ 7 → ⊥) → (k ≡ 8 → ⊥) → k ≡ 9 → r ≡ ifAt (n .value) d sc vs cs s (n .next) c
-      → r ≡ insideAt k d sc vs cs s i c
+      → n ≡ valueAt s i → (k ≡ 7 → ⊥) → (k ≡ 8 → ⊥) → k ≡ 9 → r ≡ ifAt (n .value) d sc vs cs plan s (n .next) c
+      → r ≡ insideAt k d sc vs cs plan s i c
   unfolding insideAt ifAt
   inside-if k i c t u q v w x e =
       e ∙ rw (q, le-ltb k 7 t, ne-eqb k 10 u, ne-eqb k 7 v, ne-eqb k 8 w, eq-eqb k 9 x)
 
   pub inside-alt : (k i : ℕ) (c : Code) {n : Value} {r : Wrote} → 7 ≤ k → (k ≡ 10 → ⊥)
-      → n ≡ valueAt s i → (k ≡ 7 → ⊥) → (k ≡ 8 → ⊥) → (k ≡ 9 → ⊥) → r ≡ altAt (n .value) d sc vs cs s (n .next) c
-      → r ≡ insideAt k d sc vs cs s i c
+      → n ≡ valueAt s i → (k ≡ 7 → ⊥) → (k ≡ 8 → ⊥) → (k ≡ 9 → ⊥) → r ≡ altAt (n .value) d sc vs cs plan s (n .next) c
+      → r ≡ insideAt k d sc vs cs plan s i c
   unfolding insideAt altAt
   inside-alt k i c t u q v w x e =
       e ∙ rw (q, le-ltb k 7 t, ne-eqb k 10 u, ne-eqb k 7 v, ne-eqb k 8 w, ne-eqb k 9 x)

@@ -6,8 +6,10 @@ use lib.Dec.{ltb, eqb}
 use Rattle.model.specs.Word.{low, less, minus}
 use Rattle.numbers.specs.Items.{valueAt}
 use Rattle.emitter.specs.Emits.{Code, at, plainInto, distanceInto, operationInto, localOf}
-use Rattle.emitter.specs.Exprs.{Wrote, written, codeOf, exprInto}
-use Rattle.emitter.specs.Extents.{extentAt, nextOf}
+use Rattle.emitter.specs.Exprs.{Wrote, written, codeOf, wholeInto}
+use Rattle.emitter.specs.Plans.{nextOf}
+use Rattle.emitter.specs.Extents.{extentAt}
+use Rattle.model.specs.Scheme.{altWords}
 use Rattle.emitter.specs.Simples.{inInto, simpleInto}
 use Rattle.compiler.specs.Stmts.{Inner, declarationInto, bodyInto, seqInto, ifInto, whileInto, branchInto, branchesInto, parInto}
 use Rattle.compiler.specs.declared.stmt.Scope.{Scope}
@@ -25,10 +27,10 @@ abbrev pub guarded : Guard → List ℕ → Guarded
 guarded g o = record { guard = g; out = o }
 
 -- what enabling and disabling begin with. 01: condition, LDLP channel, REV (a guard that waits), or condition
-unfoldable pub guardInto : (depth w : ℕ) → (vs cs : List ℕ) → List ℕ → (at : ℕ) → Code → Guarded
-guardInto d w vs cs s i c =
+unfoldable pub guardInto : (depth w : ℕ) → (vs cs plan s : List ℕ) → (at : ℕ) → Code → Guarded
+guardInto d w vs cs p s i c =
     let k = valueAt s i in
-    let t = exprInto d w vs s (k .next) c in
+    let t = wholeInto d w altWords vs p s (k .next) c in
     let r = operationInto 0 (plainInto 0x10 (localOf cs (valueAt s (t .next) .value) w) (codeOf t)) in
     cond (eqb (k .value) inputGuardKind) (guarded (record { next = t .next; here = r .here; waits = true }) (r .out))
     (guarded (record { next = t .next; here = t .here; waits = false }) (t .out))
@@ -47,12 +49,12 @@ abbrev pub enabling : Enabled → List ℕ → Enabling
 enabling e o = record { enabled = e; out = o }
 
 -- 01, per guard: condition, LDLP channel, REV, ENBC, or condition, ENBS. And the bytes of the disabling so far
-unfoldable pub enableInto : (left depth w : ℕ) → (vs cs : List ℕ) → List ℕ → (at disabling : ℕ) → Code → Enabling
-enableInto zero d w vs cs s i n c = enabling (record { next = i; here = c .here; disabling = n }) (c .out)
-enableInto (suc l) d w vs cs s i n c =
-    let g = guardInto d w vs cs s i c in
+unfoldable pub enableInto : (left depth w : ℕ) → (vs cs plan s : List ℕ) → (at disabling : ℕ) → Code → Enabling
+enableInto zero d w vs cs p s i n c = enabling (record { next = i; here = c .here; disabling = n }) (c .out)
+enableInto (suc l) d w vs cs p s i n c =
+    let g = guardInto d w vs cs p s i c in
     let e = operationInto (cond (g .guard .waits) 72 73) (at (g .guard .here) (g .out)) in
-    enableInto l d w vs cs s (extentAt d s (behindGuard s (g .guard)) .next) (low (n + low (less (g .guard .here) (c .here) + 6))) e
+    enableInto l d w vs cs p s (extentAt d p s (behindGuard s (g .guard)) .next) (low (n + low (less (g .guard .here) (c .here) + 6))) e
 
 -- the rest of a guard's disabling. 01: LDC branch, DISC, or LDC branch, DISS
 unfoldable pub disableInto : Guard → (branch base : ℕ) → List ℕ → Code
@@ -66,92 +68,92 @@ choiceInto g inner sc vs cs s c =
     cond (g .waits) (inner sc vs cs (i .next) (codeOf i)) (inner sc vs cs (g .next) a)
 
 -- the disabling and the branches. 01: each branch ends with J end. `base` is the place after ALTEND
-unfoldable pub choicesInto : (left depth : ℕ) → Inner → Scope → (vs cs : List ℕ) → List ℕ → (at disable base : ℕ) → Code → Wrote
-choicesInto zero d inner sc vs cs s i dis base c = written i c
-choicesInto (suc l) d inner sc vs cs s i dis base c =
-    let g = guardInto d (sc .w - 1) vs cs s i (at dis (c .out)) in
+unfoldable pub choicesInto : (left depth : ℕ) → Inner → Scope → (vs cs plan s : List ℕ) → (at disable base : ℕ) → Code → Wrote
+choicesInto zero d inner sc vs cs p s i dis base c = written i c
+choicesInto (suc l) d inner sc vs cs p s i dis base c =
+    let g = guardInto d (sc .w - 1) vs cs p s i (at dis (c .out)) in
     let f = disableInto (g .guard) (c .here) base (g .out) in
     let b = choiceInto (g .guard) inner sc vs cs s (at (c .here) (f .out)) in
     let next = low (b .here + 4) in
-    let r = choicesInto l d inner sc vs cs s (b .next) (f .here) base (at next (b .out)) in
+    let r = choicesInto l d inner sc vs cs p s (b .next) (f .here) base (at next (b .out)) in
     let j = distanceInto 0 (r .here) next (at (b .here) (r .out)) in
     record { next = r .next; here = r .here; out = j .out }
 
 -- 01, ALT: AJW -1, ALT, the enabling, ALTWT, the disabling, ALTEND, the branches
-abbrev pub altInto : (count depth : ℕ) → Inner → Scope → (vs cs : List ℕ) → List ℕ → (at : ℕ) → Code → Wrote
-altInto n d inner sc vs cs s i c =
-    let e = enableInto n d (sc .w - 1) vs cs s i 0 (operationInto 67 (plainInto 0xb0 (minus 1) c)) in
+abbrev pub altInto : (count depth : ℕ) → Inner → Scope → (vs cs plan s : List ℕ) → (at : ℕ) → Code → Wrote
+altInto n d inner sc vs cs p s i c =
+    let e = enableInto n d (sc .w - 1) vs cs p s i 0 (operationInto 67 (plainInto 0xb0 (minus 1) c)) in
     let wt = operationInto 68 (at (e .enabled .here) (e .out)) in
     let end = operationInto 69 (at (low (wt .here + e .enabled .disabling)) (wt .out)) in
-    choicesInto n d inner sc vs cs s i (wt .here) (end .here) end
+    choicesInto n d inner sc vs cs p s i (wt .here) (end .here) end
 
 -- what follows the kinds from VAR on, with a generator of the statements inside, which have `depth` left
-abbrev pub insideInto : (kind depth : ℕ) → Inner → Scope → (vs cs : List ℕ) → List ℕ → (at : ℕ) → Code → Wrote
-insideInto k d inner sc vs cs s i c =
+abbrev pub insideInto : (kind depth : ℕ) → Inner → Scope → (vs cs plan s : List ℕ) → (at : ℕ) → Code → Wrote
+insideInto k d inner sc vs cs p s i c =
     let n = valueAt s i in
     cond (ltb k seqKind) (declarationInto k inner sc vs cs s i c)
-    (cond (eqb k whileKind) (whileInto d (sc .w) vs (inner sc vs cs) s i c)
+    (cond (eqb k whileKind) (whileInto d (sc .w) vs (inner sc vs cs) p s i c)
     (cond (eqb k seqKind) (seqInto (n .value) (inner sc vs cs) (n .next) c)
-    (cond (eqb k parKind) (parInto (n .value) d inner sc vs cs s (n .next) c)
-    (cond (eqb k ifKind) (ifInto (n .value) d (sc .w) vs (inner sc vs cs) s (n .next) c)
-    (altInto (n .value) d inner sc vs cs s (n .next) c)))))
+    (cond (eqb k parKind) (parInto (n .value) d inner sc vs cs p s (n .next) c)
+    (cond (eqb k ifKind) (ifInto (n .value) d (sc .w) vs (inner sc vs cs) p s (n .next) c)
+    (altInto (n .value) d inner sc vs cs p s (n .next) c)))))
 
 -- a statement, by its kind
-unfoldable pub stmtInto : (depth : ℕ) → Scope → (vs cs : List ℕ) → List ℕ → (at : ℕ) → Code → Wrote
-stmtInto zero sc vs cs s i c = written i c
-stmtInto (suc d) sc vs cs s i c =
+unfoldable pub stmtInto : (depth : ℕ) → Scope → (vs cs plan s : List ℕ) → (at : ℕ) → Code → Wrote
+stmtInto zero sc vs cs p s i c = written i c
+stmtInto (suc d) sc vs cs p s i c =
     let k = valueAt s i in
-    cond (ltb (k .value) varKind) (simpleInto (k .value) d (sc .w) vs cs s (k .next) c)
-    (insideInto (k .value) d (λ sc vs cs j e. stmtInto d sc vs cs s j e) sc vs cs s (k .next) c)
+    cond (ltb (k .value) varKind) (simpleInto (k .value) d (sc .w) vs cs p s (k .next) c)
+    (insideInto (k .value) d (λ sc vs cs j e. stmtInto d sc vs cs p s j e) sc vs cs p s (k .next) c)
 
 -- the generator of the statements inside, which have `depth` left; below, each part of a statement over it
-abbrev pub innerAt : (depth : ℕ) → List ℕ → Inner
-innerAt d s sc vs cs i c = stmtInto d sc vs cs s i c
+abbrev pub innerAt : (depth : ℕ) → (plan s : List ℕ) → Inner
+innerAt d p s sc vs cs i c = stmtInto d sc vs cs p s i c
 
 -- the body of a VAR or CHAN of n names
-unfoldable pub bodyAt : (kind n depth : ℕ) → Scope → (vs cs : List ℕ) → List ℕ → (at : ℕ) → Code → Wrote
-bodyAt k n d sc vs cs s i c = bodyInto k n (innerAt d s) sc vs cs i c
+unfoldable pub bodyAt : (kind n depth : ℕ) → Scope → (vs cs plan s : List ℕ) → (at : ℕ) → Code → Wrote
+bodyAt k n d sc vs cs p s i c = bodyInto k n (innerAt d p s) sc vs cs i c
 
 -- VAR and CHAN
-unfoldable pub declarationAt : (kind depth : ℕ) → Scope → (vs cs : List ℕ) → List ℕ → (at : ℕ) → Code → Wrote
-declarationAt k d sc vs cs s i c = declarationInto k (innerAt d s) sc vs cs s i c
+unfoldable pub declarationAt : (kind depth : ℕ) → Scope → (vs cs plan s : List ℕ) → (at : ℕ) → Code → Wrote
+declarationAt k d sc vs cs p s i c = declarationInto k (innerAt d p s) sc vs cs s i c
 
 -- SEQ: so many parts
-unfoldable pub seqAt : (left depth : ℕ) → Scope → (vs cs : List ℕ) → List ℕ → (at : ℕ) → Code → Wrote
-seqAt n d sc vs cs s i c = seqInto n (innerAt d s sc vs cs) i c
+unfoldable pub seqAt : (left depth : ℕ) → Scope → (vs cs plan s : List ℕ) → (at : ℕ) → Code → Wrote
+seqAt n d sc vs cs p s i c = seqInto n (innerAt d p s sc vs cs) i c
 
 -- IF: so many pairs
-unfoldable pub ifAt : (left depth : ℕ) → Scope → (vs cs : List ℕ) → List ℕ → (at : ℕ) → Code → Wrote
-ifAt n d sc vs cs s i c = ifInto n d (sc .w) vs (innerAt d s sc vs cs) s i c
+unfoldable pub ifAt : (left depth : ℕ) → Scope → (vs cs plan s : List ℕ) → (at : ℕ) → Code → Wrote
+ifAt n d sc vs cs p s i c = ifInto n d (sc .w) vs (innerAt d p s sc vs cs) p s i c
 
 -- WHILE
-unfoldable pub whileAt : (depth : ℕ) → Scope → (vs cs : List ℕ) → List ℕ → (at : ℕ) → Code → Wrote
-whileAt d sc vs cs s i c = whileInto d (sc .w) vs (innerAt d s sc vs cs) s i c
+unfoldable pub whileAt : (depth : ℕ) → Scope → (vs cs plan s : List ℕ) → (at : ℕ) → Code → Wrote
+whileAt d sc vs cs p s i c = whileInto d (sc .w) vs (innerAt d p s sc vs cs) p s i c
 
 -- a branch of a PAR, d words below
-unfoldable pub branchAt : (d depth : ℕ) → Scope → (vs cs : List ℕ) → List ℕ → (at : ℕ) → Code → Wrote
-branchAt b d sc vs cs s i c = branchInto b (innerAt d s) sc vs cs i c
+unfoldable pub branchAt : (d depth : ℕ) → Scope → (vs cs plan s : List ℕ) → (at : ℕ) → Code → Wrote
+branchAt b d sc vs cs p s i c = branchInto b (innerAt d p s) sc vs cs i c
 
 -- so many branches of a PAR
-unfoldable pub branchesAt : (left depth : ℕ) → Scope → (vs cs : List ℕ) → List ℕ → (at d start : ℕ) → Code → Wrote
-branchesAt n d sc vs cs s i b start c = branchesInto n d (innerAt d s) sc vs cs s i b start c
+unfoldable pub branchesAt : (left depth : ℕ) → Scope → (vs cs plan s : List ℕ) → (at d start : ℕ) → Code → Wrote
+branchesAt n d sc vs cs p s i b start c = branchesInto n d (innerAt d p s) sc vs cs p s i b start c
 
 -- PAR
-unfoldable pub parAt : (count depth : ℕ) → Scope → (vs cs : List ℕ) → List ℕ → (at : ℕ) → Code → Wrote
-parAt n d sc vs cs s i c = parInto n d (innerAt d s) sc vs cs s i c
+unfoldable pub parAt : (count depth : ℕ) → Scope → (vs cs plan s : List ℕ) → (at : ℕ) → Code → Wrote
+parAt n d sc vs cs p s i c = parInto n d (innerAt d p s) sc vs cs p s i c
 
 -- a branch of an ALT
-unfoldable pub choiceAt : Guard → (depth : ℕ) → Scope → (vs cs : List ℕ) → List ℕ → Code → Wrote
-choiceAt g d sc vs cs s c = choiceInto g (innerAt d s) sc vs cs s c
+unfoldable pub choiceAt : Guard → (depth : ℕ) → Scope → (vs cs plan s : List ℕ) → Code → Wrote
+choiceAt g d sc vs cs p s c = choiceInto g (innerAt d p s) sc vs cs s c
 
 -- the disabling and the branches of an ALT
-unfoldable pub choicesAt : (left depth : ℕ) → Scope → (vs cs : List ℕ) → List ℕ → (at disable base : ℕ) → Code → Wrote
-choicesAt n d sc vs cs s i dis base c = choicesInto n d (innerAt d s) sc vs cs s i dis base c
+unfoldable pub choicesAt : (left depth : ℕ) → Scope → (vs cs plan s : List ℕ) → (at disable base : ℕ) → Code → Wrote
+choicesAt n d sc vs cs p s i dis base c = choicesInto n d (innerAt d p s) sc vs cs p s i dis base c
 
 -- ALT
-unfoldable pub altAt : (count depth : ℕ) → Scope → (vs cs : List ℕ) → List ℕ → (at : ℕ) → Code → Wrote
-altAt n d sc vs cs s i c = altInto n d (innerAt d s) sc vs cs s i c
+unfoldable pub altAt : (count depth : ℕ) → Scope → (vs cs plan s : List ℕ) → (at : ℕ) → Code → Wrote
+altAt n d sc vs cs p s i c = altInto n d (innerAt d p s) sc vs cs p s i c
 
 -- what follows the kinds from VAR on
-unfoldable pub insideAt : (kind depth : ℕ) → Scope → (vs cs : List ℕ) → List ℕ → (at : ℕ) → Code → Wrote
-insideAt k d sc vs cs s i c = insideInto k d (innerAt d s) sc vs cs s i c
+unfoldable pub insideAt : (kind depth : ℕ) → Scope → (vs cs plan s : List ℕ) → (at : ℕ) → Code → Wrote
+insideAt k d sc vs cs p s i c = insideInto k d (innerAt d p s) sc vs cs p s i c

@@ -4,6 +4,9 @@ ghost use mathlib.Core.Bool.{cond};
 ghost use Rattle.emitter.specs.Emits.{at as standing};
 ghost use Rattle.compiler.specs.Alts.{guarded, guardInto, behindGuard, enabling, enableInto, disableInto};
 
+// The words of an ALT below its workspace; what its guards store stands below them.
+const ALT_WORDS: u32 = 5;
+
 // The place after the guards, the place after their enabling, and the bytes that their disabling will take.
 pub struct Enabled {
     pub next: usize,
@@ -21,6 +24,7 @@ pub struct Guard {
 // The condition, and for a guard that waits LDLP channel, REV.
 pub fn gen_guard(
     table: &[u8],
+    plan: &[u32; 16384],
     at: usize,
     depth: u64,
     w: u32,
@@ -31,11 +35,11 @@ pub fn gen_guard(
 ) -> Guard
     ensures { λ r.
         ⌜ guarded r (now (out .exit))
-        ≡ guardInto depth w (now (vars .entry)) (now (chans .entry)) (now (table .entry)) at
+        ≡ guardInto depth w (now (vars .entry)) (now (chans .entry)) (now (plan .entry)) (now (table .entry)) at
         (standing here (now (out .entry))) ⌝ }
 {
     let kind = numbers::value_at(table, at);
-    let test = emitter::gen_expr(table, kind.next, depth, w, vars, out, here);
+    let test = emitter::gen_whole(table, plan, kind.next, depth, w, ALT_WORDS, vars, out, here);
     if kind.value == numbers::kinds::INPUT_GUARD {
         let channel = numbers::value_at(table, test.next);
         let word = emitter::local(chans, channel.value, w);
@@ -75,6 +79,7 @@ fn either(first: bool, one: u32, other: u32) -> u32
 // The enabling: per guard condition, LDLP channel, REV, ENBC, or condition, ENBS; and the bytes of the disabling.
 pub fn gen_enable(
     table: &[u8],
+    plan: &[u32; 16384],
     at: usize,
     left: u32,
     depth: u64,
@@ -87,7 +92,7 @@ pub fn gen_enable(
 ) -> Enabled
     ensures { λ r.
         ⌜ enabling r (now (out .exit))
-        ≡ enableInto left depth w (now (vars .entry)) (now (chans .entry)) (now (table .entry)) at disabling
+        ≡ enableInto left depth w (now (vars .entry)) (now (chans .entry)) (now (plan .entry)) (now (table .entry)) at disabling
         (standing here (now (out .entry))) ⌝ }
 {
     if left == 0 {
@@ -97,7 +102,7 @@ pub fn gen_enable(
             disabling: disabling,
         };
     }
-    let guard = gen_guard(table, at, depth, w, vars, chans, out, here);
+    let guard = gen_guard(table, plan, at, depth, w, vars, chans, out, here);
     let code = either(
         guard.waits,
         instruction::codes::ENBC,
@@ -106,9 +111,10 @@ pub fn gen_enable(
     let end = emitter::operation(out, guard.here, code);
     let same = word::less(guard.here, here);
     let size = word::plus(disabling, word::plus(same, 6));
-    let statement = emitter::measure(table, behind(table, guard), depth);
+    let statement = emitter::measure(table, plan, behind(table, guard), depth);
     gen_enable(
         table,
+        plan,
         statement.next,
         left - 1,
         depth,

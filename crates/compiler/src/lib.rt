@@ -11,8 +11,8 @@ mod alt;
 mod stmt;
 
 // The code of an accepted table into a buffer: bytes past its end are left out. The answer is the code's size.
-fn generate(table: &[u8], facts: model::Facts, out: &mut [u8]) -> u32
-    ensures { λ r. ⌜ standing r (now (out .exit)) ≡ tableInto (now (table .entry)) facts (now (out .entry)) ⌝ }
+fn generate(table: &[u8], plan: &[u32; 16384], facts: model::Facts, out: &mut [u8]) -> u32
+    ensures { λ r. ⌜ standing r (now (out .exit)) ≡ tableInto (now (plan .entry)) (now (table .entry)) facts (now (out .entry)) ⌝ }
 {
     let at = numbers::skip(table, numbers::skip(table, 0));
     let outside = word::plus(facts.inputs, facts.outputs);
@@ -26,6 +26,7 @@ fn generate(table: &[u8], facts: model::Facts, out: &mut [u8]) -> u32
     };
     let done = crate::stmt::statement(
         table,
+        plan,
         at,
         model::limits::DEPTH,
         scope,
@@ -38,11 +39,11 @@ fn generate(table: &[u8], facts: model::Facts, out: &mut [u8]) -> u32
 }
 
 // The size of an accepted table's code.
-fn code_size(table: &[u8], facts: model::Facts) -> u32
-    ensures { λ r. ⌜ r ≡ sizeOf (now (table .entry)) facts ⌝ }
+fn code_size(table: &[u8], plan: &[u32; 16384], facts: model::Facts) -> u32
+    ensures { λ r. ⌜ r ≡ sizeOf (now (plan .entry)) (now (table .entry)) facts ⌝ }
 {
     let mut none: [u8; 1] = [0; 1];
-    generate(table, facts, &mut none)
+    generate(table, plan, facts, &mut none)
 }
 
 // Compiles a table into a lent buffer: the code in front and the rest as it was; on any refusal all of it as it was.
@@ -57,14 +58,16 @@ pub fn compile_into(table: &[u8], out: &mut [u8]) -> model::Compiled
             if model::limits::WORDS < facts.words {
                 return model::Compiled::Refused(10, 0);
             }
-            let size = code_size(table, facts) as usize;
+            let mut plan: [u32; 16384] = [0; 16384];
+            emitter::make_plan(table, &mut plan);
+            let size = code_size(table, &plan, facts) as usize;
             if model::limits::CODE < size {
                 return model::Compiled::Refused(10, 0);
             }
             if out.len() < size {
                 return model::Compiled::Refused(11, size);
             }
-            generate(table, facts, out);
+            generate(table, &plan, facts, out);
             model::Compiled::Code(size)
         }
         model::Reading::Refused(n, p) => model::Compiled::Refused(n, p),

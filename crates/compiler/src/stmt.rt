@@ -41,6 +41,7 @@ fn put_initial(out: &mut [u8], here: u32, kind: u32, j: u32, left: u32) -> u32
 // The body of a VAR or CHAN of n names.
 fn body(
     table: &[u8],
+    plan: &[u32; 16384],
     at: usize,
     kind: u32,
     n: u32,
@@ -53,7 +54,7 @@ fn body(
 ) -> Done
     ensures { λ r.
         ⌜ wrote r (now (out .exit))
-        ≡ bodyAt kind n depth scope (now (vars .entry)) (now (chans .entry)) (now (table .entry)) at
+        ≡ bodyAt kind n depth scope (now (vars .entry)) (now (chans .entry)) (now (plan .entry)) (now (table .entry)) at
         (standing here (now (out .entry))) ⌝ }
 {
     let w = emitter::below(scope.w, n);
@@ -64,7 +65,7 @@ fn body(
             variables: word::plus(scope.variables, n),
             channels: scope.channels,
         };
-        return statement(table, at, depth, inner, &more, chans, out, here);
+        return statement(table, plan, at, depth, inner, &more, chans, out, here);
     }
     let more = emitter::declared(chans, scope.channels, n, w);
     let inner = Scope {
@@ -72,12 +73,13 @@ fn body(
         variables: scope.variables,
         channels: word::plus(scope.channels, n),
     };
-    statement(table, at, depth, inner, vars, &more, out, here)
+    statement(table, plan, at, depth, inner, vars, &more, out, here)
 }
 
 // VAR and CHAN: AJW -n, the words, body, AJW n.
 fn declaration(
     table: &[u8],
+    plan: &[u32; 16384],
     at: usize,
     kind: u32,
     depth: u64,
@@ -89,7 +91,7 @@ fn declaration(
 ) -> Done
     ensures { λ r.
         ⌜ wrote r (now (out .exit))
-        ≡ declarationAt kind depth scope (now (vars .entry)) (now (chans .entry)) (now (table .entry)) at
+        ≡ declarationAt kind depth scope (now (vars .entry)) (now (chans .entry)) (now (plan .entry)) (now (table .entry)) at
         (standing here (now (out .entry))) ⌝ }
 {
     let count = numbers::value_at(table, at);
@@ -98,6 +100,7 @@ fn declaration(
     let start = put_initial(out, first, kind, 0, n);
     let body = body(
         table,
+        plan,
         count.next,
         kind,
         n,
@@ -118,6 +121,7 @@ fn declaration(
 // SEQ: so many parts.
 fn seq(
     table: &[u8],
+    plan: &[u32; 16384],
     at: usize,
     left: u32,
     depth: u64,
@@ -129,7 +133,7 @@ fn seq(
 ) -> Done
     ensures { λ r.
         ⌜ wrote r (now (out .exit))
-        ≡ seqAt left depth scope (now (vars .entry)) (now (chans .entry)) (now (table .entry)) at
+        ≡ seqAt left depth scope (now (vars .entry)) (now (chans .entry)) (now (plan .entry)) (now (table .entry)) at
         (standing here (now (out .entry))) ⌝ }
 {
     if left == 0 {
@@ -138,9 +142,10 @@ fn seq(
             here: here,
         };
     }
-    let part = statement(table, at, depth, scope, vars, chans, out, here);
+    let part = statement(table, plan, at, depth, scope, vars, chans, out, here);
     seq(
         table,
+        plan,
         part.next,
         left - 1,
         depth,
@@ -155,6 +160,7 @@ fn seq(
 // IF, for each pair: condition, CJ next, statement, J end; the last pair too. Behind the last pair stands a STOPP, then comes the end.
 fn pairs(
     table: &[u8],
+    plan: &[u32; 16384],
     at: usize,
     left: u32,
     depth: u64,
@@ -166,7 +172,7 @@ fn pairs(
 ) -> Done
     ensures { λ r.
         ⌜ wrote r (now (out .exit))
-        ≡ ifAt left depth scope (now (vars .entry)) (now (chans .entry)) (now (table .entry)) at
+        ≡ ifAt left depth scope (now (vars .entry)) (now (chans .entry)) (now (plan .entry)) (now (table .entry)) at
         (standing here (now (out .entry))) ⌝ }
 {
     if left == 0 {
@@ -176,12 +182,23 @@ fn pairs(
             here: end,
         };
     }
-    let test = emitter::gen_expr(table, at, depth, scope.w, vars, out, here);
+    let test = emitter::gen_whole(table, plan, at, depth, scope.w, 0, vars, out, here);
     let begin = word::plus(test.here, 4);
-    let body = statement(table, test.next, depth, scope, vars, chans, out, begin);
+    let body = statement(
+        table,
+        plan,
+        test.next,
+        depth,
+        scope,
+        vars,
+        chans,
+        out,
+        begin,
+    );
     let next = word::plus(body.here, 4);
     let rest = pairs(
         table,
+        plan,
         body.next,
         left - 1,
         depth,
@@ -199,6 +216,7 @@ fn pairs(
 // WHILE: condition, CJ end, body, J start.
 fn repetition(
     table: &[u8],
+    plan: &[u32; 16384],
     at: usize,
     depth: u64,
     scope: Scope,
@@ -209,12 +227,22 @@ fn repetition(
 ) -> Done
     ensures { λ r.
         ⌜ wrote r (now (out .exit))
-        ≡ whileAt depth scope (now (vars .entry)) (now (chans .entry)) (now (table .entry)) at
+        ≡ whileAt depth scope (now (vars .entry)) (now (chans .entry)) (now (plan .entry)) (now (table .entry)) at
         (standing here (now (out .entry))) ⌝ }
 {
-    let test = emitter::gen_expr(table, at, depth, scope.w, vars, out, here);
+    let test = emitter::gen_whole(table, plan, at, depth, scope.w, 0, vars, out, here);
     let begin = word::plus(test.here, 4);
-    let body = statement(table, test.next, depth, scope, vars, chans, out, begin);
+    let body = statement(
+        table,
+        plan,
+        test.next,
+        depth,
+        scope,
+        vars,
+        chans,
+        out,
+        begin,
+    );
     let end = word::plus(body.here, 4);
     emitter::distance(out, body.here, instruction::codes::J, here, end);
     emitter::distance(out, test.here, instruction::codes::CJ, end, begin);
@@ -225,17 +253,26 @@ fn repetition(
 }
 
 // The place after the starts of so many branches, the first of which runs d words below.
-fn starts_end(table: &[u8], at: usize, left: u32, depth: u64, d: u32, here: u32) -> u32
-    ensures { λ r. ⌜ r ≡ startsEnd left depth (now (table .entry)) at d here ⌝ }
+fn starts_end(
+    table: &[u8],
+    plan: &[u32; 16384],
+    at: usize,
+    left: u32,
+    depth: u64,
+    d: u32,
+    here: u32,
+) -> u32
+    ensures { λ r. ⌜ r ≡ startsEnd left depth (now (plan .entry)) (now (table .entry)) at d here ⌝ }
 {
     if left == 0 {
         return here;
     }
-    let branch = emitter::measure(table, at, depth);
+    let branch = emitter::measure(table, plan, at, depth);
     let size = instruction::fewest(emitter::minus(d)) + 6;
     let below = word::plus(d, branch.need);
     starts_end(
         table,
+        plan,
         branch.next,
         left - 1,
         depth,
@@ -258,6 +295,7 @@ fn put_start(out: &mut [u8], here: u32, d: u32, start: u32) -> u32
 // A branch d words below: its code, LDLP d, ENDP.
 fn branch(
     table: &[u8],
+    plan: &[u32; 16384],
     at: usize,
     d: u32,
     depth: u64,
@@ -269,7 +307,7 @@ fn branch(
 ) -> Done
     ensures { λ r.
         ⌜ wrote r (now (out .exit))
-        ≡ branchAt d depth scope (now (vars .entry)) (now (chans .entry)) (now (table .entry)) at
+        ≡ branchAt d depth scope (now (vars .entry)) (now (chans .entry)) (now (plan .entry)) (now (table .entry)) at
         (standing here (now (out .entry))) ⌝ }
 {
     let w = emitter::below(scope.w, d);
@@ -278,7 +316,7 @@ fn branch(
         variables: scope.variables,
         channels: scope.channels,
     };
-    let body = statement(table, at, depth, inner, vars, chans, out, here);
+    let body = statement(table, plan, at, depth, inner, vars, chans, out, here);
     let second = emitter::plain(out, body.here, instruction::codes::LDLP, d);
     let end = emitter::operation(out, second, instruction::codes::ENDP);
     Done {
@@ -290,6 +328,7 @@ fn branch(
 // So many branches from the second on, each with its start.
 fn branches(
     table: &[u8],
+    plan: &[u32; 16384],
     at: usize,
     left: u32,
     depth: u64,
@@ -303,7 +342,7 @@ fn branches(
 ) -> Done
     ensures { λ r.
         ⌜ wrote r (now (out .exit))
-        ≡ branchesAt left depth scope (now (vars .entry)) (now (chans .entry)) (now (table .entry)) at d start
+        ≡ branchesAt left depth scope (now (vars .entry)) (now (chans .entry)) (now (plan .entry)) (now (table .entry)) at d start
         (standing here (now (out .entry))) ⌝ }
 {
     if left == 0 {
@@ -313,11 +352,12 @@ fn branches(
         };
     }
     let next = put_start(out, start, d, here);
-    let branch = branch(table, at, d, depth, scope, vars, chans, out, here);
-    let own = emitter::measure(table, at, depth);
+    let branch = branch(table, plan, at, d, depth, scope, vars, chans, out, here);
+    let own = emitter::measure(table, plan, at, depth);
     let below = word::plus(d, own.need);
     branches(
         table,
+        plan,
         branch.next,
         left - 1,
         depth,
@@ -343,6 +383,7 @@ fn put_header(out: &mut [u8], here: u32, count: u32) -> u32
 // PAR with branches: AJW -2; LDC end, LDPI, STL 0; LDC count, STL 1; the starts; the branches; AJW 2. PAR of none: no code.
 fn par(
     table: &[u8],
+    plan: &[u32; 16384],
     at: usize,
     count: u32,
     depth: u64,
@@ -354,7 +395,7 @@ fn par(
 ) -> Done
     ensures { λ r.
         ⌜ wrote r (now (out .exit))
-        ≡ parAt count depth scope (now (vars .entry)) (now (chans .entry)) (now (table .entry)) at
+        ≡ parAt count depth scope (now (vars .entry)) (now (chans .entry)) (now (plan .entry)) (now (table .entry)) at
         (standing here (now (out .entry))) ⌝ }
 {
     if count == 0 {
@@ -366,17 +407,18 @@ fn par(
     let over = emitter::plain(out, here, instruction::codes::AJW, emitter::minus(2));
     let user = emitter::operation(out, word::plus(over, 4), instruction::codes::LDPI);
     let starts = put_header(out, user, count);
-    let first = emitter::measure(table, at, depth);
-    let begin = starts_end(table, first.next, count - 1, depth, first.need, starts);
+    let own = emitter::measure(table, plan, at, depth);
+    let begin = starts_end(table, plan, own.next, count - 1, depth, own.need, starts);
     let w = emitter::below(scope.w, 2);
     let inner = Scope {
         w: w,
         variables: scope.variables,
         channels: scope.channels,
     };
-    let one = branch(table, at, 0, depth, inner, vars, chans, out, begin);
+    let one = branch(table, plan, at, 0, depth, inner, vars, chans, out, begin);
     let rest = branches(
         table,
+        plan,
         one.next,
         count - 1,
         depth,
@@ -384,7 +426,7 @@ fn par(
         vars,
         chans,
         out,
-        first.need,
+        own.need,
         starts,
         one.here,
     );
@@ -399,6 +441,7 @@ fn par(
 // A branch: AJW 1, the input if any, statement.
 fn choice(
     table: &[u8],
+    plan: &[u32; 16384],
     guard: Guard,
     depth: u64,
     scope: Scope,
@@ -409,7 +452,7 @@ fn choice(
 ) -> Done
     ensures { λ r.
         ⌜ wrote r (now (out .exit))
-        ≡ choiceAt guard depth scope (now (vars .entry)) (now (chans .entry)) (now (table .entry))
+        ≡ choiceAt guard depth scope (now (vars .entry)) (now (chans .entry)) (now (plan .entry)) (now (table .entry))
         (standing here (now (out .entry))) ⌝ }
 {
     let start = emitter::plain(out, here, instruction::codes::AJW, 1);
@@ -417,6 +460,7 @@ fn choice(
         let input = emitter::gen_input(table, guard.next, scope.w, vars, chans, out, start);
         return statement(
             table,
+            plan,
             input.next,
             depth,
             scope,
@@ -426,12 +470,23 @@ fn choice(
             input.here,
         );
     }
-    statement(table, guard.next, depth, scope, vars, chans, out, start)
+    statement(
+        table,
+        plan,
+        guard.next,
+        depth,
+        scope,
+        vars,
+        chans,
+        out,
+        start,
+    )
 }
 
 // The disabling and the branches: each branch ends with J end. `base` is the place after ALTEND.
 fn choices(
     table: &[u8],
+    plan: &[u32; 16384],
     at: usize,
     left: u32,
     depth: u64,
@@ -445,7 +500,7 @@ fn choices(
 ) -> Done
     ensures { λ r.
         ⌜ wrote r (now (out .exit))
-        ≡ choicesAt left depth scope (now (vars .entry)) (now (chans .entry)) (now (table .entry)) at disable base
+        ≡ choicesAt left depth scope (now (vars .entry)) (now (chans .entry)) (now (plan .entry)) (now (table .entry)) at disable base
         (standing here (now (out .entry))) ⌝ }
 {
     if left == 0 {
@@ -455,12 +510,13 @@ fn choices(
         };
     }
     let w = emitter::below(scope.w, 1);
-    let guard = crate::alt::gen_guard(table, at, depth, w, vars, chans, out, disable);
+    let guard = crate::alt::gen_guard(table, plan, at, depth, w, vars, chans, out, disable);
     let following = crate::alt::put_disable(out, guard, here, base);
-    let branch = choice(table, guard, depth, scope, vars, chans, out, here);
+    let branch = choice(table, plan, guard, depth, scope, vars, chans, out, here);
     let next = word::plus(branch.here, 4);
     let rest = choices(
         table,
+        plan,
         branch.next,
         left - 1,
         depth,
@@ -479,6 +535,7 @@ fn choices(
 // AJW -1, ALT, the enabling, ALTWT, the disabling, ALTEND, the branches.
 fn alt(
     table: &[u8],
+    plan: &[u32; 16384],
     at: usize,
     count: u32,
     depth: u64,
@@ -490,18 +547,31 @@ fn alt(
 ) -> Done
     ensures { λ r.
         ⌜ wrote r (now (out .exit))
-        ≡ altAt count depth scope (now (vars .entry)) (now (chans .entry)) (now (table .entry)) at
+        ≡ altAt count depth scope (now (vars .entry)) (now (chans .entry)) (now (plan .entry)) (now (table .entry)) at
         (standing here (now (out .entry))) ⌝ }
 {
     let second = emitter::plain(out, here, instruction::codes::AJW, emitter::minus(1));
     let start = emitter::operation(out, second, instruction::codes::ALT);
     let w = emitter::below(scope.w, 1);
-    let enabled = crate::alt::gen_enable(table, at, count, depth, w, vars, chans, out, start, 0);
+    let enabled = crate::alt::gen_enable(
+        table,
+        plan,
+        at,
+        count,
+        depth,
+        w,
+        vars,
+        chans,
+        out,
+        start,
+        0,
+    );
     let disable = emitter::operation(out, enabled.here, instruction::codes::ALTWT);
     let end = word::plus(disable, enabled.disabling);
     let base = emitter::operation(out, end, instruction::codes::ALTEND);
     choices(
         table,
+        plan,
         at,
         count,
         depth,
@@ -518,6 +588,7 @@ fn alt(
 // What follows the kinds from VAR on; the statements inside have `depth` left.
 fn inside(
     table: &[u8],
+    plan: &[u32; 16384],
     at: usize,
     kind: u32,
     depth: u64,
@@ -529,33 +600,34 @@ fn inside(
 ) -> Done
     ensures { λ r.
         ⌜ wrote r (now (out .exit))
-        ≡ insideAt kind depth scope (now (vars .entry)) (now (chans .entry)) (now (table .entry)) at
+        ≡ insideAt kind depth scope (now (vars .entry)) (now (chans .entry)) (now (plan .entry)) (now (table .entry)) at
         (standing here (now (out .entry))) ⌝ }
 {
     if kind < numbers::kinds::SEQ {
-        return declaration(table, at, kind, depth, scope, vars, chans, out, here);
+        return declaration(table, plan, at, kind, depth, scope, vars, chans, out, here);
     }
     if kind == numbers::kinds::WHILE {
-        return repetition(table, at, depth, scope, vars, chans, out, here);
+        return repetition(table, plan, at, depth, scope, vars, chans, out, here);
     }
     let count = numbers::value_at(table, at);
     let next = count.next;
     let n = count.value;
     if kind == numbers::kinds::SEQ {
-        return seq(table, next, n, depth, scope, vars, chans, out, here);
+        return seq(table, plan, next, n, depth, scope, vars, chans, out, here);
     }
     if kind == numbers::kinds::PAR {
-        return par(table, next, n, depth, scope, vars, chans, out, here);
+        return par(table, plan, next, n, depth, scope, vars, chans, out, here);
     }
     if kind == numbers::kinds::IF {
-        return pairs(table, next, n, depth, scope, vars, chans, out, here);
+        return pairs(table, plan, next, n, depth, scope, vars, chans, out, here);
     }
-    alt(table, next, n, depth, scope, vars, chans, out, here)
+    alt(table, plan, next, n, depth, scope, vars, chans, out, here)
 }
 
 // A statement; the depth left falls at each call.
 pub fn statement(
     table: &[u8],
+    plan: &[u32; 16384],
     at: usize,
     depth: u64,
     scope: Scope,
@@ -566,7 +638,7 @@ pub fn statement(
 ) -> Done
     ensures { λ r.
         ⌜ wrote r (now (out .exit))
-        ≡ stmtInto depth scope (now (vars .entry)) (now (chans .entry)) (now (table .entry)) at
+        ≡ stmtInto depth scope (now (vars .entry)) (now (chans .entry)) (now (plan .entry)) (now (table .entry)) at
         (standing here (now (out .entry))) ⌝ }
 {
     if depth == 0 {
@@ -579,6 +651,7 @@ pub fn statement(
     if kind.value < numbers::kinds::VAR {
         return emitter::gen_simple(
             table,
+            plan,
             kind.next,
             kind.value,
             depth - 1,
@@ -591,6 +664,7 @@ pub fn statement(
     }
     inside(
         table,
+        plan,
         kind.next,
         kind.value,
         depth - 1,

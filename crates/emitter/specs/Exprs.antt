@@ -1,12 +1,16 @@
--- The code of expressions as the generator writes it, by places of the table (01, "Workspace and code").
-use Prim.Native.Nat.{ℕ, zero, suc}
-use mathlib.Core.Bool.{cond}
+-- The code of expressions as the generator writes it, by places of the table (01, "Workspace and code"; 02, order 2).
+use Prim.Native.Nat.{ℕ, zero, suc, _+_, _-_}
+use mathlib.Core.Bool.{cond, _&&_}
 use mathlib.Core.List.{List, [], _∷_}
 use lib.ListN.{getD}
 use lib.Dec.{ltb, eqb}
+use Rattle.model.specs.Word.{low, minus}
+use Rattle.model.specs.Limits.{registerLimit}
 use Rattle.numbers.specs.Items.{valueAt}
 use Rattle.emitter.specs.Emits.{Code, at, plainInto, operationInto, localOf}
+use Rattle.emitter.specs.Plans.{nextIn, registersIn, storedIn, planAt}
 use Rattle.emitter.specs.declared.expr.Done.{Done}
+use Rattle.emitter.specs.declared.sides.Sides.{Sides}
 use Rattle.numbers.specs.Kinds.{constantKind, notKind, eqOperator}
 
 -- the place after what was compiled, the place after its code, and the buffer
@@ -27,6 +31,16 @@ written n c = record { next = n; here = c .here; out = c .out }
 abbrev pub codeOf : Wrote → Code
 codeOf r = record { here = r .here; out = r .out }
 
+-- the orders of two sides by number
+abbrev pub leftFirstOrder : ℕ
+leftFirstOrder = 0
+
+abbrev pub rightFirstOrder : ℕ
+rightFirstOrder = 1
+
+abbrev pub rightStoredOrder : ℕ
+rightStoredOrder = 2
+
 -- the operation of an operator. 01: SUM, DIFF, PROD, GT, AND, OR, XOR; EQ begins with DIFF
 unfoldable pub operationFor : ℕ → ℕ
 operationFor op = getD (82 ∷ 4 ∷ 8 ∷ 9 ∷ 4 ∷ 70 ∷ 75 ∷ []) op 51
@@ -43,26 +57,81 @@ leafInto k w vs s at c =
     cond (eqb k constantKind) (written (v .next) (plainInto 0x40 (v .value) c))
     (written (v .next) (plainInto 0x70 (localOf vs (v .value) w) c))
 
--- operator, left and right of the table. 01: left, right, then the operation
-abbrev pub sidesInto : (ℕ → Code → Wrote) → List ℕ → (at : ℕ) → Code → Wrote
-sidesInto inner s at c =
+-- the order of two sides by their registers, as a number: left first, right first, or right first and stored (02, order 2)
+unfoldable pub orderNumber : (left right : ℕ) → ℕ
+orderNumber l r = cond (ltb l r) rightFirstOrder (cond (eqb l registerLimit && eqb r registerLimit) rightStoredOrder leftFirstOrder)
+
+-- between two sides: STL where the first value is stored, as number h
+unfoldable pub betweenInto : (order h : ℕ) → Code → Code
+betweenInto o h c = cond (eqb o rightStoredOrder) (plainInto 0xd0 h c) c
+
+-- behind two sides: REV where right went first, LDL where it was stored
+unfoldable pub behindInto : (order h : ℕ) → Code → Code
+behindInto o h c = cond (eqb o rightFirstOrder) (operationInto 0 c) (cond (eqb o rightStoredOrder) (plainInto 0x70 h c) c)
+
+-- two sides, the left one at a place, with h values held before: their order, the side that goes first, the other side and the values held
+-- before it, and the place after both. The plan tells where right is and which goes first
+abbrev pub arranged : (plan : List ℕ) → (h at : ℕ) → Sides
+arranged p h at =
+    let l = planAt p at in
+    let right = nextIn l in
+    let r = planAt p right in
+    let o = orderNumber (registersIn l) (registersIn r) in
+    record {
+      order = o;
+      first = cond (eqb o leftFirstOrder) at right;
+      second = cond (eqb o leftFirstOrder) right at;
+      held = cond (eqb o rightStoredOrder) (low (h + 1)) h;
+      next = nextIn r;
+    }
+
+-- two sides, the left one at a place, apart from the operator; h values are held before
+abbrev pub sidesInto : (inner : (held at : ℕ) → Code → Wrote) → (plan : List ℕ) → (h at : ℕ) → Code → Wrote
+sidesInto inner p h at c =
+    let a = arranged p h at in
+    let one = inner h (a .first) c in
+    let two = inner (a .held) (a .second) (betweenInto (a .order) h (codeOf one)) in
+    written (a .next) (behindInto (a .order) h (codeOf two))
+
+-- operator, left and right of the table: the sides, then the operation
+abbrev pub operatedInto : (inner : (held at : ℕ) → Code → Wrote) → (plan s : List ℕ) → (h at : ℕ) → Code → Wrote
+operatedInto inner p s h at c =
     let o = valueAt s at in
-    let l = inner (o .next) c in
-    let r = inner (l .next) (codeOf l) in
+    let r = sidesInto inner p h (o .next) c in
     written (r .next) (operatorInto (o .value) (codeOf r))
 
 -- 01: NOT is EQC 0
 abbrev pub notInto : Wrote → Wrote
 notInto r = written (r .next) (plainInto 0xc0 0 (codeOf r))
 
--- an expression by its kind: constant or variable, NOT, operator
-unfoldable pub exprInto : (depth w : ℕ) → List ℕ → List ℕ → (at : ℕ) → Code → Wrote
-exprInto zero w vs s at c = written at c
-exprInto (suc d) w vs s at c =
+-- an expression by its kind: constant or variable, NOT, operator; h values are held before
+unfoldable pub exprInto : (depth w : ℕ) → (vs plan s : List ℕ) → (h at : ℕ) → Code → Wrote
+exprInto zero w vs p s h at c = written at c
+exprInto (suc d) w vs p s h at c =
     let k = valueAt s at in
     cond (ltb (k .value) notKind) (leafInto (k .value) w vs s (k .next) c)
-    (cond (eqb (k .value) notKind) (notInto (exprInto d w vs s (k .next) c)) (sidesInto (λ i e. exprInto d w vs s i e) s (k .next) c))
+    (cond (eqb (k .value) notKind) (notInto (exprInto d w vs p s h (k .next) c))
+    (operatedInto (λ g i e. exprInto d w vs p s g i e) p s h (k .next) c))
+
+-- two sides with expressions inside, which have `depth` left
+unfoldable pub sidesAt : (depth w : ℕ) → (vs plan s : List ℕ) → (h at : ℕ) → Code → Wrote
+sidesAt d w vs p s h at c = sidesInto (λ g i e. exprInto d w vs p s g i e) p h at c
 
 -- an operator with expressions inside, which have `depth` left
-unfoldable pub binaryInto : (depth w : ℕ) → List ℕ → List ℕ → (at : ℕ) → Code → Wrote
-binaryInto d w vs s at c = sidesInto (λ i e. exprInto d w vs s i e) s at c
+unfoldable pub binaryInto : (depth w : ℕ) → (vs plan s : List ℕ) → (h at : ℕ) → Code → Wrote
+binaryInto d w vs p s h at c = operatedInto (λ g i e. exprInto d w vs p s g i e) p s h at c
+
+-- by how many words t stored values lower W, with so many words more; without stored values by none
+unfoldable pub lowering : (t more : ℕ) → ℕ
+lowering t more = cond (eqb t 0) 0 (low (t + more))
+
+-- AJW where W is lowered
+unfoldable pub adjustInto : (lowered operand : ℕ) → Code → Code
+adjustInto n operand c = cond (eqb n 0) c (plainInto 0xb0 operand c)
+
+-- a whole expression. 02, order 2: wrapped in AJW -t and AJW t, in an ALT's guards in AJW -t-5 and AJW t + 5
+unfoldable pub wholeInto : (depth w more : ℕ) → (vs plan s : List ℕ) → (at : ℕ) → Code → Wrote
+wholeInto d w more vs p s at c =
+    let n = lowering (storedIn (planAt p at)) more in
+    let e = exprInto d (w - n) vs p s 0 at (adjustInto n (minus n) c) in
+    written (e .next) (adjustInto n n (codeOf e))

@@ -1,4 +1,5 @@
 pub mod Emits
+pub mod Plans
 pub mod Exprs
 pub mod Extents
 pub mod Simples

@@ -6,7 +6,7 @@ use lib.Dec.{eqb}
 use Rattle.model.specs.Word.{minus}
 use Rattle.numbers.specs.Items.{valueAt}
 use Rattle.emitter.specs.Emits.{Code, plainInto, operationInto, localOf}
-use Rattle.emitter.specs.Exprs.{Wrote, written, codeOf, exprInto}
+use Rattle.emitter.specs.Exprs.{Wrote, written, codeOf, wholeInto}
 use Rattle.numbers.specs.Kinds.{skipKind, stopKind, assignKind, inputKind}
 
 -- 01, input: LDLP variable, LDLP channel, LDC 4, IN
@@ -18,10 +18,10 @@ unfoldable pub outputInto : (channel : ℕ) → Code → Code
 outputInto ch c = plainInto 0xb0 1 (operationInto 15 (plainInto 0xb0 (minus 1) (operationInto 0 (plainInto 0x10 ch c))))
 
 -- 01, assign: value, STL
-unfoldable pub assignInto : (depth w : ℕ) → List ℕ → List ℕ → (at : ℕ) → Code → Wrote
-assignInto d w vs s at c =
+unfoldable pub assignInto : (depth w : ℕ) → (vs plan s : List ℕ) → (at : ℕ) → Code → Wrote
+assignInto d w vs p s at c =
     let x = valueAt s at in
-    let e = exprInto d w vs s (x .next) c in
+    let e = wholeInto d w 0 vs p s (x .next) c in
     written (e .next) (plainInto 0xd0 (localOf vs (x .value) w) (codeOf e))
 
 -- an input: channel and variable of the table
@@ -32,16 +32,16 @@ inInto w vs cs s at c =
     written (x .next) (inputInto (localOf cs (ch .value) w) (localOf vs (x .value) w) c)
 
 -- an output: channel and value of the table
-unfoldable pub outInto : (depth w : ℕ) → (vs cs : List ℕ) → List ℕ → (at : ℕ) → Code → Wrote
-outInto d w vs cs s at c =
+unfoldable pub outInto : (depth w : ℕ) → (vs cs plan s : List ℕ) → (at : ℕ) → Code → Wrote
+outInto d w vs cs p s at c =
     let ch = valueAt s at in
-    let e = exprInto d w vs s (ch .next) c in
+    let e = wholeInto d w 0 vs p s (ch .next) c in
     written (e .next) (outputInto (localOf cs (ch .value) w) (codeOf e))
 
 -- the kinds before VAR: SKIP has no code. 01: STOP is STOPP
-unfoldable pub simpleInto : (kind depth w : ℕ) → (vs cs : List ℕ) → List ℕ → (at : ℕ) → Code → Wrote
-simpleInto k d w vs cs s at c =
+unfoldable pub simpleInto : (kind depth w : ℕ) → (vs cs plan s : List ℕ) → (at : ℕ) → Code → Wrote
+simpleInto k d w vs cs p s at c =
     cond (eqb k skipKind) (written at c)
     (cond (eqb k stopKind) (written at (operationInto 21 c))
-    (cond (eqb k assignKind) (assignInto d w vs s at c)
-    (cond (eqb k inputKind) (inInto w vs cs s at c) (outInto d w vs cs s at c))))
+    (cond (eqb k assignKind) (assignInto d w vs p s at c)
+    (cond (eqb k inputKind) (inInto w vs cs s at c) (outInto d w vs cs p s at c))))

@@ -1,7 +1,9 @@
 // The code of expressions.
 ghost use mathlib.Core.Path.{_≡_};
 ghost use Rattle.emitter.specs.Emits.{at as standing};
-ghost use Rattle.emitter.specs.Exprs.{wrote, operationFor, operatorInto, leafInto, binaryInto, exprInto};
+ghost use Rattle.emitter.specs.Plans.{storedIn, planAt};
+ghost use Rattle.emitter.specs.Exprs.{wrote, operationFor, operatorInto, leafInto, sidesAt, binaryInto, exprInto};
+ghost use Rattle.emitter.specs.Exprs.{lowering, adjustInto, wholeInto};
 
 // The place after what was compiled, and the place after its code.
 pub struct Done {
@@ -66,43 +68,106 @@ fn gen_leaf(
     }
 }
 
-// What follows an operator's kind: operator, left, right.
-fn gen_binary(
+// Two sides, the left one at a place, apart from the operator; `held` values are held before.
+fn gen_sides(
     table: &[u8],
+    plan: &[u32; 16384],
     at: usize,
     depth: u64,
     w: u32,
+    held: u32,
     variables: &[u32; 1024],
     out: &mut [u8],
     here: u32,
 ) -> Done
     ensures { λ r.
         ⌜ wrote r (now (out .exit))
-        ≡ binaryInto depth w (now (variables .entry)) (now (table .entry)) at (standing here (now (out .entry))) ⌝ }
+        ≡ sidesAt depth w (now (variables .entry)) (now (plan .entry)) (now (table .entry)) held at
+        (standing here (now (out .entry))) ⌝ }
 {
-    let operator = numbers::value_at(table, at);
-    let left = gen_expr(table, operator.next, depth, w, variables, out, here);
-    let right = gen_expr(table, left.next, depth, w, variables, out, left.here);
-    let end = gen_operator(operator.value, out, right.here);
+    let sides = crate::sides::arrange(plan, at, held);
+    let one = gen_expr(
+        table,
+        plan,
+        sides.first,
+        depth,
+        w,
+        held,
+        variables,
+        out,
+        here,
+    );
+    let next = crate::sides::put_between(sides.order, held, out, one.here);
+    let two = gen_expr(
+        table,
+        plan,
+        sides.second,
+        depth,
+        w,
+        sides.held,
+        variables,
+        out,
+        next,
+    );
+    let end = crate::sides::put_behind(sides.order, held, out, two.here);
     Done {
-        next: right.next,
+        next: sides.next,
         here: end,
     }
 }
 
-// An expression; the depth left falls at each call.
-pub fn gen_expr(
+// What follows an operator's kind: operator, left, right.
+fn gen_binary(
     table: &[u8],
+    plan: &[u32; 16384],
     at: usize,
     depth: u64,
     w: u32,
+    held: u32,
     variables: &[u32; 1024],
     out: &mut [u8],
     here: u32,
 ) -> Done
     ensures { λ r.
         ⌜ wrote r (now (out .exit))
-        ≡ exprInto depth w (now (variables .entry)) (now (table .entry)) at (standing here (now (out .entry))) ⌝ }
+        ≡ binaryInto depth w (now (variables .entry)) (now (plan .entry)) (now (table .entry)) held at
+        (standing here (now (out .entry))) ⌝ }
+{
+    let operator = numbers::value_at(table, at);
+    let sides = gen_sides(
+        table,
+        plan,
+        operator.next,
+        depth,
+        w,
+        held,
+        variables,
+        out,
+        here,
+    );
+    let end = gen_operator(operator.value, out, sides.here);
+    Done {
+        next: sides.next,
+        here: end,
+    }
+}
+
+// An expression, with `held` values held before; the depth left falls at each call.
+fn gen_expr(
+    table: &[u8],
+    plan: &[u32; 16384],
+    at: usize,
+    depth: u64,
+    w: u32,
+    held: u32,
+    variables: &[u32; 1024],
+    out: &mut [u8],
+    here: u32,
+) -> Done
+    ensures { λ r.
+        ⌜ wrote r (now (out .exit))
+        ≡ exprInto depth w (now (variables .entry)) (now (plan .entry)) (now (table .entry)) held at
+        (standing here (now (out .entry))) ⌝ }
 {
     if depth == 0 {
         return Done {
@@ -111,16 +176,66 @@ pub fn gen_expr(
         };
     }
     let kind = numbers::value_at(table, at);
+    let next = kind.next;
     if kind.value < numbers::kinds::NOT {
-        return gen_leaf(table, kind.next, kind.value, w, variables, out, here);
+        return gen_leaf(table, next, kind.value, w, variables, out, here);
     }
     if kind.value == numbers::kinds::NOT {
-        let inner = gen_expr(table, kind.next, depth - 1, w, variables, out, here);
+        let inner = gen_expr(table, plan, next, depth - 1, w, held, variables, out, here);
         let end = crate::emit::plain(out, inner.here, instruction::codes::EQC, 0);
         return Done {
             next: inner.next,
             here: end,
         };
     }
-    gen_binary(table, kind.next, depth - 1, w, variables, out, here)
+    gen_binary(table, plan, next, depth - 1, w, held, variables, out, here)
+}
+
+// By how many words W is lowered for the whole expression at a place: its stored values and so many more; without stored values by none.
+fn lowered(plan: &[u32; 16384], at: usize, more: u32) -> u32
+    ensures { λ r. ⌜ r ≡ lowering (storedIn (planAt (now (plan .entry)) at)) more ⌝ }
+{
+    let stored = crate::plan::stored_in(crate::plan::entry_at(plan, at));
+    if stored == 0 {
+        return 0;
+    }
+    word::plus(stored, more)
+}
+
+// AJW where W is lowered.
+fn put_adjust(lowered: u32, operand: u32, out: &mut [u8], here: u32) -> u32
+    ensures { λ r. ⌜ standing r (now (out .exit)) ≡ adjustInto lowered operand (standing here (now (out .entry))) ⌝ }
+{
+    if lowered == 0 {
+        return here;
+    }
+    crate::emit::plain(out, here, instruction::codes::AJW, operand)
+}
+
+// A whole expression: one with stored values stands between AJW -n and AJW n, n words being its stored values and so many more.
+pub fn gen_whole(
+    table: &[u8],
+    plan: &[u32; 16384],
+    at: usize,
+    depth: u64,
+    w: u32,
+    more: u32,
+    variables: &[u32; 1024],
+    out: &mut [u8],
+    here: u32,
+) -> Done
+    ensures { λ r.
+        ⌜ wrote r (now (out .exit))
+        ≡ wholeInto depth w more (now (variables .entry)) (now (plan .entry)) (now (table .entry)) at
+        (standing here (now (out .entry))) ⌝ }
+{
+    let n = lowered(plan, at, more);
+    let start = put_adjust(n, crate::emit::minus(n), out, here);
+    let below = crate::words::below(w, n);
+    let inner = gen_expr(table, plan, at, depth, below, 0, variables, out, start);
+    let end = put_adjust(n, n, out, inner.here);
+    Done {
+        next: inner.next,
+        here: end,
+    }
 }

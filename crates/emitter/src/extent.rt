@@ -1,7 +1,8 @@
 // The place after a part, and the words that a statement needs.
 ghost use mathlib.Core.Path.{_≡_};
-ghost use Prim.Native.Nat.{ℕ, max};
-ghost use Rattle.emitter.specs.Extents.{skipExpr, simpleExtent, skipGuard, skipHead};
+ghost use Rattle.model.specs.Counts.{guardWords};
+ghost use Rattle.emitter.specs.Plans.{storedIn};
+ghost use Rattle.emitter.specs.Extents.{simpleExtent, guardExtent, headExtent};
 ghost use Rattle.emitter.specs.Extents.{joined as needed, partsExtent, insideExtent, extentAt};
 
 pub struct Extent {
@@ -9,34 +10,9 @@ pub struct Extent {
     pub need: u32,
 }
 
-fn larger(a: u32, b: u32) -> u32
-    ensures { λ r. ⌜ r ≡ max a b ⌝ }
-{
-    if a < b { b } else { a }
-}
-
-// The place after an expression.
-pub fn skip_expr(table: &[u8], at: usize, depth: u64) -> usize
-    ensures { λ r. ⌜ r ≡ skipExpr depth (now (table .entry)) at ⌝ }
-{
-    if depth == 0 {
-        return at;
-    }
-    let kind = numbers::value_at(table, at);
-    if kind.value < numbers::kinds::NOT {
-        return numbers::skip(table, kind.next);
-    }
-    if kind.value == numbers::kinds::NOT {
-        return skip_expr(table, kind.next, depth - 1);
-    }
-    let left = numbers::skip(table, kind.next);
-    let right = skip_expr(table, left, depth - 1);
-    skip_expr(table, right, depth - 1)
-}
-
 // What follows the kinds before VAR.
-fn simple_extent(table: &[u8], at: usize, kind: u32, depth: u64) -> Extent
-    ensures { λ r. ⌜ r ≡ simpleExtent kind depth (now (table .entry)) at ⌝ }
+fn simple_extent(table: &[u8], plan: &[u32; 16384], at: usize, kind: u32) -> Extent
+    ensures { λ r. ⌜ r ≡ simpleExtent kind (now (plan .entry)) (now (table .entry)) at ⌝ }
 {
     if kind < numbers::kinds::ASSIGN {
         return Extent { next: at, need: 2 };
@@ -49,44 +25,72 @@ fn simple_extent(table: &[u8], at: usize, kind: u32, depth: u64) -> Extent
             need: 3,
         };
     }
-    let next = skip_expr(table, second, depth);
+    let value = crate::plan::entry_at(plan, second);
+    let next = crate::plan::next_in(value);
+    let stored = crate::plan::stored_in(value);
     if kind == numbers::kinds::ASSIGN {
         return Extent {
             next: next,
-            need: 2,
+            need: stored + 2,
         };
     }
     Extent {
         next: next,
-        need: 4,
+        need: crate::plan::larger(4, stored + 3),
     }
 }
 
-// The place after a guard.
-fn skip_guard(table: &[u8], at: usize, depth: u64) -> usize
-    ensures { λ r. ⌜ r ≡ skipGuard depth (now (table .entry)) at ⌝ }
+// The words that a guard's condition asks for, by its entry.
+fn guard_words(condition: u32) -> u32
+    ensures { λ r. ⌜ r ≡ guardWords (storedIn condition) ⌝ }
+{
+    let stored = crate::plan::stored_in(condition);
+    if stored == 0 {
+        return 0;
+    }
+    stored + 8
+}
+
+// The place after a guard, and the words that its condition asks for.
+fn guard_extent(table: &[u8], plan: &[u32; 16384], at: usize) -> Extent
+    ensures { λ r. ⌜ r ≡ guardExtent (now (plan .entry)) (now (table .entry)) at ⌝ }
 {
     let kind = numbers::value_at(table, at);
-    let channel = skip_expr(table, kind.next, depth);
+    let condition = crate::plan::entry_at(plan, kind.next);
+    let channel = crate::plan::next_in(condition);
+    let need = guard_words(condition);
     if kind.value == numbers::kinds::INPUT_GUARD {
         let variable = numbers::skip(table, channel);
-        return numbers::skip(table, variable);
+        let next = numbers::skip(table, variable);
+        return Extent {
+            next: next,
+            need: need,
+        };
     }
-    channel
+    Extent {
+        next: channel,
+        need: need,
+    }
 }
 
-// The place after what stands before the statement of a part: nothing (SEQ, PAR), a condition (IF, WHILE),
+// The place after what stands before the statement of a part, and the words that it asks for: nothing (SEQ, PAR), a condition (IF, WHILE),
 // a guard (ALT).
-fn skip_head(table: &[u8], at: usize, kind: u32, depth: u64) -> usize
-    ensures { λ r. ⌜ r ≡ skipHead kind depth (now (table .entry)) at ⌝ }
+fn head_extent(table: &[u8], plan: &[u32; 16384], at: usize, kind: u32) -> Extent
+    ensures { λ r. ⌜ r ≡ headExtent kind (now (plan .entry)) (now (table .entry)) at ⌝ }
 {
     if kind < numbers::kinds::IF {
-        return at;
+        return Extent { next: at, need: 0 };
     }
     if kind < numbers::kinds::ALT {
-        return skip_expr(table, at, depth);
+        let condition = crate::plan::entry_at(plan, at);
+        let next = crate::plan::next_in(condition);
+        let stored = crate::plan::stored_in(condition);
+        return Extent {
+            next: next,
+            need: stored + 2,
+        };
     }
-    skip_guard(table, at, depth)
+    guard_extent(table, plan, at)
 }
 
 // What is needed with one more part: in a PAR the sum, else the most.
@@ -96,12 +100,20 @@ fn joined(kind: u32, before: u32, part: u32) -> u32
     if kind == numbers::kinds::PAR {
         return word::plus(before, part);
     }
-    larger(before, part)
+    crate::plan::larger(before, part)
 }
 
 // So many parts, behind some that need so many words.
-fn parts_extent(table: &[u8], at: usize, kind: u32, left: u32, depth: u64, need: u32) -> Extent
-    ensures { λ r. ⌜ r ≡ partsExtent left kind depth (now (table .entry)) at need ⌝ }
+fn parts_extent(
+    table: &[u8],
+    plan: &[u32; 16384],
+    at: usize,
+    kind: u32,
+    left: u32,
+    depth: u64,
+    need: u32,
+) -> Extent
+    ensures { λ r. ⌜ r ≡ partsExtent left kind depth (now (plan .entry)) (now (table .entry)) at need ⌝ }
 {
     if left == 0 {
         return Extent {
@@ -109,22 +121,23 @@ fn parts_extent(table: &[u8], at: usize, kind: u32, left: u32, depth: u64, need:
             need: need,
         };
     }
-    let body = skip_head(table, at, kind, depth);
-    let part = measure(table, body, depth);
-    let more = joined(kind, need, part.need);
-    parts_extent(table, part.next, kind, left - 1, depth, more)
+    let head = head_extent(table, plan, at, kind);
+    let part = measure(table, plan, head.next, depth);
+    let before = crate::plan::larger(need, head.need);
+    let more = joined(kind, before, part.need);
+    parts_extent(table, plan, part.next, kind, left - 1, depth, more)
 }
 
 // What follows the kinds from VAR on.
-fn inside_extent(table: &[u8], at: usize, kind: u32, depth: u64) -> Extent
-    ensures { λ r. ⌜ r ≡ insideExtent kind depth (now (table .entry)) at ⌝ }
+fn inside_extent(table: &[u8], plan: &[u32; 16384], at: usize, kind: u32, depth: u64) -> Extent
+    ensures { λ r. ⌜ r ≡ insideExtent kind depth (now (plan .entry)) (now (table .entry)) at ⌝ }
 {
     if kind == numbers::kinds::WHILE {
-        return parts_extent(table, at, kind, 1, depth, 2);
+        return parts_extent(table, plan, at, kind, 1, depth, 2);
     }
     let count = numbers::value_at(table, at);
     if kind < numbers::kinds::SEQ {
-        let body = measure(table, count.next, depth);
+        let body = measure(table, plan, count.next, depth);
         let need = word::plus(count.value, body.need);
         return Extent {
             next: body.next,
@@ -132,21 +145,21 @@ fn inside_extent(table: &[u8], at: usize, kind: u32, depth: u64) -> Extent
         };
     }
     if kind == numbers::kinds::ALT {
-        return parts_extent(table, count.next, kind, count.value, depth, 4);
+        return parts_extent(table, plan, count.next, kind, count.value, depth, 4);
     }
-    parts_extent(table, count.next, kind, count.value, depth, 2)
+    parts_extent(table, plan, count.next, kind, count.value, depth, 2)
 }
 
 // A statement; the depth left falls at each call.
-pub fn measure(table: &[u8], at: usize, depth: u64) -> Extent
-    ensures { λ r. ⌜ r ≡ extentAt depth (now (table .entry)) at ⌝ }
+pub fn measure(table: &[u8], plan: &[u32; 16384], at: usize, depth: u64) -> Extent
+    ensures { λ r. ⌜ r ≡ extentAt depth (now (plan .entry)) (now (table .entry)) at ⌝ }
 {
     if depth == 0 {
         return Extent { next: at, need: 2 };
     }
     let kind = numbers::value_at(table, at);
     if kind.value < numbers::kinds::VAR {
-        return simple_extent(table, kind.next, kind.value, depth - 1);
+        return simple_extent(table, plan, kind.next, kind.value);
     }
-    inside_extent(table, kind.next, kind.value, depth - 1)
+    inside_extent(table, plan, kind.next, kind.value, depth - 1)
 }

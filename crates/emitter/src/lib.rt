@@ -1,8 +1,11 @@
-// Code into a lent buffer: single instructions, expressions, and statements without statements inside; and what a statement needs.
+// Code into a lent buffer: single instructions, expressions, and statements without statements inside; the plan of a table's expressions,
+// which their code follows; and what a statement needs.
 // Bytes past the buffer's end are left out, so that the size of code can be had without a buffer.
 mod emit;
 mod expr;
 mod extent;
+mod plan;
+mod sides;
 mod simple;
 mod words;
 
@@ -11,9 +14,10 @@ pub use emit::minus;
 pub use emit::operation;
 pub use emit::plain;
 pub use expr::Done;
-pub use expr::gen_expr;
+pub use expr::gen_whole;
 pub use extent::Extent;
 pub use extent::measure;
+pub use plan::make_plan;
 pub use simple::gen_input;
 pub use simple::gen_simple;
 pub use words::below;

@@ -29,6 +29,7 @@ fn put_output(out: &mut [u8], here: u32, channel: u32) -> u32
 // Assignment: value, STL.
 fn gen_assign(
     table: &[u8],
+    plan: &[u32; 16384],
     at: usize,
     depth: u64,
     w: u32,
@@ -38,10 +39,10 @@ fn gen_assign(
 ) -> Done
     ensures { λ r.
         ⌜ wrote r (now (out .exit))
-        ≡ assignInto depth w (now (variables .entry)) (now (table .entry)) at (standing here (now (out .entry))) ⌝ }
+        ≡ assignInto depth w (now (variables .entry)) (now (plan .entry)) (now (table .entry)) at (standing here (now (out .entry))) ⌝ }
 {
     let name = numbers::value_at(table, at);
-    let value = crate::expr::gen_expr(table, name.next, depth, w, variables, out, here);
+    let value = crate::expr::gen_whole(table, plan, name.next, depth, w, 0, variables, out, here);
     let word = crate::words::local(variables, name.value, w);
     let end = crate::emit::plain(out, value.here, instruction::codes::STL, word);
     Done {
@@ -78,6 +79,7 @@ pub fn gen_input(
 // Output: a channel and a value.
 fn gen_output(
     table: &[u8],
+    plan: &[u32; 16384],
     at: usize,
     depth: u64,
     w: u32,
@@ -88,10 +90,21 @@ fn gen_output(
 ) -> Done
     ensures { λ r.
         ⌜ wrote r (now (out .exit))
-        ≡ outInto depth w (now (variables .entry)) (now (channels .entry)) (now (table .entry)) at (standing here (now (out .entry))) ⌝ }
+        ≡ outInto depth w (now (variables .entry)) (now (channels .entry)) (now (plan .entry)) (now (table .entry)) at
+        (standing here (now (out .entry))) ⌝ }
 {
     let channel = numbers::value_at(table, at);
-    let value = crate::expr::gen_expr(table, channel.next, depth, w, variables, out, here);
+    let value = crate::expr::gen_whole(
+        table,
+        plan,
+        channel.next,
+        depth,
+        w,
+        0,
+        variables,
+        out,
+        here,
+    );
     let to = crate::words::local(channels, channel.value, w);
     let end = put_output(out, value.here, to);
     Done {
@@ -103,6 +116,7 @@ fn gen_output(
 // The kinds before VAR.
 pub fn gen_simple(
     table: &[u8],
+    plan: &[u32; 16384],
     at: usize,
     kind: u32,
     depth: u64,
@@ -114,7 +128,7 @@ pub fn gen_simple(
 ) -> Done
     ensures { λ r.
         ⌜ wrote r (now (out .exit))
-        ≡ simpleInto kind depth w (now (variables .entry)) (now (channels .entry)) (now (table .entry)) at
+        ≡ simpleInto kind depth w (now (variables .entry)) (now (channels .entry)) (now (plan .entry)) (now (table .entry)) at
         (standing here (now (out .entry))) ⌝ }
 {
     if kind == numbers::kinds::SKIP {
@@ -131,10 +145,10 @@ pub fn gen_simple(
         };
     }
     if kind == numbers::kinds::ASSIGN {
-        return gen_assign(table, at, depth, w, variables, out, here);
+        return gen_assign(table, plan, at, depth, w, variables, out, here);
     }
     if kind == numbers::kinds::INPUT {
         return gen_input(table, at, w, variables, channels, out, here);
     }
-    gen_output(table, at, depth, w, variables, channels, out, here)
+    gen_output(table, plan, at, depth, w, variables, channels, out, here)
 }

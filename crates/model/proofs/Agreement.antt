@@ -35,7 +35,7 @@ use Rattle.model.proofs.Kernel.{Loaded, S, root, size, LeafAt, NodeAt, 
 use Rattle.model.proofs.Writes.{node}
 use Rattle.model.proofs.Grounds.{var-in}
 use Rattle.model.proofs.Running.{Nobody, Here, within, at-end, off-small, Now, now-goes, now-alt, Inv, runs, starts, idle}
-use Rattle.model.proofs.Reach.{way-end, point-in, alt-in, start-in}
+use Rattle.model.proofs.Reach.{way-end, point-in, alt-end, start-in}
 use Rattle.model.proofs.Forks.{look-self}
 use Rattle.model.proofs.Stuckness.{Active, stuck-unable, active-able, choice-ready, settled-active, comes-active, alt-goes-active}
 
@@ -144,7 +144,7 @@ module _ (L : Loaded) where
         let (z, e) = way-end (S L) (point-in (S L) b) (here-end h) way in
         let top : path ≡ [] = end-whole (S L) t path (at .label) e in
         look-self (ap (λ y. look y (st .process)) (sym top) ∙ at .found) ∙ z
-    now-ended {b = b} at (now-alt h way soon) = absurd (way-end (S L) (alt-in (S L) b) (here-end h) way)
+    now-ended {b = b} at (now-alt h way soon) = absurd (alt-end (S L) b (here-end h) way)
 
   pub inv-ended : {s : World} {st : State} {n : ℕ} → Inv L s st n → ended (s .machine) ≡ true → st .process ≡ finished
   inv-ended (runs real run at rest lined now) e = now-ended real e at now

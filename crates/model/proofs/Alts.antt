@@ -10,18 +10,18 @@ use mathlib.Core.Option.{Option, none, some}
 use lib.ListN.{getD, set}
 use borrow.Author.Tests.{eq-eqb, ne-eqb}
 use Rattle.model.specs.Word.{notProcess}
-use Rattle.model.specs.Syntax.{Site, inputOf, Whole, Stmt, ALT, Guards, noGuard, inputGuard, skipGuard}
+use Rattle.model.specs.Syntax.{Site, inputOf, Expr, Stmt, ALT, Guards, noGuard, inputGuard, skipGuard}
 use Rattle.model.specs.Instruction.{Instruction, operation}
 use Rattle.model.specs.Instruction as I
 use Rattle.model.specs.Code.{functionIn, operandIn}
 use Rattle.model.specs.Scheme.{sizeEnable, codeEnable}
 use Rattle.model.specs.Machine.{World, withCpu, withMemory, stack, resumeWord, stateWord, isHeld}
 use Rattle.model.specs.Execute.{enabling, waiting, ready, noneSelected}
-use Rattle.model.specs.Occam.{Store, value, isTrue, Frame, Process, before, atAlt, look, State, Sender, process, outside}
+use Rattle.model.specs.Occam.{Store, eval, isTrue, Frame, Process, before, atAlt, look, State, Sender, process, outside}
 use Rattle.model.specs.Occam.{Step, begins, go}
 use Rattle.model.specs.Demand.{step}
 use Rattle.model.proofs.Cases.{never}
-use Rattle.model.proofs.Ways.{regsOf, Mem}
+use Rattle.model.proofs.Ways.{upd-same, upd-other, upd, regsOf, Mem}
 use Rattle.model.proofs.Expr.{Seg}
 use Rattle.model.proofs.Points.{whole}
 use Rattle.model.proofs.Arrive.{rises-le}
@@ -30,16 +30,17 @@ use Rattle.model.proofs.Parts.{Part, FineGuards}
 use Rattle.model.proofs.Conts.{Placed, placed-down, cont-placed, cont-low}
 use Rattle.model.proofs.Marks.{Own, Ready, r-input, r-skip, Rest as RestOf, rest-all, Noticed, n-none, n-input, n-skip, Guarded}
 use Rattle.model.proofs.Marks.{g-here, AltCode, Marked, Enabling, Disabling}
-use Rattle.model.proofs.Onwards.{AltGoes, rest-past-input, rest-past-skip, rest-ready, rest-guarded, rest-fine, noticed-past-input}
+use Rattle.model.proofs.Onwards.{AltGoes, alt-goes, rest-past-input, rest-past-skip, rest-ready, rest-guarded, rest-fine}
+use Rattle.model.proofs.Onwards.{noticed-past-input}
 use Rattle.model.proofs.Onwards.{noticed-past-skip, noticed-unready, noticed-marked, enable-way, enable-first, disable-first}
 use Rattle.model.proofs.Trees.{Info, Sits, Tree, bytesLeft, part-inside}
-use Rattle.model.proofs.Leaves.{upd, Unmarked, Held, h-wait}
+use Rattle.model.proofs.Leaves.{Unmarked, Held, h-wait}
 use Rattle.model.proofs.Stays.{Calm, noticed-stays, marked-stays, ready-stays}
 use Rattle.model.proofs.Effects.{cpuOf, sizeOf, stored}
 use Rattle.model.proofs.Acts.{exec-alt, enabled, exec-enbc-off, exec-enbc-held, exec-enbc-empty, exec-enbc-marked}
 use Rattle.model.proofs.Acts.{exec-enbc-sender, exec-enbs-off, exec-enbs, exec-altwt-ready, exec-altwt-wait}
 use Rattle.model.proofs.Kernel.{Loaded, S, root, size, LeafAt, owned, Rest, Real}
-use Rattle.model.proofs.Writes.{upd-same, upd-other, node, apart-parts, own-one, part-small, sits-at, write-own, write-chan}
+use Rattle.model.proofs.Writes.{node, apart-parts, own-one, part-small, sits-at, write-own, write-chan}
 use Rattle.model.proofs.Writes.{left-out}
 use Rattle.model.proofs.Puts.{putting, treeThen, here-then, lined-then, rest-then, sender-then, sender-before}
 use Rattle.model.proofs.Grounds.{chan-in, sound-at}
@@ -53,11 +54,11 @@ use Rattle.model.proofs.Channels.{Holder, holds-input, holds-output, ho
 use Rattle.model.proofs.Channels.{sender-at, HeldAt, held-at, not-held, held-here}
 
 -- a condition's register says whether it is true
-pub true-when : (σ : Store) (e : Whole) (v : ℕ) → v ≡ value σ e → v ≢ 0 → isTrue σ e ≡ true
-true-when σ e v q d = rw (ne-eqb (value σ e) 0 (λ z. d (q ∙ z)))
+pub true-when : (σ : Store) (e : Expr) (v : ℕ) → v ≡ eval σ e → v ≢ 0 → isTrue σ e ≡ true
+true-when σ e v q d = rw (ne-eqb (eval σ e) 0 (λ z. d (q ∙ z)))
 
-pub false-when : (σ : Store) (e : Whole) (v : ℕ) → v ≡ value σ e → v ≡ 0 → isTrue σ e ≡ false
-false-when σ e v q d = rw (eq-eqb (value σ e) 0 (sym q ∙ d))
+pub false-when : (σ : Store) (e : Expr) (v : ℕ) → v ≡ eval σ e → v ≡ 0 → isTrue σ e ≡ false
+false-when σ e v q d = rw (eq-eqb (eval σ e) 0 (sym q ∙ d))
 
 -- processes that begin a statement or are at an ALT send nothing
 before-silent : {s : Stmt} {k : List Frame} → Silent (before s k)
@@ -330,7 +331,8 @@ module _ (L : Loaded) {s : World} {st : State} {μ : Mem} {t : Tree (S L) (root 
         → Goal x
     enables-on ran m n =
         onward L A c f g h ran m
-        (enable-way (S L) b st (space s) c (sound-at L (m .rest) (A .leaf)) hs near (fine-rest L A c (n .rest .1)) n code refl)
+        (alt-goes (space s)
+        (enable-way (S L) b st (space s) c (sound-at L (m .rest) (A .leaf)) hs near (fine-rest L A c (n .rest .1)) n code refl))
 
     -- the state becomes Ready
     turns-ready : Executes L x s (withCpu (stack f g h (cpuOf s)) (stored state-word ready s)) → (m : ℕ) × RestOf gs 0 hs m → Marks μ
@@ -344,8 +346,8 @@ module _ (L : Loaded) {s : World} {st : State} {μ : Mem} {t : Tree (S L) (root 
         })
 
   -- ENBC of a guard
-  module _ (e : Whole) (y z : Site) (g : Stmt) (hs : Guards) (near : hi₀ ≤ hi) (n : Enabled (inputGuard e y z g hs) μ)
-      (val : cpuOf s .a ≡ value (st .store) e) (chan : cpuOf s .b ≡ S L .word y)
+  module _ (e : Expr) (y z : Site) (g : Stmt) (hs : Guards) (near : hi₀ ≤ hi) (n : Enabled (inputGuard e y z g hs) μ)
+      (val : cpuOf s .a ≡ eval (st .store) e) (chan : cpuOf s .b ≡ S L .word y)
       (code : Seg (S L .xs) (suc at) (codeEnable (S L .word) (space s) hs) (i₀ + 2 + sizeEnable gs)) where
     mine : List·Memᴰ y (i .chans)
     mine = fine-rest L A c (n .rest .1) .2
@@ -454,8 +456,8 @@ module _ (L : Loaded) {s : World} {st : State} {μ : Mem} {t : Tree (S L) (root 
         by (no a) = enbc-on a (held-here L (A .real) (node L (A .leaf)) y mine)
 
   -- ENBS of a guard
-  module _ (e : Whole) (g : Stmt) (hs : Guards) (near : hi₀ ≤ hi) (n : Enabled (skipGuard e g hs) μ)
-      (val : cpuOf s .a ≡ value (st .store) e)
+  module _ (e : Expr) (g : Stmt) (hs : Guards) (near : hi₀ ≤ hi) (n : Enabled (skipGuard e g hs) μ)
+      (val : cpuOf s .a ≡ eval (st .store) e)
       (code : Seg (S L .xs) (suc at) (codeEnable (S L .word) (space s) hs) (i₀ + 2 + sizeEnable gs)) where
     past-skip : (m : ℕ) × RestOf gs 0 hs m
     past-skip = (_, rest-past-skip (n .rest .1))

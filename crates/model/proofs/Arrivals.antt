@@ -13,7 +13,7 @@ use borrow.Author.Tests.{eqb-true, eqb-false}
 use Rattle.model.specs.Word.{low, less, minus, notProcess}
 use Rattle.model.specs.Code.{functionIn, operandIn}
 use Rattle.model.specs.Counts.{need}
-use Rattle.model.specs.Syntax.{Site, Whole, Stmt, SKIP, STOP, assign, input, output, VAR, CHAN, SEQ, PAR, IF, WHILE, ALT, Stmts}
+use Rattle.model.specs.Syntax.{Site, Expr, Stmt, SKIP, STOP, assign, input, output, VAR, CHAN, SEQ, PAR, IF, WHILE, ALT, Stmts}
 use Rattle.model.specs.Syntax.{noStmt, stmt, Pairs, noPair, pair, Guards}
 use Rattle.model.specs.Reader.{names}
 use Rattle.model.specs.Instruction.{ldc, ldlp, cj, ajw, stl, Instruction, plain, distance, operation}
@@ -21,28 +21,39 @@ use Rattle.model.specs.Instruction as I
 use Rattle.model.specs.Scheme.{initialise, howMany, wholeSize, size, sizePairs, sizeEnds, sizeEnable, sizeDisable, sizeBranches}
 use Rattle.model.specs.Scheme.{local, wholeCode, inputCode, code, codeAll, codePairs, codeStarts, codeEnds, codeEnable}
 use Rattle.model.specs.Scheme.{codeDisable, codeBranches}
-use Rattle.model.specs.Occam.{Store, value, Frame, inWhile, Process, before, finished, framesOf, resume, begin}
+use Rattle.model.specs.Occam.{Store, eval, Frame, inWhile, Process, before, finished, framesOf, resume, begin}
 use Rattle.model.specs.Occam.{enter, enterAll, firstTrue}
 use Rattle.model.specs.Demand.{liveIn}
 use Rattle.model.proofs.Ways.{Regs, Quiet, pushing, pointing, reversing, placing, moving, Mem, Way, arrived, through, quiet, jumps}
 use Rattle.model.proofs.Ways.{falls, quiet-ldc, quiet-ajw, quiet-ldlp, quiet-rev, quiet-mint, quiet-ldpi}
 use Rattle.model.proofs.Values.{eval-word}
 use Rattle.model.proofs.Expr.{Seg, nil, at, cut, seg-length, local-word}
-use Rattle.model.proofs.Exprs.{evaluates}
-use Rattle.model.proofs.Sizes.{initialise-length, code-length, expr-length, starts-length, enable-length, disable-length}
+use Rattle.model.proofs.Exprs.{evaluates-whole}
+use Rattle.model.proofs.Sizes.{initialise-length, code-length, whole-length, starts-length, enable-length, disable-length}
 use Rattle.model.proofs.Sizes.{ends-length, pairs-length, branches-length}
 use Rattle.model.proofs.Points.{Setting, whole, At}
 use Rattle.model.proofs.Arrive.{inside, up, rises-le, init-at, tested, loop-parts, pair-parts}
 use Rattle.model.proofs.Parts.{need-two, sum-first, Part, the-end, joins, Words, Within, FineWhole, Fine, FineAll, FinePairs}
 use Rattle.model.proofs.Conts.{Placed, placed-down, Cont, c-end, c-join, c-seq, c-var, c-chan, c-up, c-while, c-hop}
 use Rattle.model.proofs.Conts.{cont-inside, cont-low, cont-placed, cont-bound}
-use Rattle.model.proofs.Marks.{Skips, Settled, s-none, s-skip, s-par, AltCode, Opening, ParCode, Clear, Point, pt-stop}
+use Rattle.model.proofs.Marks.{Skips, Settled, s-none, s-skip, s-par, AltCode, Opening, ParCode, Spare, Clear, Point, pt-stop}
 use Rattle.model.proofs.Marks.{pt-assign, pt-var, pt-chan, pt-taken, pt-none, pt-while, pt-in, pt-out, pt-par-place, pt-end, pt-alt}
 
 -- two stretches of instructions, one behind the other
 pub seg-join : {xs ys zs : List Instruction} {i m i′ : ℕ} → Seg xs i ys m → Seg xs m zs i′ → Seg xs i (ys ++ zs) i′
 seg-join nil h = h
 seg-join (at e g) h = at e (seg-join g h)
+
+-- a word below the workspace
+pub spare-below : (S : Setting) (a : Part) {w v : ℕ} {vars chans : List Site} → Placed S a w vars chans → a .bottom ≤ v → v < w
+    → Spare S a vars chans v
+spare-below S a p l h =
+    record {
+      above = l;
+      below = omega (arith, p .low);
+      no-var = λ x m. omega (arith, p .scoped .vars-above x m);
+      no-chan = λ c m. omega (arith, p .scoped .chans-above c m);
+    }
 
 -- what is in scope fits in words
 pub record Sound (S : Setting) (a : Part) (σ : Store) (vars chans : List Site) : Type 0 where
@@ -105,7 +116,7 @@ module _ (S : Setting) (a : Part) where
     abbrev pub Goes : (vars chans : List Site) (q : Process) (hi : ℕ) (μ : Mem) (i : ℕ) (r : Regs) → Type 0
     Goes vars chans q hi μ i r =
         Way (S .xs) (S .off) (S .word) (Point S a σ vars chans q) ((q ≡ finished) × (a .ending ≡ the-end)) σ
-        (λ x. List·Memᴰ x vars × List·Memᴰ x (a .reads)) (Clear S a vars chans) hi μ i r
+        (λ x. List·Memᴰ x vars × List·Memᴰ x (a .reads)) (Spare S a vars chans) (Clear S a vars chans) hi μ i r
 
     -- from index i, at workspace w, a process is led to its next significant instruction, after steps without code
     pub data Comes (vars chans : List Site) (hi : ℕ) (p : Process) (i w : ℕ) : Type 0 where
@@ -129,15 +140,16 @@ module _ (S : Setting) (a : Part) where
       clear r e room =
           subst (λ w. Clear S a vars chans w) (sym e) (cont-placed S a cont)
 
-      through-expr : (q : Process) (e : Whole) {hi i i′ : ℕ} {μ : Mem} {r : Regs} → FineWhole a vars e
-          → Seg (S .xs) i (wholeCode (S .word) w e) i′
-          → r .w ≡ w → ((r′ : Regs) → r′ .a ≡ value σ e → r′ .w ≡ w → Goes vars chans q hi μ i′ r′) → Goes vars chans q hi μ i r
-      through-expr q e f g p next =
-          evaluates (S .xs) (S .off) (S .word) (Point S a σ vars chans q) ((q ≡ finished) × (a .ending ≡ the-end)) σ vars (a .reads)
-          (Clear S a vars chans) w wide (v .vars-word) (v .values) (e .expr) g (f .0) (f .1) (f .2) p
-          (λ r′ d. next r′ (d .value) (d .same-w ∙ p))
+      through-expr : (q : Process) (e : Expr) {hi i i′ : ℕ} {μ : Mem} {r : Regs} → FineWhole a vars w 0 e
+          → Seg (S .xs) i (wholeCode (S .word) w e) i′ → r .w ≡ w
+          → ((μ′ : Mem) (r′ : Regs) → r′ .a ≡ eval σ e → r′ .w ≡ w → Goes vars chans q hi μ′ i′ r′) → Goes vars chans q hi μ i r
+      through-expr q e {hi} f g p next =
+          evaluates-whole (S .xs) (S .off) (S .word) (Point S a σ vars chans q) ((q ≡ finished) × (a .ending ≡ the-end)) σ vars (a .reads)
+          (Spare S a vars chans) (Clear S a vars chans) hi (λ u s. omega (arith, s .below, v .high)) (v .vars-word) (v .values) w 0 e wide
+          (f .0) (f .1) (omega (arith, f .2)) (λ u l h. spare-below S a (cont-placed S a cont) (omega (arith, f .2)) (omega arith)) g p
+          (λ μ′ r′ d. next μ′ r′ (d .value) (d .same-w))
 
-      while-way : (e : Whole) (s : Stmt) {hi i : ℕ} → Seg (S .xs) i (code (S .word) w i (WHILE e s)) c
+      while-way : (e : Expr) (s : Stmt) {hi i : ℕ} → Seg (S .xs) i (code (S .word) w i (WHILE e s)) c
           → Fine (S .word) a vars chans w (WHILE e s)
           → hi′ ≤ whole S + S .off i → S .off (suc (i + wholeSize e)) ≤ hi → (μ : Mem) (r : Regs) → r .w ≡ w
           → Goes vars chans (before (WHILE e s) k) hi μ i r
@@ -154,19 +166,19 @@ module _ (S : Setting) (a : Part) where
             let near-back : S .off (suc m) + S .off (suc test) - S .off i ≤ whole S + S .off (suc test) = omega arith in
             let near-on : hi′ ≤ whole S + S .off test = omega (arith, rises-le S i test (omega arith) (omega (arith, inside S d))) in
             let ahead : suc test ≤ suc m = omega arith in
-            through-expr (before (WHILE e s) k) e (f .1) g₁ q (λ r′ val q′.
+            through-expr (before (WHILE e s) k) e (f .1) g₁ q (λ μ′ r′ val q′.
             arrived
             (onto r′ q′
             (pt-while x ahead (f .1) val g₂ (f .2) back near-back (subst (λ z. Cont S a hi′ vars chans k z w) p cont) near-on)) bound)
       ]
 
       -- at the CJ of a pair: its branch is taken, or the path goes on by `other`
-      pair-way : (all : Pairs) (e : Whole) (s : Stmt) (ps : Pairs) {i m : ℕ} {μ : Mem} {r : Regs} → a .bottom + 2 ≤ w
+      pair-way : (all : Pairs) (e : Expr) (s : Stmt) (ps : Pairs) {i m : ℕ} {μ : Mem} {r : Regs} → a .bottom + 2 ≤ w
           → FinePairs (S .word) a vars chans w all → Fine (S .word) a vars chans w s
           → firstTrue σ all k ≡ firstTrue σ (pair e s ps) k → hi′ ≤ whole S + S .off i → At S i (distance cj (suc m) i)
-          → Seg (S .xs) (suc i) (code (S .word) w (suc i) s) m → At S m (distance I.j c m) → suc m ≤ c → r .a ≡ value σ e
+          → Seg (S .xs) (suc i) (code (S .word) w (suc i) s) m → At S m (distance I.j c m) → suc m ≤ c → r .a ≡ eval σ e
           → r .w ≡ w
-          → (t : Bool) → eqb (value σ e) 0 ≡ t
+          → (t : Bool) → eqb (eval σ e) 0 ≡ t
           → (r .a ≡ 0 → firstTrue σ all k ≡ firstTrue σ ps k → Goes vars chans (before (IF all) k) hi′ μ i r)
           → Goes vars chans (before (IF all) k) hi′ μ i r
       unfolding firstTrue
@@ -197,11 +209,11 @@ module _ (S : Setting) (a : Part) where
             let near-next : hi′ ≤ whole S + S .off (suc m) =
             omega (arith, rises-le S i (suc m) (omega arith) (omega (arith, inside S d))) in
             let hop : S .off (suc test) ≤ S .off (suc m) = rises-le S (suc test) (suc m) later (inside S d) in
-            through-expr (before (IF all) k) e (f .0) g₁ q (λ r′ val q′.
+            through-expr (before (IF all) k) e (f .0) g₁ q (λ μ′ r′ val q′.
             pair-way all e s ps two fa (f .1) same near-on x g₂ d
-            (omega (arith, seg-length g₃)) val q′ (eqb (value σ e) 0) refl
+            (omega (arith, seg-length g₃)) val q′ (eqb (eval σ e) 0) refl
             (λ z none.
-            falls x (inside S d) z hop (pairs-way all ps g₃ two fa (f .2) none near-next μ r′ q′)))
+            falls x (inside S d) z hop (pairs-way all ps g₃ two fa (f .2) none near-next μ′ r′ q′)))
       ]
 
     -- a VAR's or CHAN's code
@@ -380,7 +392,7 @@ module _ (S : Setting) (a : Part) where
         let (g₅, g₆) = cut front first (omega (arith, l₁)) g₃ in
         par-pick p g₅ g₆ g₄ g₂ f c near
 
-    assign-comes : (x : Site) (e : Whole) {hi i m i′ w : ℕ} {vars chans : List Site} {k : List Frame}
+    assign-comes : (x : Site) (e : Expr) {hi i m i′ w : ℕ} {vars chans : List Site} {k : List Frame}
         → Seg (S .xs) i (wholeCode (S .word) w e) m
         → Seg (S .xs) m (plain stl (local (S .word) w x) ∷ []) i′ → Fine (S .word) a vars chans w (assign x e)
         → (c : Cont S a hi vars chans k i′ w) → hi ≤ whole S + S .off i
@@ -388,8 +400,8 @@ module _ (S : Setting) (a : Part) where
     assign-comes x e {hi} {i} {m} {w} {vars} {chans} {k} g (at y nil) f c near v =
         let named : low (w + less (S .word x) w) ≡ S .word x = local-word w (S .word x) (wide c v) (v .vars-word x (f .0 .0)) in
         let near-on : hi ≤ whole S + S .off m = omega (arith, rises-le S i m (omega (arith, seg-length g)) (omega (arith, inside S y))) in
-        comes s-none tt (here c) (λ μ r q. through-expr c v (before (assign x e) k) e (f .1) g q (λ r′ val q′.
-        arrived (onto r′ q′ (pt-assign y named f val (eval-word σ (v .values) (e .expr) (f .1 .0)) c near-on)) (cont-bound S a c)))
+        comes s-none tt (here c) (λ μ r q. through-expr c v (before (assign x e) k) e (f .1) g q (λ μ′ r′ val q′.
+        arrived (onto r′ q′ (pt-assign y named f val (eval-word σ (v .values) e (f .1 .0)) c near-on)) (cont-bound S a c)))
 
     input-comes : (d x : Site) {hi i i′ w : ℕ} {vars chans : List Site} {k : List Frame} → Seg (S .xs) i (inputCode (S .word) w d x) i′
         → Fine (S .word) a vars chans w (input d x) → (c : Cont S a hi vars chans k i′ w) → hi ≤ whole S + S .off i
@@ -407,7 +419,7 @@ module _ (S : Setting) (a : Part) where
         (quiet (pushing 4) p₃ (quiet-ldc 4)
         (arrived (onto (pushing 4 (pointing o′ (pointing o r))) q (pt-in p₄ refl (rw q vd) (rw q vx) f c near-on)) (cont-bound S a c)))))
 
-    output-comes : (d : Site) (e : Whole) {hi i m i′ w : ℕ} {vars chans : List Site} {k : List Frame}
+    output-comes : (d : Site) (e : Expr) {hi i m i′ w : ℕ} {vars chans : List Site} {k : List Frame}
         → Seg (S .xs) i (wholeCode (S .word) w e) m
         → Seg (S .xs) m
         (plain ldlp (local (S .word) w d) ∷ operation I.rev ∷ plain ajw (minus 1) ∷ operation I.outword ∷ plain ajw 1 ∷ []) i′
@@ -421,13 +433,13 @@ module _ (S : Setting) (a : Part) where
         let near-on : hi ≤ whole S + S .off (suc (suc (suc m))) =
         omega (arith, rises-le S i m (omega (arith, seg-length g)) (omega (arith, inside S p₁)), up S p₁, up S p₂, up S p₃) in
         let bound : S .off (suc (suc (suc (suc m)))) ≤ hi = omega (arith, cont-bound S a c, up S p₅) in
-        comes s-none tt (here c) (λ μ r q. through-expr c v (before (output d e) k) e (f .1) g q (λ r′ val q′.
+        comes s-none tt (here c) (λ μ r q. through-expr c v (before (output d e) k) e (f .1) g q (λ μ′ r′ val q′.
         let down : low (r′ .w + minus 1) ≡ w - 1 = rw q′ (omega (arith, f .0, wide c v)) in
         quiet (pointing o) p₁ (quiet-ldlp o)
         (quiet reversing p₂ quiet-rev
         (quiet (moving (minus 1)) p₃ (quiet-ajw (minus 1))
         (arrived (onto (moving (minus 1) (reversing (pointing o r′))) down
-        (pt-out p₄ val (eval-word σ (v .values) (e .expr) (f .1 .0)) (rw q′ vd)
+        (pt-out p₄ val (eval-word σ (v .values) e (f .1 .0)) (rw q′ vd)
         (subst (λ n. Fine (S .word) a vars chans n (output d e)) back f) p₅
         (subst (λ n. Cont S a hi vars chans k (suc (suc (suc (suc (suc m))))) n) back c) near-on))
         bound)))))
@@ -441,7 +453,7 @@ module _ (S : Setting) (a : Part) where
           let p : i + sizePairs ps ≡ i′ = sym (seg-length g ∙ ap (λ n. i + n) (pairs-length (S .word) w i _ ps)) in
           comes s-none tt (here c) (pairs-way c v ps ps (rw p at g) (f .0) (f .1) (f .1) refl near)
 
-      while-comes : (e : Whole) (s : Stmt) → Seg (S .xs) i (code (S .word) w i (WHILE e s)) i′
+      while-comes : (e : Expr) (s : Stmt) → Seg (S .xs) i (code (S .word) w i (WHILE e s)) i′
           → Fine (S .word) a vars chans w (WHILE e s) → Comes vars chans hi (before (WHILE e s) k) i w
       while-comes e s g f = elim (loop-parts S e s g) [
         | tested m g₁ x g₂ d g₃ ↦
@@ -528,11 +540,11 @@ module _ (S : Setting) (a : Part) where
       enters STOP (at x nil) f c near v rest =
           comes s-none tt (here c) (λ μ r q. arrived (pt-stop x (clear c v r q f)) (cont-bound S a c))
       enters (assign x e) {i} {w} g f c near v rest =
-          let (g₁, g₂) = cut (wholeCode (S .word) w e) (i + wholeSize e) (omega (arith, expr-length (S .word) w (e .expr))) g in
+          let (g₁, g₂) = cut (wholeCode (S .word) w e) (i + wholeSize e) (omega (arith, whole-length (S .word) w e)) g in
           assign-comes x e g₁ g₂ f c near v
       enters (input d x) g f c near v rest = input-comes d x g f c near v
       enters (output d e) {i} {w} g f c near v rest =
-          let (g₁, g₂) = cut (wholeCode (S .word) w e) (i + wholeSize e) (omega (arith, expr-length (S .word) w (e .expr))) g in
+          let (g₁, g₂) = cut (wholeCode (S .word) w e) (i + wholeSize e) (omega (arith, whole-length (S .word) w e)) g in
           output-comes d e g₁ g₂ f c near v
       enters (VAR p n s) g f c near v rest = var-comes c near v p n s g f
       enters (CHAN p n s) g f c near v rest = chan-comes c near v p n s g f

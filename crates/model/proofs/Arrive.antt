@@ -7,13 +7,13 @@ use mathlib.Core.Path.{_≡_, _∙_}
 use mathlib.Core.Logic.{⊎-elim}
 use mathlib.Core.List.{List, [], _∷_, _++_, List·Memᴰ, List·Memᴰ·append-cases, List·Memᴰ·eq-of-singleton, List·Memᴰ·not-nil}
 use lib.ListN.{length, length-append}
-use Rattle.model.specs.Syntax.{Site, declared, Whole, Stmt, WHILE, Pairs, pair}
+use Rattle.model.specs.Syntax.{Site, declared, Expr, Stmt, WHILE, Pairs, pair}
 use Rattle.model.specs.Reader.{numbered, names}
 use Rattle.model.specs.Instruction.{cj, stl, Instruction, plain, distance}
 use Rattle.model.specs.Instruction as I
 use Rattle.model.specs.Scheme.{initialise, wholeSize, size, wholeCode, code, codePairs}
 use Rattle.model.proofs.Expr.{Seg, nil, at, cut}
-use Rattle.model.proofs.Sizes.{code-length, expr-length, initialise-length}
+use Rattle.model.proofs.Sizes.{code-length, whole-length, initialise-length}
 use Rattle.model.proofs.Points.{Setting, getElem-inside, At}
 
 -- the names of a VAR
@@ -44,20 +44,20 @@ module _ (S : Setting) where
       by (no e) = omega (arith, S .rises i k (omega arith) l)
 
   -- a condition, CJ past the J, a statement, and a J to t: in a WHILE, and for each pair of an IF
-  pub data Tested (w i t i′ : ℕ) (e : Whole) (s : Stmt) (zs : ℕ → List Instruction) : Type 0 where
+  pub data Tested (w i t i′ : ℕ) (e : Expr) (s : Stmt) (zs : ℕ → List Instruction) : Type 0 where
     tested : (m : ℕ) → Seg (S .xs) i (wholeCode (S .word) w e) (i + wholeSize e)
         → At S (i + wholeSize e) (distance cj (suc m) (i + wholeSize e))
         → Seg (S .xs) (suc (i + wholeSize e)) (code (S .word) w (suc (i + wholeSize e)) s) m → At S m (distance I.j t m)
         → Seg (S .xs) (suc m) (zs (suc m)) i′ → Tested w i t i′ e s zs
 
-  test-pick : {w i t i′ m : ℕ} {e : Whole} {s : Stmt} (zs : ℕ → List Instruction)
+  test-pick : {w i t i′ m : ℕ} {e : Expr} {s : Stmt} (zs : ℕ → List Instruction)
       → Seg (S .xs) i (wholeCode (S .word) w e) (i + wholeSize e)
       → Seg (S .xs) (i + wholeSize e) (distance cj (m + 1) (i + wholeSize e) ∷ code (S .word) w (i + wholeSize e + 1) s) m
       → Seg (S .xs) m (distance I.j t m ∷ zs (m + 1)) i′ → Tested w i t i′ e s zs
   test-pick {i} {m} {e} zs g (at p h) (at q r) =
       tested m g (rw (add-one m) at p) (rw (add-one (i + wholeSize e)) at h) q (rw (add-one m) at r)
 
-  test-parts : {w i t i′ : ℕ} (e : Whole) (s : Stmt) (zs : ℕ → List Instruction)
+  test-parts : {w i t i′ : ℕ} (e : Expr) (s : Stmt) (zs : ℕ → List Instruction)
       → Seg (S .xs) i
       (wholeCode (S .word) w e
       ++ distance cj (i + wholeSize e + 1 + size s + 1) (i + wholeSize e)
@@ -71,16 +71,16 @@ module _ (S : Setting) where
       let front = wholeCode (S .word) w e in
       let body = code (S .word) w (test + 1) s in
       let long : length (front ++ distance cj (back + 1) test ∷ body) ≡ wholeSize e + suc (size s) =
-      length-append front _ ∙ omega (arith, expr-length (S .word) w (e .expr), code-length (S .word) w (test + 1) s) in
+      length-append front _ ∙ omega (arith, whole-length (S .word) w e, code-length (S .word) w (test + 1) s) in
       let (g₁, g₂) = cut (front ++ distance cj (back + 1) test ∷ body) back (omega arith) g in
-      let (g₃, g₄) = cut front test (omega (arith, expr-length (S .word) w (e .expr))) g₁ in
+      let (g₃, g₄) = cut front test (omega (arith, whole-length (S .word) w e)) g₁ in
       test-pick {m = back} {e = e} {s = s} zs g₃ g₄ g₂
 
-  pub loop-parts : {w b i′ : ℕ} (e : Whole) (s : Stmt) → Seg (S .xs) b (code (S .word) w b (WHILE e s)) i′ → Tested w b b i′ e s (λ i. [])
+  pub loop-parts : {w b i′ : ℕ} (e : Expr) (s : Stmt) → Seg (S .xs) b (code (S .word) w b (WHILE e s)) i′ → Tested w b b i′ e s (λ i. [])
   unfolding code
   loop-parts e s g = test-parts e s (λ i. []) g
 
-  pub pair-parts : {w i over i′ : ℕ} (e : Whole) (s : Stmt) (ps : Pairs) → Seg (S .xs) i (codePairs (S .word) w i over (pair e s ps)) i′
+  pub pair-parts : {w i over i′ : ℕ} (e : Expr) (s : Stmt) (ps : Pairs) → Seg (S .xs) i (codePairs (S .word) w i over (pair e s ps)) i′
       → Tested w i over i′ e s (λ m. codePairs (S .word) w m over ps)
   unfolding codePairs
   pair-parts {w} {over} e s ps g = test-parts e s (λ m. codePairs (S .word) w m over ps) g

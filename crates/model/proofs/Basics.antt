@@ -9,18 +9,18 @@ use lib.ListN.{length}
 use lib.Dec.{eqb}
 use borrow.Author.Tests.{eqb-true, eqb-false}
 use Rattle.model.specs.Word.{low, less}
-use Rattle.model.specs.Syntax.{Site, Whole, Stmt, STOP, assign, IF, WHILE, Pairs}
+use Rattle.model.specs.Syntax.{Site, Expr, Stmt, STOP, assign, IF, WHILE, Pairs}
 use Rattle.model.specs.Instruction.{Instruction, plain, distance, operation}
 use Rattle.model.specs.Instruction as I
 use Rattle.model.specs.Code.{functionIn, operandIn}
 use Rattle.model.specs.Scheme.{code}
 use Rattle.model.specs.Machine.{World, withCpu, goto, resumeWord}
 use Rattle.model.specs.Execute.{pop}
-use Rattle.model.specs.Occam.{value, store, Frame, inWhile, Process, before, atStop, resume, begin, moved, go, firstTrue}
+use Rattle.model.specs.Occam.{eval, store, Frame, inWhile, Process, before, atStop, resume, begin, moved, go, firstTrue}
 use Rattle.model.specs.Occam.{framesOf, State, begins}
 use Rattle.model.specs.Demand.{liveIn}
 use Rattle.model.proofs.Cases.{never, by-bool}
-use Rattle.model.proofs.Ways.{Mem}
+use Rattle.model.proofs.Ways.{upd-other, upd, Mem}
 use Rattle.model.proofs.Expr.{Seg, seg-length}
 use Rattle.model.proofs.Points.{whole}
 use Rattle.model.proofs.Arrive.{inside, rises-le}
@@ -30,11 +30,11 @@ use Rattle.model.proofs.Conts.{Placed, Cont, cont-inside, cont-placed}
 use Rattle.model.proofs.Marks.{Own}
 use Rattle.model.proofs.Arrivals.{Comes, enters, arrives}
 use Rattle.model.proofs.Trees.{Info, Sits, Tree, bytesLeft}
-use Rattle.model.proofs.Leaves.{upd, Unmarked, h-stop}
+use Rattle.model.proofs.Leaves.{Unmarked, h-stop}
 use Rattle.model.proofs.Effects.{cpuOf, stored, exec-stl, exec-cj-jumps, exec-cj-goes-on}
 use Rattle.model.proofs.Acts.{exec-stopp-general}
 use Rattle.model.proofs.Kernel.{Loaded, S, root, size, LeafAt, Rest, Real}
-use Rattle.model.proofs.Writes.{upd-other, changed, after-leaf, after-lined, node, part-small, write-own, write-var, left-out}
+use Rattle.model.proofs.Writes.{changed, after-leaf, after-lined, node, part-small, write-own, write-var, left-out}
 use Rattle.model.proofs.Puts.{rest-then}
 use Rattle.model.proofs.Traces.{begins-as}
 use Rattle.model.proofs.Grounds.{var-in, small-size, sound-at}
@@ -51,15 +51,15 @@ before-silent s k c v f e = never (cc)
 module _ (L : Loaded) where
   -- STL: the assignment
   module _ {s : World} {st : State} {μ : Mem} {t : Tree (S L) (root L) (st .process)} {path : List ℕ} {y : Site}
-      {e : Whole} {k : List Frame}
+      {e : Expr} {k : List Frame}
       {b : Part} {i : Info} {ws : List ℕ} {at hi h : ℕ}
       (A : Acting L s st μ t path (before (assign y e) k) b i (Only path) ws at hi) (o : ℕ)
       (named : low (cpuOf s .workspace + o) ≡ S L .word y) (f : Fine (S L .word) b (i .vars) (i .chans) (cpuOf s .workspace) (assign y e))
-      (v : cpuOf s .a ≡ value (st .store) e) (small : value (st .store) e < 2 ^ 32)
+      (v : cpuOf s .a ≡ eval (st .store) e) (small : eval (st .store) e < 2 ^ 32)
       (c : Cont (S L) b h (i .vars) (i .chans) k (suc at) (cpuOf s .workspace)) (near : h ≤ whole (S L) + L .off at)
       (clean : Unmarked (S L) b i st μ) where
     abbrev z : ℕ
-    z = value (st .store) e
+    z = eval (st .store) e
 
     abbrev st₀ : State
     st₀ = changed (store y z (st .store)) (st .offers) st
@@ -170,8 +170,8 @@ module _ (L : Loaded) where
         (enters (S L) b (st .store) d g f c near-on sound (arrives (S L) b (st .store) c near-end sound)) (cont-placed (S L) b c) near-on
 
     -- a WHILE's test
-    pub did-while : {e : Whole} {d : Stmt} {g m h h′ : ℕ} (A : Acting L s st μ t path (before (WHILE e d) k) b i (Only path) ws at hi)
-        → Unmarked (S L) b i st μ → suc at ≤ g → cpuOf s .a ≡ value (st .store) e
+    pub did-while : {e : Expr} {d : Stmt} {g m h h′ : ℕ} (A : Acting L s st μ t path (before (WHILE e d) k) b i (Only path) ws at hi)
+        → Unmarked (S L) b i st μ → suc at ≤ g → cpuOf s .a ≡ eval (st .store) e
         → Seg (S L .xs) (suc at) (code (S L .word) (cpuOf s .workspace) (suc at) d) m
         → Fine (S L .word) b (i .vars) (i .chans) (cpuOf s .workspace) d
         → Cont (S L) b h′ (i .vars) (i .chans) (inWhile e d ∷ k) m (cpuOf s .workspace) → h′ ≤ whole (S L) + L .off (suc at)
@@ -184,7 +184,7 @@ module _ (L : Loaded) where
         let near-on : h ≤ whole (S L) + L .off g = omega (arith, rises-le (S L) at g (omega arith) inner) in
         let near-end : h′ ≤ whole (S L) + L .off m =
         omega (arith, rises-le (S L) (suc at) m (omega (arith, seg-length seg)) (cont-inside (S L) b c′)) in
-        by-bool (eqb (value (st .store) e) 0)
+        by-bool (eqb (eval (st .store) e) 0)
         (λ z. goes-to A clean inner (v ∙ eqb-true _ _ z) (rw z) (leaf-resume k) (live-resume k (i .vars) (live-here A clean))
         (λ c v f e. silent-resume k e) (arrives (S L) b (st .store) c near-on sound) (cont-placed (S L) b c) near-on)
         (λ z. goes-on A clean (λ q. eqb-false _ _ z (sym v ∙ q)) (rw z) (leaf-begin d (inWhile e d ∷ k))

@@ -15,7 +15,7 @@ use Rattle.model.specs.Instruction as I
 use Rattle.model.specs.Code.{functionIn, operandIn}
 use Rattle.model.specs.Machine.{World, resumeWord}
 use Rattle.model.specs.Occam.{Process, begin, State}
-use Rattle.model.proofs.Ways.{regsOf, Mem}
+use Rattle.model.proofs.Ways.{upd-same, upd-other, upd, regsOf, Mem}
 use Rattle.model.proofs.Expr.{Seg, seg-length}
 use Rattle.model.proofs.Arrive.{rises-le}
 use Rattle.model.proofs.Paths.{apart-under, apart-differ}
@@ -26,13 +26,13 @@ use Rattle.model.proofs.Marks.{Own, StartPoint}
 use Rattle.model.proofs.Arrivals.{Comes}
 use Rattle.model.proofs.Onwards.{start-path}
 use Rattle.model.proofs.Trees.{Info, newInfo, Tree, bytesLeft}
-use Rattle.model.proofs.Leaves.{upd, Unmarked, Held, h-queued}
+use Rattle.model.proofs.Leaves.{Unmarked, Held, h-queued}
 use Rattle.model.proofs.Stays.{unmarked-stays}
 use Rattle.model.proofs.Effects.{cpuOf, stored}
 use Rattle.model.proofs.Acts.{exec-startp}
 use Rattle.model.proofs.Queues.{joined}
 use Rattle.model.proofs.Kernel.{Loaded, S, root, LeafAt, Rest, Lined, Real}
-use Rattle.model.proofs.Writes.{upd-same, upd-other, part-small, sits-at}
+use Rattle.model.proofs.Writes.{part-small, sits-at}
 use Rattle.model.proofs.Grounds.{small-size, sound-at}
 use Rattle.model.proofs.Traces.{t-none}
 use Rattle.model.proofs.Running.{Only, Births, Later, l-here, l-next, unborn, Starting, fresh, Birth, starts, Did}

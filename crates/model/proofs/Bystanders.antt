@@ -4,7 +4,8 @@ use native.Mathlib.Omega.{arith}
 use native.Mathlib.Decide.{ℕ-discrete}
 use mathlib.Core.Path.{_≡_, refl, sym, ap, _∙_, subst}
 use mathlib.Core.Logic.{_≢_, _⊎_, inl, inr, ⊎-elim}
-use mathlib.Core.Bool.{true, false}
+use mathlib.Core.Bool.{true, false, cond}
+use lib.Dec.{eqb}
 use mathlib.Core.List.{List, [], _∷_, _++_, List·Memᴰ, List·Memᴰ·not-nil}
 use mathlib.Core.Option.{some}
 use Rattle.model.specs.Syntax.{Site, Stmt, Stmts, noStmt, stmt, Guards}
@@ -13,7 +14,8 @@ use Rattle.model.specs.Scheme.{size, howMany}
 use Rattle.model.specs.Machine.{World, stateWord}
 use Rattle.model.specs.Occam.{Store, Frame, Process, atOutput, begin, look, State}
 use Rattle.model.proofs.Cases.{never}
-use Rattle.model.proofs.Ways.{Regs, regsOf, Mem, Way, arrived, through, quiet, loads, jumps, falls}
+use Rattle.model.proofs.Ways.{Regs, regsOf, Mem, upd, upd-other, Way, arrived, through, quiet, loads, stores, reloads, jumps, falls}
+use Rattle.model.proofs.Ways.{way-stable}
 use Rattle.model.proofs.Points.{Setting}
 use Rattle.model.proofs.Paths.{same-path, silent-begin}
 use Rattle.model.proofs.Parts.{Part, joins, partOf, FineGuards}
@@ -21,13 +23,13 @@ use Rattle.model.proofs.Conts.{cont-low}
 use Rattle.model.proofs.Marks.{Own, AltCode, Enabling, Enables, e-input, e-skip, Disables, d-input, d-skip, AltPoint, pt-enable}
 use Rattle.model.proofs.Marks.{pt-wait, pt-disable, pt-choose}
 use Rattle.model.proofs.Arrivals.{Goes, comes}
-use Rattle.model.proofs.Onwards.{AltGoes, Starts, rest-fine, guarded-fine}
+use Rattle.model.proofs.Onwards.{AltGoes, alt-goes, Starts, rest-fine, guarded-fine}
 use Rattle.model.proofs.Trees.{some-same, Info, newInfo, Sits, Tree, bytesLeft}
 use Rattle.model.proofs.Stays.{value-same, Calm, goes-stays, comes-stays, unmarked-stays, noticed-stays, marked-stays, ready-stays}
 use Rattle.model.proofs.Stays.{disabling-stays}
 use Rattle.model.proofs.Effects.{cpuOf}
 use Rattle.model.proofs.Queues.{apart-none}
-use Rattle.model.proofs.Reach.{Moving, begins, alters, ends, way-kind, alt-in, alt-moving}
+use Rattle.model.proofs.Reach.{Moving, begins, alters, ends, alt-kind, alt-moving}
 use Rattle.model.proofs.Kernel.{Loaded, S, root, LeafAt, Rest, Lined, Real}
 use Rattle.model.proofs.Writes.{part-small, sits-at}
 use Rattle.model.proofs.Grounds.{small-size}
@@ -35,28 +37,19 @@ use Rattle.model.proofs.Running.{Only, Nobody, Births, Later, l-here, l
 use Rattle.model.proofs.Running.{now-alt, NowStarts, Inv, runs, starts, idle}
 use Rattle.model.proofs.Moving.{same-leaf, settled-silent, skips-silent}
 
--- a path without jumps stays where its significant instruction does
-pub way-still : (S : Setting) {P Q : ℕ → Mem → ℕ → Regs → Type 0} {E : Type 0} {σ τ : Store} {R : Site → Type 0} {hi : ℕ} {μ ν : Mem}
-    {i : ℕ}
-    {r : Regs} → ((x : Site) → R x → σ x ≡ τ x) → ((h i : ℕ) (r : Regs) → P h μ i r → Q h ν i r)
-    → Way (S .xs) (S .off) (S .word) P E σ R (λ w. ⊥) hi μ i r → Way (S .xs) (S .off) (S .word) Q E τ R (λ w. ⊥) hi ν i r
-way-still S h l (arrived p b) = arrived (l _ _ _ p) b
-way-still S h l (through e b f) = through e b f
-way-still S h l (quiet g at q v) = quiet g at q (way-still S h l v)
-way-still S {Q = Q} {ν = ν} h l (loads x at a m v) = loads x at a m (rw (h x m) at (way-still S {Q = Q} {ν = ν} h l v))
-way-still S h l (jumps at i c e v) = absurd c
-way-still S h l (falls at i a e v) = falls at i a e (way-still S h l v)
-
--- what holds at its significant instruction and at the end holds on it
-pub way-holds : (S : Setting) {P : ℕ → Mem → ℕ → Regs → Type 0} {E K : Type 0} {σ : Store} {R : Site → Type 0} {hi : ℕ} {μ : Mem}
-    {i : ℕ} {r : Regs}
-    → ((h i : ℕ) (r : Regs) → P h μ i r → K) → (E → K) → Way (S .xs) (S .off) (S .word) P E σ R (λ w. ⊥) hi μ i r → K
-way-holds S l f (arrived p b) = l _ _ _ p
-way-holds S l f (through e b g) = f g
-way-holds S l f (quiet g at q v) = way-holds S l f v
-way-holds S l f (loads x at a m v) = way-holds S l f v
-way-holds S l f (jumps at i c e v) = absurd c
-way-holds S l f (falls at i a e v) = way-holds S l f v
+-- what holds of the memory at the significant instruction of a path without jumps, and is not told by spare words, holds on it
+pub way-holds : (S : Setting) {P : ℕ → Mem → ℕ → Regs → Type 0} {E : Type 0} {σ : Store} {R : Site → Type 0} {Spare : ℕ → Type 0}
+    {hi : ℕ} {μ : Mem} {i : ℕ} {r : Regs} (K : Mem → Type 0) → ((ν : Mem) (v z : ℕ) → Spare v → K (upd ν v z) → K ν)
+    → ((h : ℕ) (ν : Mem) (i : ℕ) (r : Regs) → P h ν i r → K ν) → ((ν : Mem) → E → K ν)
+    → Way (S .xs) (S .off) (S .word) P E σ R Spare (λ w. ⊥) hi μ i r → K μ
+way-holds S K back l f (arrived p b) = l _ _ _ _ p
+way-holds S {μ = μ} K back l f (through e b g) = f μ g
+way-holds S K back l f (quiet g at q v) = way-holds S K back l f v
+way-holds S K back l f (loads x at a m v) = way-holds S K back l f v
+way-holds S {μ = μ} {r = r} K back l f (stores v at a m w) = back μ v (r .a) m (way-holds S K back l f w)
+way-holds S K back l f (reloads v at a m w) = way-holds S K back l f w
+way-holds S K back l f (jumps at i c e v) = absurd c
+way-holds S K back l f (falls at i a e v) = way-holds S K back l f v
 
 -- the guards that an ALT is at
 module _ (S : Setting) (b : Part) (vars chans : List Site) {st st′ : State}
@@ -112,9 +105,31 @@ module _ (S : Setting) (b : Part) (i : Info) (high : b .top < 2 ^ 32) (sits : Si
   alt-point-stays up j r (pt-choose c n) =
       pt-choose c (disabling-stays S b i high sits calm (r .w + 1) (c .fine .1) tt (alt-base (r .w) c) (alt-state (r .w) c) n)
 
-  pub alt-stays : {q : Process} {hi j : ℕ} {r : Regs} → AltGoes S b st (i .vars) (i .chans) q hi μ j r
-      → AltGoes S b st′ (i .vars) (i .chans) q hi ν j r
-  alt-stays way = way-still S (λ x m. calm .reads x (m .0) (m .1)) alt-point-stays way
+-- where all words but a part's link word stay, they stay with one more value in a word that is no channel's
+calm-upd : {S : Setting} {b : Part} {i : Info} {skip : ℕ} {st st′ : State} {μ ν : Mem} (v z : ℕ)
+    → ((c : Site) → List·Memᴰ c (i .chans) → v < S .word c) → Calm S b i skip st st′ μ ν → Calm S b i skip st st′ (upd μ v z) (upd ν v z)
+calm-upd {S} {b} {i} {μ = μ} {ν = ν} v z off k =
+    record {
+      own = λ u l h d. ap (λ n. cond (eqb u v) z n) (k .own u l h d);
+      reads = k .reads;
+      chans = λ c m.
+          ⊎-elim (λ e. inl (there ν c m ∙ e ∙ sym (there μ c m)))
+          (λ e. inr ((λ o. e .0 (subst (Own b) (there μ c m) o)), (λ o. e .1 (subst (Own b) (there ν c m) o)))) (k .chans c m);
+      sends = k .sends;
+      none-sends = λ c m n o s. k .none-sends c m n (subst (Own b) (there μ c m) o) s;
+    }
+  where
+    there : (κ : Mem) (c : Site) → List·Memᴰ c (i .chans) → upd κ v z (S .word c) ≡ κ (S .word c)
+    there κ c m = upd-other κ v z (S .word c) (λ e. absurd (omega (arith, off c m, e)))
+
+pub alt-stays : (S : Setting) (b : Part) (i : Info) → b .top < 2 ^ 32 → Sits S b i → {st st′ : State} {μ ν : Mem}
+    → Calm S b i (b .top) st st′ μ ν → {q : Process} {hi j : ℕ} {r : Regs} → AltGoes S b st (i .vars) (i .chans) q hi μ j r
+    → AltGoes S b st′ (i .vars) (i .chans) q hi ν j r
+alt-stays S b i high sits {st} {st′} calm (alt-goes w way) =
+    alt-goes w
+    (way-stable (S .xs) (S .off) (S .word) (Calm S b i (b .top) st st′) (λ μ ν v z s k. calm-upd v z (s .0 .no-chan) k)
+    (λ μ ν v s k. all-same S b i high sits k v (s .0 .above) (s .0 .below)) (λ x m. calm .reads x (m .0) (m .1)) (λ w c. absurd c)
+    (λ h μ ν j r k p. (alt-point-stays S b i high sits k h j r (p .0), p .1)) calm way)
 
 -- the k-th of some statements
 later-few : {ss : Stmts} {d b k d′ b′ : ℕ} {r : Stmt} → Later ss d b k r d′ b′ → k < howMany ss
@@ -208,7 +223,8 @@ module _ (L : Loaded) where
         here = here-same same (now .here);
         way = subst (λ r. Starts (S L) (st′ .store) (B .s) (B .ss) (B .d) (B .b) (B .first) (B .w) (now .hi) ν (now .at) r)
             (sym (same .regs))
-            (way-still (S L) (λ x m. absurd m) (λ h j r p. p) (now .way));
+            (way-stable (S L .xs) (S L .off) (S L .word) (λ μ ν. Unit {0}) (λ μ ν v z s. absurd s) (λ μ ν v s. absurd s) (λ x m. absurd m)
+            (λ w c. absurd c) (λ h μ ν j r k p. p) tt (now .way));
         births = λ k r d c l. birth k r d c l (now .births k r d c l);
         own = comes-stays (S L) b (i .vars) (i .chans) (calm .reads) (now .own);
         inner = now .inner;
@@ -267,7 +283,7 @@ module _ (L : Loaded) where
       → q ≡ atOutput c v k → ⊥
   now-silent (now-goes h way settled clean soon) e = settled-silent settled e
   now-silent {b = b} {q = q} (now-alt h way soon) e =
-      moving-silent (way-kind (S L) (alt-in (S L) b) (Moving q) (alt-moving (S L) b) (λ z. absurd z) way) e
+      moving-silent (alt-kind (S L) b (Moving q) (alt-moving (S L) b) way) e
 
   -- an ALT's marks are at its guards
   point-marks : {st : State} {μ : Mem} {b : Part} (i : Info) {q : Process} (c : Site) → List·Memᴰ c (i .chans) → Own b (μ (S L .word c))
@@ -287,7 +303,11 @@ module _ (L : Loaded) where
       → List·Memᴰ c (i .chans)
       → Own b (μ (S L .word c)) → List·Memᴰ c (b .inputs)
   now-marks (now-goes h way settled clean soon) c m o = absurd (clean c m o)
-  now-marks {i = i} (now-alt h way soon) c m o = way-holds (S L) (point-marks i c m o) (λ z. absurd z) way
+  now-marks {b = b} {i} (now-alt h (alt-goes w way) soon) c m o =
+      way-holds (S L) (λ ν. Own b (ν (S L .word c)) → List·Memᴰ c (b .inputs))
+      (λ ν v z s k o. k
+      (subst (Own b) (sym (upd-other ν v z (S L .word c) (λ e. absurd (omega (arith, s .0 .no-chan c m, e))))) o))
+      (λ h ν j r p o. point-marks i c m o h j r (p .0)) (λ ν z. absurd z) way o
 
   module _ {s : World} {st : State} {μ : Mem} {t : Tree (S L) (root L) (st .process)} {path : List ℕ} {q : Process} {b : Part} {i : Info}
       {ws : List ℕ} (real : Real L s st μ ws) (run : cpuOf s .running ≡ true) (leaf : LeafAt L st t path q b i) where

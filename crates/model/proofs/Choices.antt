@@ -9,17 +9,17 @@ use mathlib.Core.List.{List, List·Memᴰ}
 use mathlib.Core.Option.{none}
 use lib.ListN.{length, set}
 use Rattle.model.specs.Word.{low, less, notProcess}
-use Rattle.model.specs.Syntax.{Site, inputOf, Whole, Stmt, ALT, Guards, noGuard, inputGuard, skipGuard}
+use Rattle.model.specs.Syntax.{Site, inputOf, Expr, Stmt, ALT, Guards, noGuard, inputGuard, skipGuard}
 use Rattle.model.specs.Instruction.{ldc, Instruction, distance, operation}
 use Rattle.model.specs.Instruction as I
 use Rattle.model.specs.Code.{functionIn, operandIn}
 use Rattle.model.specs.Scheme.{size, sizeEnable, codeDisable}
 use Rattle.model.specs.Machine.{World, withCpu, withMemory, stack, goto, isHeld, stateWord}
 use Rattle.model.specs.Execute.{ready, noneSelected}
-use Rattle.model.specs.Occam.{Store, value, isTrue, Frame, Process, before, atAlt, framesOf, begin, State, Sender, chooses}
+use Rattle.model.specs.Occam.{Store, eval, isTrue, Frame, Process, before, atAlt, framesOf, begin, State, Sender, chooses}
 use Rattle.model.specs.Demand.{liveIn}
 use Rattle.model.proofs.Cases.{never}
-use Rattle.model.proofs.Ways.{regsOf, Mem}
+use Rattle.model.proofs.Ways.{upd-same, upd-other, upd, regsOf, Mem}
 use Rattle.model.proofs.Expr.{Seg}
 use Rattle.model.proofs.Points.{Setting, whole, At}
 use Rattle.model.proofs.Arrive.{rises-le}
@@ -30,15 +30,15 @@ use Rattle.model.proofs.Marks.{p-past-skip, Rest as RestOf, Guarded, g-
 use Rattle.model.proofs.Marks.{Enables, e-input, e-skip, Disabling, Disables, d-input, d-skip, AltPoint, pt-enable, pt-wait}
 use Rattle.model.proofs.Marks.{pt-disable, pt-choose}
 use Rattle.model.proofs.Arrivals.{Comes, comes}
-use Rattle.model.proofs.Onwards.{picks-choice, rest-picks, rest-past-input, rest-past-skip, disable-way, branch-comes}
+use Rattle.model.proofs.Onwards.{alt-goes, picks-choice, rest-picks, rest-past-input, rest-past-skip, disable-way, branch-comes}
 use Rattle.model.proofs.Trees.{some-same, Info, Tree, bytesLeft}
-use Rattle.model.proofs.Leaves.{upd, Unmarked}
+use Rattle.model.proofs.Leaves.{Unmarked}
 use Rattle.model.proofs.Effects.{cpuOf}
 use Rattle.model.proofs.Acts.{disabled, exec-disc-off, exec-disc-held-first, exec-disc-held-later, exec-disc-empty}
 use Rattle.model.proofs.Acts.{exec-disc-marked, exec-disc-sender-first, exec-disc-sender-later, unskipped, exec-diss-off}
 use Rattle.model.proofs.Acts.{exec-diss-first, exec-diss-later, exec-altend}
 use Rattle.model.proofs.Kernel.{Loaded, S, root}
-use Rattle.model.proofs.Writes.{upd-same, upd-other, node}
+use Rattle.model.proofs.Writes.{node}
 use Rattle.model.proofs.Grounds.{sound-at}
 use Rattle.model.proofs.Running.{Only, Did, Executes, executes, Acting}
 use Rattle.model.proofs.Moving.{relaid}
@@ -54,20 +54,20 @@ use Rattle.model.proofs.Alts.{Shows, shown, own-write, chan-write, own-
 use Rattle.model.proofs.Alts.{is-sent, channel-is, unsent, does-enbc, does-enbs, does-altwt}
 
 -- a guarded channel, or a ready guard, that is not the first guard's is one of the rest
-past-guard : {σ : Store} {e : Whole} {d y z : Site} {g : Stmt} {hs : Guards} → Guarded σ d (inputGuard e y z g hs)
+past-guard : {σ : Store} {e : Expr} {d y z : Site} {g : Stmt} {hs : Guards} → Guarded σ d (inputGuard e y z g hs)
     → (isTrue σ e ≡ true → d ≡ y → ⊥) → Guarded σ d hs
 past-guard (g-here h) f = absurd (f h refl)
 past-guard (g-past-input h) f = h
 
-past-skip-guard : {σ : Store} {e : Whole} {d : Site} {g : Stmt} {hs : Guards} → Guarded σ d (skipGuard e g hs) → Guarded σ d hs
+past-skip-guard : {σ : Store} {e : Expr} {d : Site} {g : Stmt} {hs : Guards} → Guarded σ d (skipGuard e g hs) → Guarded σ d hs
 past-skip-guard (g-past-skip h) = h
 
-past-ready : {st : State} {e : Whole} {y z : Site} {g : Stmt} {hs : Guards} → Ready st (inputGuard e y z g hs)
+past-ready : {st : State} {e : Expr} {y z : Site} {g : Stmt} {hs : Guards} → Ready st (inputGuard e y z g hs)
     → (isTrue (st .store) e ≡ true → Sender st y → ⊥) → Ready st hs
 past-ready (r-input h sd) f = absurd (f h sd)
 past-ready (r-past-input h) f = h
 
-past-skip-ready : {st : State} {e : Whole} {g : Stmt} {hs : Guards} → Ready st (skipGuard e g hs) → (isTrue (st .store) e ≡ true → ⊥)
+past-skip-ready : {st : State} {e : Expr} {g : Stmt} {hs : Guards} → Ready st (skipGuard e g hs) → (isTrue (st .store) e ≡ true → ⊥)
     → Ready st hs
 past-skip-ready (r-skip h) f = absurd (f h)
 past-skip-ready (r-past-skip h) f = h
@@ -135,8 +135,9 @@ module _ (L : Loaded) {s : World} {st : State} {μ : Mem} {t : Tree (S L) (root 
       → Executes L x s (withCpu (stack f g h (cpuOf s)) (withMemory l s)) → Shows L A c l ν → Marks hs ν → IsReady ν → Chosen hs ν → Goal x
   disables-on hs near past code f g h ν ran m marks state chosen =
       onward L A c f g h ran m
+      (alt-goes (space s)
       (disable-way (S L) b st (space s) c (sound-at L (m .rest) (A .leaf)) hs near (fine-rest L A c past) past
-      (record { marks = marks; state = state; chosen = chosen }) code refl)
+      (record { marks = marks; state = state; chosen = chosen }) code refl))
 
   -- a branch is chosen
   chooses-it : (m : ℕ) → Shows L A c (set (s .memory) (space s) (far m)) (upd μ (space s) (far m))
@@ -149,9 +150,9 @@ module _ (L : Loaded) {s : World} {st : State} {μ : Mem} {t : Tree (S L) (root 
   ready-choosing m h = upd-other μ (space s) (far m) (stateWord (space s)) (λ e. base-state L A c (sym e)) ∙ h
 
   -- DISC of a guard
-  module _ (e : Whole) (y z : Site) (g : Stmt) (hs : Guards) {m : ℕ} (near : hi₀ ≤ hi)
+  module _ (e : Expr) (y z : Site) (g : Stmt) (hs : Guards) {m : ℕ} (near : hi₀ ≤ hi)
       (past : RestOf gs (c .choice + 1) (inputGuard e y z g hs) m) (n : Disabled (inputGuard e y z g hs) μ)
-      (branch : cpuOf s .a ≡ far m) (val : cpuOf s .b ≡ value (st .store) e) (chan : cpuOf s .c ≡ S L .word y)
+      (branch : cpuOf s .a ≡ far m) (val : cpuOf s .b ≡ eval (st .store) e) (chan : cpuOf s .c ≡ S L .word y)
       (code : Seg (S L .xs) (suc at) (codeDisable (S L .word) (space s) (c .choice) (m + 1 + 4 + size g + 1) hs) (c .choice)) where
     mine : List·Memᴰ y (i .chans)
     mine = fine-rest L A c past .2
@@ -308,8 +309,8 @@ module _ (L : Loaded) {s : World} {st : State} {μ : Mem} {t : Tree (S L) (root 
               (ℕ-discrete (μ (space s)) noneSelected)
 
   -- DISS of a guard
-  module _ (e : Whole) (g : Stmt) (hs : Guards) {m : ℕ} (near : hi₀ ≤ hi) (past : RestOf gs (c .choice + 1) (skipGuard e g hs) m)
-      (n : Disabled (skipGuard e g hs) μ) (branch : cpuOf s .a ≡ far m) (val : cpuOf s .b ≡ value (st .store) e)
+  module _ (e : Expr) (g : Stmt) (hs : Guards) {m : ℕ} (near : hi₀ ≤ hi) (past : RestOf gs (c .choice + 1) (skipGuard e g hs) m)
+      (n : Disabled (skipGuard e g hs) μ) (branch : cpuOf s .a ≡ far m) (val : cpuOf s .b ≡ eval (st .store) e)
       (code : Seg (S L .xs) (suc at) (codeDisable (S L .word) (space s) (c .choice) (m + 1 + size g + 1) hs) (c .choice)) where
     -- the marks are those of the rest
     skip-marks : (ν : Mem) → Kept ν → Marks hs ν

@@ -5,7 +5,7 @@ use mathlib.Core.Path.{_≡_, sym, ap, _∙_}
 use mathlib.Core.Logic.{_⊎_, inl, inr, ⊎-elim}
 use mathlib.Core.List.{List, [], _∷_, _++_, List·Memᴰ, Memᴰ·append-right, List·Memᴰ·append-cases}
 use lib.ListN.{length}
-use Rattle.model.specs.Syntax.{Site, declared, Whole, Stmt, WHILE, Stmts}
+use Rattle.model.specs.Syntax.{Site, declared, Expr, Stmt, WHILE, Stmts}
 use Rattle.model.specs.Reader.{names}
 use Rattle.model.specs.Instruction.{ldlp, ajw, endp, plain, distance, operation}
 use Rattle.model.specs.Instruction as I
@@ -184,7 +184,7 @@ module _ (S : Setting) where
           → Cont hi vars chans k (suc i) (w + n) → Cont hi vars (names p n ++ chans) k i w
       c-up : {hi i w n : ℕ} {vars chans : List Site} {k : List Frame} → At S i (plain ajw n) → a .bottom + 2 ≤ w
           → Cont hi vars chans k (suc i) (w + n) → Cont hi vars chans k i w
-      c-while : {hi hi′ i b w : ℕ} {vars chans : List Site} {e : Whole} {s : Stmt} {k : List Frame}
+      c-while : {hi hi′ i b w : ℕ} {vars chans : List Site} {e : Expr} {s : Stmt} {k : List Frame}
           → Seg (S .xs) b (code (S .word) w b (WHILE e s)) (suc i) → Fine (S .word) a vars chans w (WHILE e s)
           → hi′ ≤ whole S + S .off b → S .off (suc i) + S .off (suc (b + wholeSize e)) ≤ hi + S .off b
           → Cont hi′ vars chans k (suc i) w → Cont hi vars chans (inWhile e s ∷ k) i w

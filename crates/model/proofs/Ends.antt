@@ -15,7 +15,7 @@ use Rattle.model.specs.Code.{functionIn, operandIn}
 use Rattle.model.specs.Machine.{World, withCpu, work, goto}
 use Rattle.model.specs.Occam.{Frame, finished, inPar, Branches, branchAt, endBranch, resume, look, put, State, Step, ends}
 use Rattle.model.proofs.Cases.{never}
-use Rattle.model.proofs.Ways.{Mem}
+use Rattle.model.proofs.Ways.{upd, Mem}
 use Rattle.model.proofs.Expr.{seg-length}
 use Rattle.model.proofs.Points.{Setting, whole}
 use Rattle.model.proofs.Arrive.{rises-le}
@@ -27,7 +27,7 @@ use Rattle.model.proofs.Arrivals.{arrives}
 use Rattle.model.proofs.Trees.{distanceOf, branch-part, parted, Info, Sits, Tree, Forest, f-none, f-live, f-over, labelAt, partAt}
 use Rattle.model.proofs.Trees.{bytesLeft}
 use Rattle.model.proofs.Zones.{zone-under}
-use Rattle.model.proofs.Leaves.{upd, Unmarked}
+use Rattle.model.proofs.Leaves.{Unmarked}
 use Rattle.model.proofs.Effects.{cpuOf, stored}
 use Rattle.model.proofs.Acts.{exec-endp-last, exec-endp-more}
 use Rattle.model.proofs.Kernel.{Loaded, S, root, size as memory, Real}

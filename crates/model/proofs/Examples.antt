@@ -21,12 +21,14 @@ use Rattle.model.specs.Examples as Examples
 
 pub examples : Examples.Examples
 unfolding Word.signed Number.groups Number.number Reader.readNumber Reader.oneOf Reader.readCount Reader.readName Reader.numbered
-    Reader.tooDeep Reader.exprOf Reader.readExpr Reader.readWhole Reader.readMany Reader.stmtOf Reader.readStmt
+    Reader.tooDeep Reader.exprOf Reader.readExpr Reader.readMany Reader.stmtOf Reader.readStmt
     Reader.readProgram Reader.readTable Usage.usage Usage.same Usage.isIn Usage.share Usage.clash Usage.clashesLater Usage.anyClash
-    Usage.firstClash Counts.registers Counts.firstDeep Counts.processes Counts.need Accept.checks Accept.accept Instruction.functionCode
+    Usage.firstClash Counts.sidesNeed Counts.registers Counts.orderOf Counts.sidesHold Counts.temporaries Counts.guardWords
+    Counts.processes Counts.need Accept.checks Accept.accept Instruction.functionCode
     Instruction.operationCode Instruction.coded Instruction.functionOf Instruction.operationOf Prefix.shifted Prefix.firstPrefix
     Prefix.prefixes Prefix.withPrefixes Prefix.enough Prefix.fewestFrom Prefix.fewest Prefix.decode Layout.layout Layout.workspaceOf
-    Layout.wordOf Scheme.operatorCode Scheme.initialise Scheme.exprSize Scheme.size Scheme.exprCode Scheme.code Scheme.scheme
+    Layout.wordOf Scheme.operatorCode Scheme.initialise Scheme.sidesSize Scheme.exprSize Scheme.wrapSize Scheme.wholeSize Scheme.sidesCode
+    Scheme.wrapped Scheme.size Scheme.exprCode Scheme.code Scheme.scheme
     Code.prefixesOf Code.bytesIn Code.placeOf Code.functionIn Code.operandIn Code.encode Code.codeOf Code.fitting Code.compile
     Machine.peek Machine.poke Machine.testPlace Machine.resume Machine.release Machine.join Execute.loadLocal Execute.storeLocal
     Execute.stopProcess Execute.waitAt Execute.receive Execute.received Execute.outputWord Execute.operate Execute.execute Run.fetch
@@ -42,7 +44,7 @@ examples =
       j-5-below = (refl, refl);
       plus = refl;
       bits = refl;
-      words = λ p c d x e. refl;
+      words = λ p n c d x. refl;
       no-code = refl;
       stop = refl;
       loop = refl;
@@ -70,5 +72,10 @@ examples =
       not-2-run = refl;
       not-0 = λ σ. refl;
       not-0-run = refl;
+      stored = refl;
+      words-assign = λ x. refl;
+      words-output = λ c. refl;
+      words-guard = refl;
+      words-plain-guard = refl;
       scopes = refl;
     }

@@ -142,7 +142,7 @@ realised-faithful table p accepted small code short off realises slice memory s 
           code-small = short;
           words-small = small;
           few-inputs = read-well table p (accept-reads table p accepted) .0 .0;
-          few = accept-passed table p accepted .2;
+          few = accept-passed table p accepted .1;
           one-way = accepted-one-way table p accepted;
           no-return = accepted-one-way-in table p accepted;
         }

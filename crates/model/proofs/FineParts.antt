@@ -1,5 +1,5 @@
 -- Every accepted program is fine: its body is a part of its own, and the branches of its PARs are parts that are apart.
-use Prim.Native.Nat.{ℕ, suc, _+_, _-_, _≤_}
+use Prim.Native.Nat.{ℕ, zero, suc, _+_, _-_, _≤_}
 use native.Mathlib.Omega.{arith}
 use mathlib.Core.Path.{_≡_, refl, ap, _∙_}
 use mathlib.Core.Logic.{inr, ⊎-elim}
@@ -7,26 +7,25 @@ use mathlib.Core.Bool.{false}
 use mathlib.Core.List.{List, [], _++_, List·Memᴰ, List·Memᴰ·append-cases, Memᴰ·append-left, Memᴰ·append-right, List·Memᴰ·not-nil}
 use mathlib.Core.List.{List·Memᴰ·head, List·Memᴰ·tail, List·Memᴰ·eq-of-singleton, List·Memᴰ·cases-cons}
 use mathlib.Core.Option.{none}
-use Rattle.model.specs.Syntax.{Site, inputOf, outputOf, declared, Expr, constant, variable, NOT, binary, Whole, Stmt, SKIP, STOP}
+use Rattle.model.specs.Syntax.{Site, inputOf, outputOf, declared, Expr, constant, variable, NOT, binary, Stmt, SKIP, STOP}
 use Rattle.model.specs.Syntax.{assign, input, output, VAR, CHAN, SEQ, PAR, IF, WHILE, ALT, Stmts, noStmt, stmt, Pairs, noPair, pair}
 use Rattle.model.specs.Syntax.{Guards, noGuard, inputGuard, skipGuard, Program}
 use Rattle.model.specs.Reader.{Scope, canInput, canOutput, names, numbered, withVariables, withChannels, program}
 use Rattle.model.specs.Usage.{Usage, _⊕_, reads, reading, changing, inputting, usage, usageAll, usagePairs, usageGuards, clash}
 use Rattle.model.specs.Usage.{clashesLater, anyClash, firstClash, firstClashAll, firstClashPairs, firstClashGuards}
-use Rattle.model.specs.Counts.{registers, need, mostNeed, sumNeed, pairNeed, guardNeed, firstDeep, firstDeepAll, firstDeepPairs}
-use Rattle.model.specs.Counts.{firstDeepGuards}
+use Rattle.model.specs.Counts.{temporaries, guardWords, need, mostNeed, sumNeed, pairNeed, guardNeed}
 use Rattle.model.specs.Layout.{base, wordOf, workspaceOf, layout}
 use Rattle.model.specs.Accept.{accept}
 use Rattle.model.proofs.Cases.{never}
 use Rattle.model.proofs.Well.{WellExpr, Well, WellAll, WellPairs, WellGuards, WellProgram, outermost, Placed, PlacedAll}
 use Rattle.model.proofs.Well.{PlacedPairs, PlacedGuards, Laid, LaidAll, LaidBranches, LaidPairs, LaidGuards}
 use Rattle.model.proofs.Readers.{read-well}
-use Rattle.model.proofs.Accepts.{Passed, accept-reads, accept-passed, orElse-none, clash-par, deep-assign, deep-output, deep-while}
-use Rattle.model.proofs.Accepts.{deep-stmt, deep-pair, deep-input-guard, deep-skip-guard}
+use Rattle.model.proofs.Accepts.{Passed, accept-reads, accept-passed, orElse-none, clash-par}
 use Rattle.model.proofs.Lays.{program-laid}
 use Rattle.model.proofs.Values.{FineExpr}
 use Rattle.model.proofs.Parts.{Part, Ending, the-end, joins, declares, declaresAll, declaresPairs, declaresGuards, partOf, Disjoint}
-use Rattle.model.proofs.Parts.{need-two, Apart, Within, FineWhole, Fine, FineAll, FineBranches, Beside, FinePairs, FineGuards}
+use Rattle.model.proofs.Parts.{need-two, lowered, guardRoom, Apart, Within, FineWhole, Fine, FineAll, FineBranches, Beside}
+use Rattle.model.proofs.Parts.{FinePairs, FineGuards}
 use Rattle.model.proofs.Uses.{Between, between-wider, between-apart, names-between, placed-le}
 use Rattle.model.proofs.Uses.{declares-from, uses-from, neither, clash-disjoint}
 
@@ -149,25 +148,36 @@ read-expr sc live (binary op l r) h f = (
   read-expr sc live r (h .1) (λ x m. f x (Memᴰ·append-right (reads l) m)),
 )
 
-fine-whole : (a : Part) (sc : Scope) (vars : List Site) → Within (sc .variables) vars → (e : Whole) → WellExpr sc (e .expr)
-    → Within (reads (e .expr)) (a .reads) → registers (e .expr) ≤ 3 → FineWhole a vars e
-fine-whole a sc vars sub e h f r = (scoped-expr sc vars sub (e .expr) h, read-expr sc (a .reads) (e .expr) h f, r)
+-- what a statement needs leaves room for its stored values, and an ALT's for those of its guards
+lowered-few : (t : ℕ) → lowered t 0 ≤ t
+unfolding lowered
+lowered-few zero = omega arith
+lowered-few (suc t) = omega arith
+
+guards-few : (t : ℕ) → lowered t guardRoom ≤ guardWords t
+unfolding lowered guardWords
+guards-few zero = omega arith
+guards-few (suc t) = omega arith
+
+fine-whole : (a : Part) (sc : Scope) (vars : List Site) → Within (sc .variables) vars → (e : Expr) → WellExpr sc e
+    → Within (reads e) (a .reads) → (w more : ℕ) → a .bottom + lowered (temporaries e) more ≤ w → FineWhole a vars w more e
+fine-whole a sc vars sub e h f w more r = (scoped-expr sc vars sub e h, read-expr sc (a .reads) e h f, r)
 
 clash-stmt : (s : Stmt) (ss : Stmts) → firstClashAll (stmt s ss) ≡ none → (firstClash s ≡ none) × (firstClashAll ss ≡ none)
 unfolding firstClashAll
 clash-stmt s ss h = orElse-none (firstClash s) (firstClashAll ss) h
 
-clash-pair : (e : Whole) (s : Stmt) (ps : Pairs) → firstClashPairs (pair e s ps) ≡ none
+clash-pair : (e : Expr) (s : Stmt) (ps : Pairs) → firstClashPairs (pair e s ps) ≡ none
     → (firstClash s ≡ none) × (firstClashPairs ps ≡ none)
 unfolding firstClashPairs
 clash-pair e s ps h = orElse-none (firstClash s) (firstClashPairs ps) h
 
-clash-input-guard : (e : Whole) (c x : Site) (s : Stmt) (gs : Guards) → firstClashGuards (inputGuard e c x s gs) ≡ none
+clash-input-guard : (e : Expr) (c x : Site) (s : Stmt) (gs : Guards) → firstClashGuards (inputGuard e c x s gs) ≡ none
     → (firstClash s ≡ none) × (firstClashGuards gs ≡ none)
 unfolding firstClashGuards
 clash-input-guard e c x s gs h = orElse-none (firstClash s) (firstClashGuards gs) h
 
-clash-skip-guard : (e : Whole) (s : Stmt) (gs : Guards) → firstClashGuards (skipGuard e s gs) ≡ none
+clash-skip-guard : (e : Expr) (s : Stmt) (gs : Guards) → firstClashGuards (skipGuard e s gs) ≡ none
     → (firstClash s ≡ none) × (firstClashGuards gs ≡ none)
 unfolding firstClashGuards
 clash-skip-guard e s gs h = orElse-none (firstClash s) (firstClashGuards gs) h
@@ -226,92 +236,91 @@ module _ (word : Site → ℕ) where
 
   module _ (at : ℕ → ℕ) (named : (p k : ℕ) → word (declared p k) ≡ at p + k) where
     mutual
-      unfolding need usage declares firstClash firstDeep anyClash
+      unfolding need usage declares firstClash anyClash
 
       -- a statement of a part is fine, where the part may do what it does and has the words that it needs
       pub fine : (s : Stmt) (a : Part) (sc : Scope) (vars chans : List Site) (lo hi w : ℕ) → Scoped sc vars chans lo
           → Well sc s → Placed lo hi s → Laid at w s → Covers a (usage s) (declares s)
-          → firstClash s ≡ none → firstDeep s ≡ none → a .bottom + need s ≤ w → w ≤ a .top
+          → firstClash s ≡ none → a .bottom + need s ≤ w → w ≤ a .top
           → Fine word a vars chans w s
-      fine SKIP a sc vars chans lo hi w k h pl l c f d n t = tt
-      fine STOP a sc vars chans lo hi w k h pl l c f d n t = n
-      fine (assign x e) a sc vars chans lo hi w k h pl l c f d n t = (
+      fine SKIP a sc vars chans lo hi w k h pl l c f n t = tt
+      fine STOP a sc vars chans lo hi w k h pl l c f n t = n
+      fine (assign x e) a sc vars chans lo hi w k h pl l c f n t = (
         (k .variables x (h .0), c .changes x (List·Memᴰ·head refl)),
-        fine-whole a sc vars (k .variables) e (h .1) (λ y m. c .reads y (List·Memᴰ·tail m)) (deep-assign x e d),
+        fine-whole a sc vars (k .variables) e (h .1) (λ y m. c .reads y (List·Memᴰ·tail m)) w 0
+            (omega (arith, lowered-few (temporaries e))),
       )
-      fine (input ch x) a sc vars chans lo hi w k h pl l c f d n t = (
+      fine (input ch x) a sc vars chans lo hi w k h pl l c f n t = (
         n,
         (k .variables x (h .1), c .changes x (List·Memᴰ·head refl)),
         k .channels ch (h .0 .0),
         c .inputs ch (List·Memᴰ·head refl),
       )
-      fine (output ch e) a sc vars chans lo hi w k h pl l c f d n t = (
-        n,
-        fine-whole a sc vars (k .variables) e (h .1) (c .reads) (deep-output ch e d),
+      fine (output ch e) a sc vars chans lo hi w k h pl l c f n t = (
+        omega arith,
+        fine-whole a sc vars (k .variables) e (h .1) (c .reads) w 0 (omega (arith, lowered-few (temporaries e))),
         k .channels ch (h .0 .0),
         c .outputs ch (List·Memᴰ·head refl),
       )
-      fine (VAR p m s) a sc vars chans lo hi w k h pl l c f d n t = (
+      fine (VAR p m s) a sc vars chans lo hi w k h pl l c f n t = (
         h .0,
         omega (arith, need-two s),
         (λ j b. named p j ∙ ap (λ v. v + j) (l .0)),
         (λ x i. c .declares x (Memᴰ·append-left (declares s) i)),
         fine s a (withVariables p m sc) (names p m ++ vars) chans (suc p) hi (w - m) (scoped-var sc vars chans lo p m (pl .0) k)
-            (h .2) (pl .1) (l .1) (covers-declared (usage s) (names p m) (declares s) c) f d (omega arith) (omega arith),
+            (h .2) (pl .1) (l .1) (covers-declared (usage s) (names p m) (declares s) c) f (omega arith) (omega arith),
       )
-      fine (CHAN p m s) a sc vars chans lo hi w k h pl l c f d n t = (
+      fine (CHAN p m s) a sc vars chans lo hi w k h pl l c f n t = (
         h .0,
         omega (arith, need-two s),
         (λ j b. named p j ∙ ap (λ v. v + j) (l .0)),
         fine s a (withChannels p m sc) vars (names p m ++ chans) (suc p) hi (w - m) (scoped-chan sc vars chans lo p m (pl .0) k)
-            (h .2) (pl .1) (l .1) c f d (omega arith) (omega arith),
+            (h .2) (pl .1) (l .1) c f (omega arith) (omega arith),
       )
-      fine (SEQ ss) a sc vars chans lo hi w k h pl l c f d n t = fine-all ss a sc vars chans lo hi w k h pl l c f d (omega arith) t
-      fine (PAR p ss) a sc vars chans lo hi w k h pl l c f d n t =
+      fine (SEQ ss) a sc vars chans lo hi w k h pl l c f n t = fine-all ss a sc vars chans lo hi w k h pl l c f (omega arith) t
+      fine (PAR p ss) a sc vars chans lo hi w k h pl l c f n t =
           let (apart, inner) = clash-par p ss f in (
             omega arith,
-            fine-branches ss a sc vars chans lo hi (w - 2) 0 (w - 2) (omega arith) k (h .1) pl l c apart inner d
+            fine-branches ss a sc vars chans lo hi (w - 2) 0 (w - 2) (omega arith) k (h .1) pl l c apart inner
                 (omega arith) (omega arith),
           )
-      fine (IF ps) a sc vars chans lo hi w k h pl l c f d n t = (
+      fine (IF ps) a sc vars chans lo hi w k h pl l c f n t = (
         omega arith,
-        fine-pairs ps a sc vars chans lo hi w k h pl l c f d (omega arith) t,
+        fine-pairs ps a sc vars chans lo hi w k h pl l c f (omega arith) t,
       )
-      fine (WHILE e s) a sc vars chans lo hi w k h pl l c f d n t =
-          let e-s = deep-while e s d in (
-            omega arith,
-            fine-whole a sc vars (k .variables) e (h .0) (covers-before (reading e) (usage s) (declares s) c .reads) (e-s .0),
-            fine s a sc vars chans lo hi w k (h .1) pl l (covers-after (reading e) (usage s) (declares s) c) f (e-s .1) (omega arith) t,
-          )
-      fine (ALT gs) a sc vars chans lo hi w k h pl l c f d n t = (
+      fine (WHILE e s) a sc vars chans lo hi w k h pl l c f n t = (
         omega arith,
-        fine-guards gs a sc vars chans lo hi w k h pl l c f d (omega arith) t,
+        fine-whole a sc vars (k .variables) e (h .0) (covers-before (reading e) (usage s) (declares s) c .reads)
+            w 0 (omega (arith, lowered-few (temporaries e))),
+        fine s a sc vars chans lo hi w k (h .1) pl l (covers-after (reading e) (usage s) (declares s) c) f (omega arith) t,
+      )
+      fine (ALT gs) a sc vars chans lo hi w k h pl l c f n t = (
+        omega arith,
+        fine-guards gs a sc vars chans lo hi w k h pl l c f (omega arith) t,
       )
 
       fine-all : (ss : Stmts) (a : Part) (sc : Scope) (vars chans : List Site) (lo hi w : ℕ) → Scoped sc vars chans lo
           → WellAll sc ss → PlacedAll lo hi ss → LaidAll at w ss → Covers a (usageAll ss) (declaresAll ss)
-          → firstClashAll ss ≡ none → firstDeepAll ss ≡ none → a .bottom + mostNeed ss ≤ w → w ≤ a .top
+          → firstClashAll ss ≡ none → a .bottom + mostNeed ss ≤ w → w ≤ a .top
           → FineAll word a vars chans w ss
-      fine-all noStmt a sc vars chans lo hi w k h pl l c f d n t = tt
-      fine-all (stmt s ss) a sc vars chans lo hi w k h pl l c f d n t =
-          let fs = clash-stmt s ss f in
-          let ds = deep-stmt s ss d in (
+      fine-all noStmt a sc vars chans lo hi w k h pl l c f n t = tt
+      fine-all (stmt s ss) a sc vars chans lo hi w k h pl l c f n t =
+          let fs = clash-stmt s ss f in (
             fine s a sc vars chans lo (pl .0) w k (h .0) (pl .1) (l .0)
-                (covers-first (usage s) (usageAll ss) (declares s) (declaresAll ss) c) (fs .0) (ds .0) (omega arith) t,
+                (covers-first (usage s) (usageAll ss) (declares s) (declaresAll ss) c) (fs .0) (omega arith) t,
             fine-all ss a sc vars chans (pl .0) hi w (scoped-later (placed-le s (pl .1)) k) (h .1) (pl .2) (l .1)
-                (covers-second (usage s) (usageAll ss) (declares s) (declaresAll ss) c) (fs .1) (ds .1) (omega arith) t,
+                (covers-second (usage s) (usageAll ss) (declares s) (declaresAll ss) c) (fs .1) (omega arith) t,
           )
 
       -- the branches of a PAR, from the one at distance d on, which is at v
       fine-branches : (ss : Stmts) (a : Part) (sc : Scope) (vars chans : List Site) (lo hi w d v : ℕ) → v ≡ w - d
           → Scoped sc vars chans lo
           → WellAll sc ss → PlacedAll lo hi ss → LaidBranches at v ss → Covers a (usageAll ss) (declaresAll ss)
-          → anyClash ss ≡ false → firstClashAll ss ≡ none → firstDeepAll ss ≡ none → a .bottom + d + sumNeed ss ≤ w → w ≤ a .top
+          → anyClash ss ≡ false → firstClashAll ss ≡ none → a .bottom + d + sumNeed ss ≤ w → w ≤ a .top
           → FineBranches word a vars chans w d ss
-      fine-branches noStmt a sc vars chans lo hi w d v e k h pl l c g f q n t = tt
-      fine-branches (stmt s ss) a sc vars chans lo hi w d v e k h pl l c g f q n t =
+      fine-branches noStmt a sc vars chans lo hi w d v e k h pl l c g f n t = tt
+      fine-branches (stmt s ss) a sc vars chans lo hi w d v e k h pl l c g f n t =
           let fs = clash-stmt s ss f in
-          let ds = deep-stmt s ss q in
           let (later, rest) = neither (clashesLater (usage s) ss) (anyClash ss) g in
           let first = covers-first (usage s) (usageAll ss) (declares s) (declaresAll ss) c in
           let laid : Laid at (w - d) s = rw e at (l .0) in (
@@ -324,64 +333,64 @@ module _ (word : Site → ℕ) where
               outputs = first .outputs;
             },
             fine s (partOf vars chans (w - d) (joins d) s) sc vars chans lo (pl .0) (w - d) k (h .0) (pl .1) laid
-                (covers-own vars chans (w - d) (joins d) s) (fs .0) (ds .0) (omega arith) (omega arith),
+                (covers-own vars chans (w - d) (joins d) s) (fs .0) (omega arith) (omega arith),
             beside ss sc lo (k .before) s (pl .0) (pl .0) hi (h .0) (pl .1) (omega arith) (h .1) (pl .2) later vars chans w d (d + need s)
                 (omega arith),
             fine-branches ss a sc vars chans (pl .0) hi w (d + need s) (v - need s) (omega arith) (scoped-later (placed-le s (pl .1)) k)
-                (h .1) (pl .2) (l .1) (covers-second (usage s) (usageAll ss) (declares s) (declaresAll ss) c) rest (fs .1) (ds .1)
+                (h .1) (pl .2) (l .1) (covers-second (usage s) (usageAll ss) (declares s) (declaresAll ss) c) rest (fs .1)
                 (omega arith) t,
           )
 
       fine-pairs : (ps : Pairs) (a : Part) (sc : Scope) (vars chans : List Site) (lo hi w : ℕ) → Scoped sc vars chans lo
           → WellPairs sc ps → PlacedPairs lo hi ps → LaidPairs at w ps → Covers a (usagePairs ps) (declaresPairs ps)
-          → firstClashPairs ps ≡ none → firstDeepPairs ps ≡ none → a .bottom + pairNeed ps ≤ w → w ≤ a .top
+          → firstClashPairs ps ≡ none → a .bottom + pairNeed ps ≤ w → w ≤ a .top
           → FinePairs word a vars chans w ps
-      fine-pairs noPair a sc vars chans lo hi w k h pl l c f d n t = tt
-      fine-pairs (pair e s ps) a sc vars chans lo hi w k h pl l c f d n t =
+      fine-pairs noPair a sc vars chans lo hi w k h pl l c f n t = tt
+      fine-pairs (pair e s ps) a sc vars chans lo hi w k h pl l c f n t =
           let fs = clash-pair e s ps f in
-          let ds = deep-pair e s ps d in
           let after = covers-after (reading e) (usage s ⊕ usagePairs ps) (declares s ++ declaresPairs ps) c in (
             fine-whole a sc vars (k .variables) e (h .0)
-                (covers-before (reading e) (usage s ⊕ usagePairs ps) (declares s ++ declaresPairs ps) c .reads) (ds .0),
+                (covers-before (reading e) (usage s ⊕ usagePairs ps) (declares s ++ declaresPairs ps) c .reads)
+                w 0 (omega (arith, lowered-few (temporaries e))),
             fine s a sc vars chans lo (pl .0) w k (h .1) (pl .1) (l .0)
-                (covers-first (usage s) (usagePairs ps) (declares s) (declaresPairs ps) after) (fs .0) (ds .1) (omega arith) t,
+                (covers-first (usage s) (usagePairs ps) (declares s) (declaresPairs ps) after) (fs .0) (omega arith) t,
             fine-pairs ps a sc vars chans (pl .0) hi w (scoped-later (placed-le s (pl .1)) k) (h .2) (pl .2) (l .1)
-                (covers-second (usage s) (usagePairs ps) (declares s) (declaresPairs ps) after) (fs .1) (ds .2) (omega arith) t,
+                (covers-second (usage s) (usagePairs ps) (declares s) (declaresPairs ps) after) (fs .1) (omega arith) t,
           )
 
       fine-guards : (gs : Guards) (a : Part) (sc : Scope) (vars chans : List Site) (lo hi w : ℕ) → Scoped sc vars chans lo
           → WellGuards sc gs → PlacedGuards lo hi gs → LaidGuards at w gs → Covers a (usageGuards gs) (declaresGuards gs)
-          → firstClashGuards gs ≡ none → firstDeepGuards gs ≡ none → a .bottom + guardNeed gs ≤ w → w ≤ a .top
+          → firstClashGuards gs ≡ none → a .bottom + guardNeed gs ≤ w → w ≤ a .top
           → FineGuards word a vars chans w gs
-      fine-guards noGuard a sc vars chans lo hi w k h pl l c f d n t = tt
-      fine-guards (inputGuard e ch x s gs) a sc vars chans lo hi w k h pl l c f d n t =
+      fine-guards noGuard a sc vars chans lo hi w k h pl l c f n t = tt
+      fine-guards (inputGuard e ch x s gs) a sc vars chans lo hi w k h pl l c f n t =
           let fs = clash-input-guard e ch x s gs f in
-          let ds = deep-input-guard e ch x s gs d in
           let all = declares s ++ declaresGuards gs in
           let both = usage s ⊕ usageGuards gs in
           let named = covers-after (reading e) (inputting ch ⊕ changing x ⊕ both) all c in
           let changed = covers-after (inputting ch) (changing x ⊕ both) all named in
           let after = covers-after (changing x) both all changed in (
             fine-whole a sc vars (k .variables) e (h .0)
-                (covers-before (reading e) (inputting ch ⊕ changing x ⊕ both) all c .reads) (ds .0),
+                (covers-before (reading e) (inputting ch ⊕ changing x ⊕ both) all c .reads)
+                w guardRoom (omega (arith, guards-few (temporaries e))),
             (k .variables x (h .2), changed .changes x (List·Memᴰ·head refl)),
             k .channels ch (h .1 .0),
             named .inputs ch (List·Memᴰ·head refl),
             fine s a sc vars chans lo (pl .0) w k (h .3) (pl .1) (l .0)
-                (covers-first (usage s) (usageGuards gs) (declares s) (declaresGuards gs) after) (fs .0) (ds .1) (omega arith) t,
+                (covers-first (usage s) (usageGuards gs) (declares s) (declaresGuards gs) after) (fs .0) (omega arith) t,
             fine-guards gs a sc vars chans (pl .0) hi w (scoped-later (placed-le s (pl .1)) k) (h .4) (pl .2) (l .1)
-                (covers-second (usage s) (usageGuards gs) (declares s) (declaresGuards gs) after) (fs .1) (ds .2) (omega arith) t,
+                (covers-second (usage s) (usageGuards gs) (declares s) (declaresGuards gs) after) (fs .1) (omega arith) t,
           )
-      fine-guards (skipGuard e s gs) a sc vars chans lo hi w k h pl l c f d n t =
+      fine-guards (skipGuard e s gs) a sc vars chans lo hi w k h pl l c f n t =
           let fs = clash-skip-guard e s gs f in
-          let ds = deep-skip-guard e s gs d in
           let after = covers-after (reading e) (usage s ⊕ usageGuards gs) (declares s ++ declaresGuards gs) c in (
             fine-whole a sc vars (k .variables) e (h .0)
-                (covers-before (reading e) (usage s ⊕ usageGuards gs) (declares s ++ declaresGuards gs) c .reads) (ds .0),
+                (covers-before (reading e) (usage s ⊕ usageGuards gs) (declares s ++ declaresGuards gs) c .reads)
+                w guardRoom (omega (arith, guards-few (temporaries e))),
             fine s a sc vars chans lo (pl .0) w k (h .1) (pl .1) (l .0)
-                (covers-first (usage s) (usageGuards gs) (declares s) (declaresGuards gs) after) (fs .0) (ds .1) (omega arith) t,
+                (covers-first (usage s) (usageGuards gs) (declares s) (declaresGuards gs) after) (fs .0) (omega arith) t,
             fine-guards gs a sc vars chans (pl .0) hi w (scoped-later (placed-le s (pl .1)) k) (h .2) (pl .2) (l .1)
-                (covers-second (usage s) (usageGuards gs) (declares s) (declaresGuards gs) after) (fs .1) (ds .2) (omega arith) t,
+                (covers-second (usage s) (usageGuards gs) (declares s) (declaresGuards gs) after) (fs .1) (omega arith) t,
           )
 
 -- the outside channels
@@ -401,7 +410,7 @@ program-fine p end well placed passed =
     (wholePart p) (outermost p) [] (outermost p .channels) 0 end (base p)
     (record { variables = λ x m. m; channels = λ x m. m; before = λ x m. absurd (List·Memᴰ·not-nil m) })
     (well .2) placed (program-laid 0 end (base p) (p .body) placed) (covers-own [] (outsideNames p) (base p) the-end (p .body))
-    (passed .0) (passed .1) (omega arith) (omega arith)
+    (passed .0) (omega arith) (omega arith)
 
 -- every accepted table
 pub accepted-fine : (table : List ℕ) (p : Program) → accept table ≡ program p

@@ -23,7 +23,7 @@ use Rattle.model.proofs.Traces.{Trace, t-none, t-step, trace-then, step
 use Rattle.model.proofs.Running.{Only, fresh, Now, now-goes, now-alt, Inv, runs, starts, idle, Did, came, Acting}
 use Rattle.model.proofs.Moving.{relaid, relabelled, relabel}
 use Rattle.model.proofs.Sched.{Settles, settles, LetGo, let-go}
-use Rattle.model.proofs.Reach.{way-bound, point-in, alt-in}
+use Rattle.model.proofs.Reach.{way-bound, point-in, alt-bound}
 
 module _ (L : Loaded) where
   -- what the start fixed stays
@@ -93,6 +93,6 @@ module _ (L : Loaded) where
 
       pub alt-goes-on : AltGoes (S L) b st (i .vars) (i .chans) q hi′ ν nx (regsOf (cpuOf u)) → Did L did s st (bytesLeft (S L) t)
       alt-goes-on way =
-          let far = way-bound (S L) (alt-in (S L) b) way in
+          let far = alt-bound (S L) b way in
           no-step u ran talk real run rest lines (omega (arith, A .left))
           (now-alt (fresh L nx (cpuOf u .place) (cpuOf u .operand) inner place operand) way (omega (arith, A .left)))

@@ -18,7 +18,7 @@ use Rattle.model.specs.Execute.{pop}
 use Rattle.model.specs.Occam.{Store, zeros, Frame, inVar, Process, before, begin, go, State, process, Step, begins}
 use Rattle.model.proofs.Cases.{by-bool}
 use Rattle.model.proofs.Sites.{isIn-mem, mem-isIn}
-use Rattle.model.proofs.Ways.{Regs, regsOf, Quiet, pushing, Mem, arrived, quiet, quiet-ldc, quiet-mint}
+use Rattle.model.proofs.Ways.{upd-same, upd-other, upd, Regs, regsOf, Quiet, pushing, Mem, arrived, quiet, quiet-ldc, quiet-mint}
 use Rattle.model.proofs.Expr.{Seg, seg-length}
 use Rattle.model.proofs.Points.{whole, At}
 use Rattle.model.proofs.Arrive.{inside, rises-le, named, named-in}
@@ -29,10 +29,10 @@ use Rattle.model.proofs.Marks.{Own, Settled, Opening, Point, pt-var, pt
 use Rattle.model.proofs.Arrivals.{enters, arrives}
 use Rattle.model.proofs.Trees.{some-same, Label, alone, Info, Tree, labelAt, bytesLeft}
 use Rattle.model.proofs.Zones.{zoneOf}
-use Rattle.model.proofs.Leaves.{upd, Unmarked}
+use Rattle.model.proofs.Leaves.{Unmarked}
 use Rattle.model.proofs.Effects.{cpuOf, stored, exec-stl}
 use Rattle.model.proofs.Kernel.{Loaded, S, root, LeafAt, NodeAt, Owned, Rest, Real}
-use Rattle.model.proofs.Writes.{upd-same, upd-other, changed, after-leaf, after-lined, node, apart-zones, part-small, rest-same}
+use Rattle.model.proofs.Writes.{changed, after-leaf, after-lined, node, apart-zones, part-small, rest-same}
 use Rattle.model.proofs.Writes.{sender-stored, sender-kept}
 use Rattle.model.proofs.Puts.{putting, here-then}
 use Rattle.model.proofs.Grounds.{small-size, sound-at}

@@ -22,7 +22,7 @@ use Rattle.model.specs.Occam.{over-channel, Sender, process, outside, St
 use Rattle.model.specs.Demand.{step, talkOf}
 use Rattle.model.specs.declared.Setup.{Setup}
 use Rattle.model.proofs.Cases.{never, by-bool}
-use Rattle.model.proofs.Ways.{Mem}
+use Rattle.model.proofs.Ways.{upd-same, upd-other, upd, Mem}
 use Rattle.model.proofs.Points.{whole}
 use Rattle.model.proofs.Arrive.{inside}
 use Rattle.model.proofs.Paths.{l-input, l-output, leaf-resume, live-resume, silent-resume, same-path, look-put-same, put-put-same}
@@ -32,11 +32,11 @@ use Rattle.model.proofs.Conts.{Placed, Cont, cont-placed}
 use Rattle.model.proofs.Marks.{Own}
 use Rattle.model.proofs.Arrivals.{arrives}
 use Rattle.model.proofs.Trees.{Info, Sits, Tree, bytesLeft}
-use Rattle.model.proofs.Leaves.{upd, member, Unmarked, Waits, h-input}
+use Rattle.model.proofs.Leaves.{member, Unmarked, Waits, h-input}
 use Rattle.model.proofs.Effects.{cpuOf, stored}
 use Rattle.model.proofs.Acts.{dropped, parked, exec-in-held, exec-in-wait, exec-in-sender}
 use Rattle.model.proofs.Kernel.{Loaded, S, root, size, setup, LeafAt, Rest, Lined, Real}
-use Rattle.model.proofs.Writes.{upd-same, upd-other, changed, after-leaf, after-lined, node, apart-parts, apart-zones, part-small}
+use Rattle.model.proofs.Writes.{changed, after-leaf, after-lined, node, apart-parts, apart-zones, part-small}
 use Rattle.model.proofs.Writes.{sits-at, write-var, change-offers}
 use Rattle.model.proofs.Puts.{putting, treeThen, here-then, other-then, lined-then, rest-then, sender-before}
 use Rattle.model.proofs.Grounds.{var-in, chan-in, small-size, sound-at}

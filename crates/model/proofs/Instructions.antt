@@ -4,24 +4,24 @@ use native.Mathlib.Omega.{arith}
 use mathlib.Core.Path.{_≡_, refl, sym, _∙_, subst}
 use mathlib.Core.Logic.{_≢_, inl}
 use mathlib.Core.Bool.{true}
-use mathlib.Core.List.{List, [], _∷_, _++_}
+use mathlib.Core.List.{List, [], _∷_, _++_, List·Memᴰ}
 use lib.ListN.{length}
-use Rattle.model.specs.Syntax.{Stmt, noStmt, stmt}
-use Rattle.model.specs.Instruction.{Instruction, plain}
+use Rattle.model.specs.Syntax.{Site, Stmt, noStmt, stmt}
+use Rattle.model.specs.Instruction.{Instruction, plain, distance}
 use Rattle.model.specs.Instruction as I
 use Rattle.model.specs.Code.{functionIn, operandIn}
 use Rattle.model.specs.Word.{low, less}
 use Rattle.model.specs.Machine.{World, withCpu, goto}
 use Rattle.model.specs.declared.Cpu.{Cpu}
 use Rattle.model.specs.Occam.{Process, State}
-use Rattle.model.proofs.Ways.{regsOf, load, Mem, arrived, through, quiet, loads, jumps, falls}
+use Rattle.model.proofs.Ways.{Regs, regsOf, load, Mem, Way, arrived, through, quiet, loads, stores, reloads, jumps, falls}
 use Rattle.model.proofs.Points.{At}
 use Rattle.model.proofs.Arrive.{inside}
 use Rattle.model.proofs.Parts.{Part}
 use Rattle.model.proofs.Marks.{Point, pt-stop, pt-assign, pt-var, pt-chan, pt-taken, pt-none, pt-while, pt-in, pt-out, pt-par-place}
-use Rattle.model.proofs.Marks.{pt-par-count, pt-end, pt-alt, Settled}
+use Rattle.model.proofs.Marks.{pt-par-count, pt-end, pt-alt, Spare, Settled}
 use Rattle.model.proofs.Arrivals.{Goes, Comes}
-use Rattle.model.proofs.Onwards.{AltGoes, Starts}
+use Rattle.model.proofs.Onwards.{AltGoes, alt-goes, Starts}
 use Rattle.model.proofs.Trees.{Info, Tree, bytesLeft}
 use Rattle.model.proofs.Leaves.{Unmarked}
 use Rattle.model.proofs.Effects.{cpuOf, exec-cj-jumps}
@@ -34,7 +34,8 @@ use Rattle.model.proofs.Moving.{relabelled, relabel}
 use Rattle.model.proofs.Reals.{real-cpu}
 use Rattle.model.proofs.Reach.{way-bound, start-in}
 use Rattle.model.proofs.Finish.{silent}
-use Rattle.model.proofs.Quiets.{reached, pass-quiet, pass-alt, pass-loads, pass-alt-loads, pass-falls, pass-alt-falls, pass-jumps}
+use Rattle.model.proofs.Quiets.{reached, Carries, carries-goes, carries-alt, pass-quiet, pass-loads, pass-stores, pass-reloads}
+use Rattle.model.proofs.Quiets.{pass-falls, pass-jumps}
 use Rattle.model.proofs.Basics.{did-assign, did-taken, did-none, did-while, did-stop}
 use Rattle.model.proofs.Ins.{did-in}
 use Rattle.model.proofs.Outs.{did-out}
@@ -67,26 +68,43 @@ module _ (L : Loaded) {s : World} {st : State} {μ : Mem} {t : Tree (S L) (root 
   point-acts here A clean (pt-end e a v w) = same-does L _ here a (did-end L A clean e v)
   point-acts here A clean (pt-alt c l) = same-does L _ here (c .begins) (alt-begins L A c refl l clean)
 
-  -- on the way to one
+  -- on a path of some kind, where it is known what its significant instructions and its jumps do
+  module _ {at hi : ℕ} {q : Process} (here : At (S L) at x) (A : Acting L s st μ t path q b i (Only path) ws at hi)
+      {P : ℕ → Mem → ℕ → Regs → Type 0} {E : Type 0} {R : Site → Type 0} {Free C : ℕ → Type 0}
+      (carry : Carries L A (Way (S L .xs) (S L .off) (S L .word) P E (st .store) R Free C))
+      (mine : (y : Site) → R y → List·Memᴰ y (i .vars)) (own : (v : ℕ) → Free v → Spare (S L) b (i .vars) (i .chans) v)
+      (point : P hi μ at (regsOf (cpuOf s)) → Did L (Executes L x s) s st (bytesLeft (S L) t))
+      (jump : (k hi′ : ℕ) → At (S L) at (distance I.j k at) → k ≤ length (S L .xs) → C (cpuOf s .workspace)
+      → hi′ + L .off (suc at) ≤ hi + L .off k
+      → ((ν : Mem) (r : Regs) → r .w ≡ cpuOf s .workspace → Way (S L .xs) (S L .off) (S L .word) P E (st .store) R Free C hi′ ν k r)
+      → Did L (Executes L x s) s st (bytesLeft (S L) t)) where
+    abbrev Path : ℕ → Mem → ℕ → Regs → Type 0
+    Path = Way (S L .xs) (S L .off) (S L .word) P E (st .store) R Free C
+
+    acts : Path hi μ at (regsOf (cpuOf s)) → Did L (Executes L x s) s st (bytesLeft (S L) t)
+    acts (arrived p h) = point p
+    acts (through e h f) = absurd (omega (arith, inside (S L) here))
+    acts (quiet g a c v) = same-does L _ here a (pass-quiet L A Path carry g c v)
+    acts (loads {o} y a e l v) = same-does L _ here a (pass-loads L A Path carry o y e (mine y l) v)
+    acts (stores {o} v a e m w) = same-does L _ here a (pass-stores L A Path carry o v e (own v m) w)
+    acts (reloads {o} v a e m w) = same-does L _ here a (pass-reloads L A Path carry o v e (own v m) w)
+    acts (jumps a k c reach v) = jump _ _ a k c reach v
+    acts (falls a k z f v) = same-does L _ here a (pass-falls L A Path carry k z f v)
+
+  -- on the way to a significant instruction
   pub way-acts : {at hi : ℕ} {q : Process} → At (S L) at x → Acting L s st μ t path q b i (Only path) ws at hi → Settled q
       → Unmarked (S L) b i st μ
       → Goes (S L) b (st .store) (i .vars) (i .chans) q hi μ at (regsOf (cpuOf s)) → Did L (Executes L x s) s st (bytesLeft (S L) t)
-  way-acts here A settled clean (arrived p h) = point-acts here A clean p
-  way-acts here A settled clean (through e h f) = absurd (omega (arith, inside (S L) here))
-  way-acts here A settled clean (quiet g a q v) = same-does L _ here a (pass-quiet L A g q v settled clean)
-  way-acts here A settled clean (loads {o} y a w l v) = same-does L _ here a (pass-loads L A o y w (l .0) v settled clean)
-  way-acts here A settled clean (jumps a t c reach v) = same-does L _ here a (pass-jumps L A t c reach v settled clean)
-  way-acts here A settled clean (falls a t z f v) = same-does L _ here a (pass-falls L A t z f v settled clean)
+  way-acts here A settled clean way =
+      acts here A (carries-goes L A settled clean) (λ y l. l .0) (λ v m. m) (point-acts here A clean)
+      (λ k hi a h c reach v. same-does L _ here a (pass-jumps L A h c reach v settled clean)) way
 
   -- in an ALT
   pub alt-acts : {at hi : ℕ} {q : Process} → At (S L) at x → Acting L s st μ t path q b i (Only path) ws at hi
       → AltGoes (S L) b st (i .vars) (i .chans) q hi μ at (regsOf (cpuOf s)) → Did L (Executes L x s) s st (bytesLeft (S L) t)
-  alt-acts here A (arrived p h) = alt-point L (L .one-way) A here p
-  alt-acts here A (through e h f) = absurd f
-  alt-acts here A (quiet g a q v) = same-does L _ here a (pass-alt L A g q v)
-  alt-acts here A (loads {o} y a w l v) = same-does L _ here a (pass-alt-loads L A o y w (l .0) v)
-  alt-acts here A (jumps a t c reach v) = absurd c
-  alt-acts here A (falls a t z f v) = same-does L _ here a (pass-alt-falls L A t z f v)
+  alt-acts here A (alt-goes w way) =
+      acts here A (carries-alt L A w) (λ y l. l .0) (λ v m. m .0) (λ p. alt-point L (L .one-way) A here (p .0))
+      (λ k hi a h c reach v. absurd c) way
 
 -- the first branch of a PAR, on its way to start the next one
 module _ (L : Loaded) {s : World} {st : State} {μ : Mem} {t : Tree (S L) (root L) (st .process)} {path : List ℕ}
@@ -159,6 +177,8 @@ module _ (L : Loaded) {s : World} {st : State} {μ : Mem} {t : Tree (S L) (root 
         same-does L at here a
         (starts-at r (suc at) (executes (q s (A .placed))) refl refl refl (A .run) (A .operand) (A .placed) (A .inside) (omega arith) v)
     starts-acts here (loads y a w l v) = absurd l
+    starts-acts here (stores v a e m w) = absurd m
+    starts-acts here (reloads v a e m w) = absurd m
     starts-acts here (jumps a t c reach v) = absurd c
     starts-acts here (falls {t = k} a h z f v) =
         let r = goto (low (cpuOf s .place + less (L .off k) (L .off (suc at)))) (cpuOf s) in

@@ -14,7 +14,7 @@ use Rattle.model.specs.Occam.{Frame, Process, finished, inPar, Branches,
 use Rattle.model.specs.Occam.{look, put, State, Sender, process, outside}
 use Rattle.model.specs.Demand.{liveIn}
 use Rattle.model.proofs.Cases.{never}
-use Rattle.model.proofs.Ways.{Mem}
+use Rattle.model.proofs.Ways.{upd-same, upd-other, upd, Mem}
 use Rattle.model.proofs.Points.{Setting}
 use Rattle.model.proofs.Paths.{l-output, leaf-par, leaf-resume, leaf-below, leaf-found, look-append, look-prefix, prefixed}
 use Rattle.model.proofs.Paths.{look-under, under, par-whole, look-put-same, look-put-other, look-after, into, aside, look-end-same}
@@ -27,10 +27,10 @@ use Rattle.model.proofs.Trees.{some-same, distanceOf, BranchPart, Label
 use Rattle.model.proofs.Trees.{t-par, Forest, labelAt, running, partAt, part-nil, parts-apart, label-alone, labelled, owner-of}
 use Rattle.model.proofs.Trees.{owner, par-part, rebuild, Rebuilt, EndedAt, ended-at}
 use Rattle.model.proofs.Zones.{zoneOf}
-use Rattle.model.proofs.Leaves.{upd, Unmarked}
+use Rattle.model.proofs.Leaves.{Unmarked}
 use Rattle.model.proofs.Stays.{Calm, held-stays}
 use Rattle.model.proofs.Kernel.{Loaded, S, root, LeafAt, NodeAt, Owned, owned, Rest, whose, Lined}
-use Rattle.model.proofs.Writes.{upd-same, upd-other, node, own-one, apart-zones, part-small, sits-at}
+use Rattle.model.proofs.Writes.{node, own-one, apart-zones, part-small, sits-at}
 use Rattle.model.proofs.Puts.{putting}
 use Rattle.model.proofs.Running.{Only, Nobody}
 use Rattle.model.proofs.Moving.{same-leaf}

@@ -1,7 +1,7 @@
 -- What holds of a process that has not the processor: it is queued, or waits at an input, an output, a STOP or an ALT.
 use Prim.Native.Nat.{ℕ, _+_, _≤_, _<_, _^_}
 use mathlib.Core.Path.{_≡_}
-use mathlib.Core.Bool.{Bool, true, false, cond, _||_}
+use mathlib.Core.Bool.{Bool, true, false, _||_}
 use mathlib.Core.List.{List, [], _∷_, List·Memᴰ}
 use lib.Dec.{eqb}
 use lib.ListN.{length}
@@ -18,10 +18,6 @@ use Rattle.model.proofs.Marks.{Own, Ready, Guarded, AltCode, Marked, Di
 use Rattle.model.proofs.Arrivals.{Comes}
 use Rattle.model.proofs.Names.{nameOf}
 use Rattle.model.proofs.Trees.{Info}
-
--- a memory in which one word is another
-abbrev pub upd : Mem → (v z : ℕ) → Mem
-upd μ v z = λ a. cond (eqb a v) z (μ a)
 
 -- whether a workspace is among some
 unfoldable pub member : ℕ → List ℕ → Bool

@@ -5,7 +5,7 @@ use mathlib.Core.Logic.{_≢_, _⊎_}
 use mathlib.Core.Bool.{true, false}
 use mathlib.Core.List.{List, _∷_, _++_, List·Memᴰ}
 use Rattle.model.specs.Word.{low, less, notProcess}
-use Rattle.model.specs.Syntax.{Site, Whole, Stmt, SKIP, STOP, assign, input, output, VAR, CHAN, SEQ, PAR, IF, WHILE, ALT}
+use Rattle.model.specs.Syntax.{Site, Expr, Stmt, SKIP, STOP, assign, input, output, VAR, CHAN, SEQ, PAR, IF, WHILE, ALT}
 use Rattle.model.specs.Syntax.{Stmts, noStmt, stmt, Pairs, Guards, noGuard, inputGuard, skipGuard}
 use Rattle.model.specs.Reader.{names}
 use Rattle.model.specs.Counts.{need, sumNeed}
@@ -16,7 +16,7 @@ use Rattle.model.specs.Scheme.{sizeDisable}
 use Rattle.model.specs.Code.{operandIn}
 use Rattle.model.specs.Execute.{enabling, ready, noneSelected}
 use Rattle.model.specs.Machine.{stateWord}
-use Rattle.model.specs.Occam.{Store, value, isTrue, Frame, inWhile, Process, before, atInput, atOutput, atStop, atAlt, inPar}
+use Rattle.model.specs.Occam.{Store, eval, isTrue, Frame, inWhile, Process, before, atInput, atOutput, atStop, atAlt, inPar}
 use Rattle.model.specs.Occam.{finished, resume, begin, firstTrue, State, Sender}
 use Rattle.model.proofs.Names.{nameOf, spaceOf}
 use Rattle.model.proofs.Ways.{Regs, Mem}
@@ -27,42 +27,42 @@ use Rattle.model.proofs.Conts.{Placed, Cont}
 
 -- a guard that is ready
 pub data Ready (st : State) : Guards → Type 0 where
-  r-input : {e : Whole} {c x : Site} {s : Stmt} {gs : Guards} → isTrue (st .store) e ≡ true → Sender st c → Ready st (inputGuard e c x s gs)
-  r-skip : {e : Whole} {s : Stmt} {gs : Guards} → isTrue (st .store) e ≡ true → Ready st (skipGuard e s gs)
-  r-past-input : {e : Whole} {c x : Site} {s : Stmt} {gs : Guards} → Ready st gs → Ready st (inputGuard e c x s gs)
-  r-past-skip : {e : Whole} {s : Stmt} {gs : Guards} → Ready st gs → Ready st (skipGuard e s gs)
+  r-input : {e : Expr} {c x : Site} {s : Stmt} {gs : Guards} → isTrue (st .store) e ≡ true → Sender st c → Ready st (inputGuard e c x s gs)
+  r-skip : {e : Expr} {s : Stmt} {gs : Guards} → isTrue (st .store) e ≡ true → Ready st (skipGuard e s gs)
+  r-past-input : {e : Expr} {c x : Site} {s : Stmt} {gs : Guards} → Ready st gs → Ready st (inputGuard e c x s gs)
+  r-past-skip : {e : Expr} {s : Stmt} {gs : Guards} → Ready st gs → Ready st (skipGuard e s gs)
 
 -- the guard whose branch has its first instruction at t is ready; p is the process that goes on there. The first guard's branch is at b
 pub data Picks (st : State) (k : List Frame) : Guards → (b t : ℕ) → Process → Type 0 where
-  p-input : {e : Whole} {c x : Site} {s : Stmt} {gs : Guards} {b : ℕ} → isTrue (st .store) e ≡ true → Sender st c
+  p-input : {e : Expr} {c x : Site} {s : Stmt} {gs : Guards} {b : ℕ} → isTrue (st .store) e ≡ true → Sender st c
       → Picks st k (inputGuard e c x s gs) b b (begin (SEQ (stmt (input c x) (stmt s noStmt))) k)
-  p-skip : {e : Whole} {s : Stmt} {gs : Guards} {b : ℕ} → isTrue (st .store) e ≡ true → Picks st k (skipGuard e s gs) b b (begin s k)
-  p-past-input : {e : Whole} {c x : Site} {s : Stmt} {gs : Guards} {b t : ℕ} {p : Process} → Picks st k gs (b + 1 + 4 + size s + 1) t p
+  p-skip : {e : Expr} {s : Stmt} {gs : Guards} {b : ℕ} → isTrue (st .store) e ≡ true → Picks st k (skipGuard e s gs) b b (begin s k)
+  p-past-input : {e : Expr} {c x : Site} {s : Stmt} {gs : Guards} {b t : ℕ} {p : Process} → Picks st k gs (b + 1 + 4 + size s + 1) t p
       → Picks st k (inputGuard e c x s gs) b t p
-  p-past-skip : {e : Whole} {s : Stmt} {gs : Guards} {b t : ℕ} {p : Process} → Picks st k gs (b + 1 + size s + 1) t p
+  p-past-skip : {e : Expr} {s : Stmt} {gs : Guards} {b t : ℕ} {p : Process} → Picks st k gs (b + 1 + size s + 1) t p
       → Picks st k (skipGuard e s gs) b t p
 
 -- the second list is the rest of the first; their first guards' branches are at b and t
 pub data Rest : Guards → (b : ℕ) → Guards → (t : ℕ) → Type 0 where
   rest-all : {gs : Guards} {b : ℕ} → Rest gs b gs b
-  rest-input : {e : Whole} {c x : Site} {s : Stmt} {gs hs : Guards} {b t : ℕ} → Rest gs (b + 1 + 4 + size s + 1) hs t
+  rest-input : {e : Expr} {c x : Site} {s : Stmt} {gs hs : Guards} {b t : ℕ} → Rest gs (b + 1 + 4 + size s + 1) hs t
       → Rest (inputGuard e c x s gs) b hs t
-  rest-skip : {e : Whole} {s : Stmt} {gs hs : Guards} {b t : ℕ} → Rest gs (b + 1 + size s + 1) hs t → Rest (skipGuard e s gs) b hs t
+  rest-skip : {e : Expr} {s : Stmt} {gs hs : Guards} {b t : ℕ} → Rest gs (b + 1 + size s + 1) hs t → Rest (skipGuard e s gs) b hs t
 
 -- of the guards from the first list up to the second, which is the rest of it, none is ready; each with a true condition is marked with w
 pub data Noticed (st : State) (word : Site → ℕ) (μ : Mem) (w : ℕ) : Guards → Guards → Type 0 where
   n-none : {gs : Guards} → Noticed st word μ w gs gs
-  n-input : {e : Whole} {c x : Site} {s : Stmt} {gs hs : Guards}
+  n-input : {e : Expr} {c x : Site} {s : Stmt} {gs hs : Guards}
       → (isTrue (st .store) e ≡ true → (μ (word c) ≡ w) × (Sender st c → ⊥))
       → Noticed st word μ w gs hs → Noticed st word μ w (inputGuard e c x s gs) hs
-  n-skip : {e : Whole} {s : Stmt} {gs hs : Guards} → isTrue (st .store) e ≡ false → Noticed st word μ w gs hs
+  n-skip : {e : Expr} {s : Stmt} {gs hs : Guards} → isTrue (st .store) e ≡ false → Noticed st word μ w gs hs
       → Noticed st word μ w (skipGuard e s gs) hs
 
 -- a channel that a guard of a list with a true condition inputs from
 pub data Guarded (σ : Store) (c : Site) : Guards → Type 0 where
-  g-here : {e : Whole} {x : Site} {s : Stmt} {gs : Guards} → isTrue σ e ≡ true → Guarded σ c (inputGuard e c x s gs)
-  g-past-input : {e : Whole} {d x : Site} {s : Stmt} {gs : Guards} → Guarded σ c gs → Guarded σ c (inputGuard e d x s gs)
-  g-past-skip : {e : Whole} {s : Stmt} {gs : Guards} → Guarded σ c gs → Guarded σ c (skipGuard e s gs)
+  g-here : {e : Expr} {x : Site} {s : Stmt} {gs : Guards} → isTrue σ e ≡ true → Guarded σ c (inputGuard e c x s gs)
+  g-past-input : {e : Expr} {d x : Site} {s : Stmt} {gs : Guards} → Guarded σ c gs → Guarded σ c (inputGuard e d x s gs)
+  g-past-skip : {e : Expr} {s : Stmt} {gs : Guards} → Guarded σ c gs → Guarded σ c (skipGuard e s gs)
 
 -- steps without code: SKIP and a PAR of none
 pub data Skips : Process → Process → Type 0 where
@@ -141,6 +141,13 @@ module _ (S : Setting) (a : Part) where
     pub after : Cont S a hi vars chans k over w
     pub near : hi ≤ whole S + S .off i
 
+  -- a word of the part's own that is no name's: stored values stand in such words
+  pub record Spare (vars chans : List Site) (v : ℕ) : Type 0 where
+    pub above : a .bottom ≤ v
+    pub below : v < a .top
+    pub no-var : (x : Site) → List·Memᴰ x vars → v < S .word x
+    pub no-chan : (c : Site) → List·Memᴰ c chans → v < S .word c
+
   -- what J and waiting need of a workspace
   abbrev pub Clear : (vars chans : List Site) (w : ℕ) → Type 0
   Clear vars chans w = Placed S a w vars chans
@@ -151,8 +158,8 @@ module _ (S : Setting) (a : Part) where
     pub data Point : Process → (up : ℕ) → Mem → ℕ → Regs → Type 0 where
       pt-stop : {k : List Frame} {up : ℕ} {μ : Mem} {i : ℕ} {r : Regs} → At S i (operation I.stopp) → Clear vars chans (r .w)
           → Point (before STOP k) up μ i r
-      pt-assign : {x : Site} {e : Whole} {k : List Frame} {up : ℕ} {μ : Mem} {i o hi : ℕ} {r : Regs} → At S i (plain stl o)
-          → low (r .w + o) ≡ S .word x → Fine (S .word) a vars chans (r .w) (assign x e) → r .a ≡ value σ e → value σ e < 2 ^ 32
+      pt-assign : {x : Site} {e : Expr} {k : List Frame} {up : ℕ} {μ : Mem} {i o hi : ℕ} {r : Regs} → At S i (plain stl o)
+          → low (r .w + o) ≡ S .word x → Fine (S .word) a vars chans (r .w) (assign x e) → r .a ≡ eval σ e → eval σ e < 2 ^ 32
           → Cont S a hi vars chans k (suc i) (r .w) → hi ≤ whole S + S .off i → Point (before (assign x e) k) up μ i r
       pt-var : {p n : ℕ} {s : Stmt} {k : List Frame} {up : ℕ} {μ : Mem} {i hi c j : ℕ} {r : Regs}
           → Opening (plain ldc 0) p n s vars chans k hi c (r .w) → Fine (S .word) a (names p n ++ vars) chans (r .w) s
@@ -169,16 +176,16 @@ module _ (S : Setting) (a : Part) where
           → Point (before (IF ps) k) up μ i r
       pt-none : {ps : Pairs} {k : List Frame} {up : ℕ} {μ : Mem} {i : ℕ} {r : Regs} → At S i (operation I.stopp) → Clear vars chans (r .w)
           → FinePairs (S .word) a vars chans (r .w) ps → firstTrue σ ps k ≡ atStop k → Point (before (IF ps) k) up μ i r
-      pt-while : {e : Whole} {s : Stmt} {k : List Frame} {up : ℕ} {μ : Mem} {i t m hi hi′ : ℕ} {r : Regs} → At S i (distance cj t i)
-          → suc i ≤ t → FineWhole a vars e → r .a ≡ value σ e → Seg (S .xs) (suc i) (code (S .word) (r .w) (suc i) s) m
+      pt-while : {e : Expr} {s : Stmt} {k : List Frame} {up : ℕ} {μ : Mem} {i t m hi hi′ : ℕ} {r : Regs} → At S i (distance cj t i)
+          → suc i ≤ t → FineWhole a vars (r .w) 0 e → r .a ≡ eval σ e → Seg (S .xs) (suc i) (code (S .word) (r .w) (suc i) s) m
           → Fine (S .word) a vars chans (r .w) s → Cont S a hi′ vars chans (inWhile e s ∷ k) m (r .w)
           → hi′ ≤ whole S + S .off (suc i) → Cont S a hi vars chans k t (r .w) → hi ≤ whole S + S .off i
           → Point (before (WHILE e s) k) up μ i r
       pt-in : {c x : Site} {k : List Frame} {up : ℕ} {μ : Mem} {i hi : ℕ} {r : Regs} → At S i (operation I.«in») → r .a ≡ 4
           → r .b ≡ S .word c → r .c ≡ S .word x → Fine (S .word) a vars chans (r .w) (input c x)
           → Cont S a hi vars chans k (suc i) (r .w) → hi ≤ whole S + S .off i → Point (before (input c x) k) up μ i r
-      pt-out : {c : Site} {e : Whole} {k : List Frame} {up : ℕ} {μ : Mem} {i hi : ℕ} {r : Regs} → At S i (operation I.outword)
-          → r .a ≡ value σ e → value σ e < 2 ^ 32 → r .b ≡ S .word c → Fine (S .word) a vars chans (r .w + 1) (output c e)
+      pt-out : {c : Site} {e : Expr} {k : List Frame} {up : ℕ} {μ : Mem} {i hi : ℕ} {r : Regs} → At S i (operation I.outword)
+          → r .a ≡ eval σ e → eval σ e < 2 ^ 32 → r .b ≡ S .word c → Fine (S .word) a vars chans (r .w + 1) (output c e)
           → At S (suc i) (plain ajw 1) → Cont S a hi vars chans k (suc (suc i)) (r .w + 1) → hi ≤ whole S + S .off i
           → Point (before (output c e) k) up μ i r
       -- a PAR: where it goes on, and its count, which starts it
@@ -212,9 +219,9 @@ module _ (S : Setting) (a : Part) where
 
     -- before the ENBC or ENBS of the first guard of a list, with the rest of the enabling behind it
     pub data Enables : Guards → (i : ℕ) → Regs → (i′ : ℕ) → Type 0 where
-      e-input : {e : Whole} {c x : Site} {s : Stmt} {gs : Guards} {i i′ : ℕ} {r : Regs} → At S i (operation I.enbc) → r .a ≡ value σ e
+      e-input : {e : Expr} {c x : Site} {s : Stmt} {gs : Guards} {i i′ : ℕ} {r : Regs} → At S i (operation I.enbc) → r .a ≡ eval σ e
           → r .b ≡ S .word c → Seg (S .xs) (suc i) (codeEnable (S .word) (r .w) gs) i′ → Enables (inputGuard e c x s gs) i r i′
-      e-skip : {e : Whole} {s : Stmt} {gs : Guards} {i i′ : ℕ} {r : Regs} → At S i (operation I.enbs) → r .a ≡ value σ e
+      e-skip : {e : Expr} {s : Stmt} {gs : Guards} {i i′ : ℕ} {r : Regs} → At S i (operation I.enbs) → r .a ≡ eval σ e
           → Seg (S .xs) (suc i) (codeEnable (S .word) (r .w) gs) i′ → Enables (skipGuard e s gs) i r i′
 
     -- the guards of an ALT before hs are disabled: no mark of theirs is left; it is Ready; a branch is chosen, or one of the rest is ready
@@ -226,12 +233,12 @@ module _ (S : Setting) (a : Part) where
 
     -- before the DISC or DISS of the first guard of a list, whose branch is at b, with the rest of the disabling behind it
     pub data Disables : Guards → (choice b i : ℕ) → Regs → (i′ : ℕ) → Type 0 where
-      d-input : {e : Whole} {c x : Site} {s : Stmt} {gs : Guards} {choice b i i′ : ℕ} {r : Regs} → At S i (operation I.disc)
-          → r .a ≡ operandIn (S .off) (distance ldc b choice) → r .b ≡ value σ e → r .c ≡ S .word c
+      d-input : {e : Expr} {c x : Site} {s : Stmt} {gs : Guards} {choice b i i′ : ℕ} {r : Regs} → At S i (operation I.disc)
+          → r .a ≡ operandIn (S .off) (distance ldc b choice) → r .b ≡ eval σ e → r .c ≡ S .word c
           → Seg (S .xs) (suc i) (codeDisable (S .word) (r .w) choice (b + 1 + 4 + size s + 1) gs) i′
           → Disables (inputGuard e c x s gs) choice b i r i′
-      d-skip : {e : Whole} {s : Stmt} {gs : Guards} {choice b i i′ : ℕ} {r : Regs} → At S i (operation I.diss)
-          → r .a ≡ operandIn (S .off) (distance ldc b choice) → r .b ≡ value σ e
+      d-skip : {e : Expr} {s : Stmt} {gs : Guards} {choice b i i′ : ℕ} {r : Regs} → At S i (operation I.diss)
+          → r .a ≡ operandIn (S .off) (distance ldc b choice) → r .b ≡ eval σ e
           → Seg (S .xs) (suc i) (codeDisable (S .word) (r .w) choice (b + 1 + size s + 1) gs) i′
           → Disables (skipGuard e s gs) choice b i r i′
 

@@ -10,7 +10,7 @@ use Rattle.model.specs.Syntax.{Site}
 use Rattle.model.specs.Machine.{World, resumeWord}
 use Rattle.model.specs.Occam.{Frame, Process, atOutput, framesOf, put, resume, State}
 use Rattle.model.specs.Demand.{liveIn}
-use Rattle.model.proofs.Ways.{Mem}
+use Rattle.model.proofs.Ways.{upd-other, upd, Mem}
 use Rattle.model.proofs.Points.{Setting}
 use Rattle.model.proofs.Paths.{leaf-resume, live-resume, silent-resume}
 use Rattle.model.proofs.Parts.{Part}
@@ -18,9 +18,9 @@ use Rattle.model.proofs.Conts.{Placed, cont-inside}
 use Rattle.model.proofs.Marks.{Own}
 use Rattle.model.proofs.Arrivals.{Sound, arrives}
 use Rattle.model.proofs.Trees.{Info, Tree}
-use Rattle.model.proofs.Leaves.{upd, Unmarked, Waits, Held, h-queued}
+use Rattle.model.proofs.Leaves.{Unmarked, Waits, Held, h-queued}
 use Rattle.model.proofs.Kernel.{Loaded, S, root, LeafAt, owned, Rest, Lined, Real}
-use Rattle.model.proofs.Writes.{upd-other, node, apart-parts, own-one, part-small, sits-at, write-own, write-chan, left-out}
+use Rattle.model.proofs.Writes.{node, apart-parts, own-one, part-small, sits-at, write-own, write-chan, left-out}
 use Rattle.model.proofs.Puts.{putting, treeThen, here-then, lined-then, rest-then}
 use Rattle.model.proofs.Grounds.{small-size, sound-at}
 use Rattle.model.proofs.Running.{Only}

@@ -23,17 +23,17 @@ use Rattle.model.specs.Demand as Demand
 use Rattle.model.specs.declared.Setup.{Setup}
 use Rattle.model.specs.declared.OfferAnswer.the-variants.{Offered}
 use Rattle.model.proofs.Cases.{never}
-use Rattle.model.proofs.Ways.{regsOf, Mem}
+use Rattle.model.proofs.Ways.{upd-same, upd-other, upd, regsOf, Mem}
 use Rattle.model.proofs.Parts.{Part, Target}
 use Rattle.model.proofs.Marks.{Own, Guarded, AltCode, Marked, Disabling}
-use Rattle.model.proofs.Onwards.{AltGoes, guarded-ready}
+use Rattle.model.proofs.Onwards.{AltWay, alt-goes, guarded-ready}
 use Rattle.model.proofs.Trees.{Info, Tree, bytesLeft}
-use Rattle.model.proofs.Leaves.{upd, member, Unmarked, Resumes, Waits, Held, h-woken}
+use Rattle.model.proofs.Leaves.{member, Unmarked, Resumes, Waits, Held, h-woken}
 use Rattle.model.proofs.Stays.{Calm, calm-trans}
 use Rattle.model.proofs.Effects.{cpuOf, stored}
 use Rattle.model.proofs.Acts.{notify-waiting, notify-other}
 use Rattle.model.proofs.Kernel.{Loaded, S, root, size, LeafAt, Rest, Lined, Real}
-use Rattle.model.proofs.Writes.{upd-same, upd-other, changed, after-leaf, after-lined, node, apart-parts, own-one, part-small}
+use Rattle.model.proofs.Writes.{changed, after-leaf, after-lined, node, apart-parts, own-one, part-small}
 use Rattle.model.proofs.Writes.{sits-at, write-var, change-offers}
 use Rattle.model.proofs.Puts.{putting}
 use Rattle.model.proofs.Grounds.{var-in, small-size}
@@ -44,14 +44,14 @@ use Rattle.model.proofs.Reals.{size-is, mirrored, real-state, real-stor
 use Rattle.model.proofs.Channels.{Holder, holds-input, holds-output, holds-wait, holds-woken, holds-out, holder, input-at}
 use Rattle.model.proofs.Meets.{not-own, clear-chan, var-above, chan-above, rest-below, real-below}
 use Rattle.model.proofs.Outs.{ready-more, picks-more, no-alt-state}
-use Rattle.model.proofs.Bystanders.{way-still, way-holds, SameRegs, Keeps, Ground, runs-ground, starts-unmarked, starts-ground}
+use Rattle.model.proofs.Bystanders.{SameRegs, Keeps, Ground, runs-ground, starts-unmarked, starts-ground}
 use Rattle.model.proofs.Bystanders.{idle-ground}
 use Rattle.model.proofs.Wakings.{With, Answers, answers, inv-lands, calm-var, calm-chan, calm-own, calm-offers, Joins, goes-on}
 use Rattle.model.proofs.Wakings.{waited-goes, answers-talk, answers-silent, input-named, outside-chan, outside-in, part-of}
 use Rattle.model.proofs.Offerings.{holding, offer-holds, offer-tells, offer-delivers, withOffer, passedOffer, passed-same}
 use Rattle.model.proofs.Offerings.{more-senders, fewer-senders, offer-sends, same-senders, senders-same, real-offers, real-held}
 use Rattle.model.proofs.Offerings.{unheld}
-use Rattle.model.proofs.Tellings.{Stood, stood, told-point}
+use Rattle.model.proofs.Tellings.{Stood, stood, told-way}
 
 module _ (L : Loaded) {s : World} {st : State} {μ : Mem} {t : Tree (S L) (root L) (st .process)} {Out : List ℕ → Type 0} {ws : List ℕ}
     (G : Ground L s st μ t Out ws) (k v : ℕ) (below : k < L .prog .inputs) (small : v < 2 ^ 32)
@@ -370,10 +370,10 @@ module _ (L : Loaded) {s : World} {st : State} {μ : Mem} {t : Tree (S L) (root 
   abbrev p : ℕ
   p = μ (S L .word (inputOf k))
 
-  module _ (stood : Stood L b i st μ p) where
-    high : b .top ≤ 4096
-    high = omega (arith, part-small L leaf, small-size L)
+  high : b .top ≤ 4096
+  high = omega (arith, part-small L leaf, small-size L)
 
+  module _ (stood : Stood L b i st μ p) where
     w-low : (b .bottom ≤ stateWord p) × (stateWord p < p + 1)
     w-low = (omega (arith, stood .low, o .1, high), omega (arith, stood .low, o .1, high))
 
@@ -411,11 +411,16 @@ module _ (L : Loaded) {s : World} {st : State} {μ : Mem} {t : Tree (S L) (root 
         (mirrored L (G .real) (stateWord p) w-in state) alt (notify-other p z (holding k v s) (rw sz w-in) n) lands
 
     did-alert : {hi at : ℕ} → Here L at (cpuOf s .place) (cpuOf s .operand)
-        → AltGoes (S L) b st (i .vars) (i .chans) q hi μ at (regsOf (cpuOf s))
+        → AltWay (S L) b st (i .vars) (i .chans) q p hi μ at (regsOf (cpuOf s))
         → hi ≤ i .left + cpuOf s .place → Answers L (λ u. offering k v s ≡ done tt u) s st (offers k v Offered) (bytesLeft (S L) t)
     did-alert here way soon =
         let inv = runs real₄ run (after-leaf L leaf) rest₄ (after-lined L (G .lined))
-        (now-alt here (way-still (S L) (λ x y. refl) (told-point L b i st μ (inputOf k) m o k v refl high) way) soon) in
+        (now-alt here (alt-goes p (told-way L b i st (inputOf k) m high k v refl p o (stood .low)
+        (record {
+          holds = refl;
+          now-ready = upd-same μ (stateWord p) ready;
+          others = λ u d. upd-other μ (stateWord p) ready u d;
+        }) way)) soon) in
         let lands = inv-lands L inv in
         answers s₄ (Demand.outside (offers k v Offered) [] st₄ ∷ [])
         (⊎-elim (λ e. told e refl (λ z. absurd (omega arith)) lands) (λ e. told e refl (λ z. absurd (omega arith)) lands) (stood .state))
@@ -423,8 +428,11 @@ module _ (L : Loaded) {s : World} {st : State} {μ : Mem} {t : Tree (S L) (root 
 
   now-alerts : Now L s st μ b i q → Answers L (λ u. offering k v s ≡ done tt u) s st (offers k v Offered) (bytesLeft (S L) t)
   now-alerts (now-goes h way settled clean soon) = absurd (clean (inputOf k) m o)
-  now-alerts (now-alt h way soon) =
-      did-alert (way-holds (S L) (stood L b i st μ (inputOf k) m o) (λ z. absurd z) way) h way soon
+  now-alerts (now-alt {hi} {at} h (alt-goes w way) soon) =
+      let there = stood L b i st (inputOf k) m high o way in
+      let same : w ≡ p = sym (there .holds) in
+      did-alert (subst (λ z. Stood L b i st μ z) same (there .stood)) h
+      (subst (λ z. AltWay (S L) b st (i .vars) (i .chans) q z hi μ at (regsOf (cpuOf s))) same way) soon
 
 -- every offer that is not turned down
 pub offers-does : (L : Loaded) {s : World} {st : State} {n : ℕ} → Inv L s st n → (k v : ℕ) → k < L .prog .inputs → v < 2 ^ 32

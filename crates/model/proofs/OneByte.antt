@@ -36,7 +36,7 @@ use Rattle.model.proofs.Running.{Only, Births, Starting, Here, within, 
 use Rattle.model.proofs.Running.{runs, starts, idle, Did, came, Executes, executes, Acting}
 use Rattle.model.proofs.Moving.{relaid, relabelled, relabel}
 use Rattle.model.proofs.Reals.{real-cpu}
-use Rattle.model.proofs.Reach.{way-far, point-in, alt-in, start-in}
+use Rattle.model.proofs.Reach.{way-far, point-in, alt-far, start-in}
 use Rattle.model.proofs.Finish.{silent}
 use Rattle.model.proofs.Instructions.{way-acts, alt-acts, starts-on, starts-acts}
 
@@ -149,7 +149,7 @@ module _ (L : Loaded) where
         → Turn (L .code) (L .off) at x s
         → Did L (Byte s) s st (bytesLeft (S L) t)
     goes-alt rest lines way soon (prefixed o eq h′) =
-        gathers rest lines soon (way-far (S L) (alt-in (S L) b) (inside (S L) e) way) o eq (λ less. now-alt (onward h′) way less)
+        gathers rest lines soon (alt-far (S L) b (inside (S L) e) way) o eq (λ less. now-alt (onward h′) way less)
     goes-alt rest lines way soon (last eq pl) = executing refl eq (alt-acts L e (acting rest lines soon pl) way)
 
     goes-start : (B : Births) → Rest L st μ t (Starting path B) ws → Lined L st t (Starting path B) ws

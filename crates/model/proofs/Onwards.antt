@@ -1,37 +1,40 @@
 -- The paths between the significant instructions of an ALT and of a PAR's start.
-use Prim.Native.Nat.{ℕ, suc, _+_, _-_, _^_, _≤_, _<_}
+use Prim.Native.Nat.{ℕ, zero, suc, _+_, _-_, _^_, _≤_, _<_}
 use native.Mathlib.Omega.{arith}
 use mathlib.Core.Path.{_≡_, refl, sym, ap, _∙_, subst}
+use mathlib.Core.Logic.{inl, inr, ⊎-elim}
 use mathlib.Core.Bool.{true, false}
 use mathlib.Core.List.{List, [], _∷_, _++_, List·Memᴰ}
 use lib.ListN.{length, length-append}
 use Rattle.model.specs.Word.{low, less, minus}
 use Rattle.model.specs.Code.{functionIn, operandIn}
-use Rattle.model.specs.Counts.{need, sumNeed}
-use Rattle.model.specs.Syntax.{Site, Whole, Stmt, input, SEQ, ALT, Stmts, noStmt, stmt, Guards, noGuard, inputGuard, skipGuard}
+use Rattle.model.specs.Counts.{temporaries, need, sumNeed}
+use Rattle.model.specs.Syntax.{Site, Expr, Stmt, input, SEQ, ALT, Stmts, noStmt, stmt, Guards, noGuard, inputGuard, skipGuard}
 use Rattle.model.specs.Instruction.{ldc, ldlp, ajw, Instruction, plain, distance, operation}
 use Rattle.model.specs.Instruction as I
-use Rattle.model.specs.Scheme.{size, sizeEnable, sizeEnds, local, wholeCode, inputCode, code, codeAll}
+use Rattle.model.specs.Scheme.{size, sizeEnable, sizeEnds, altWords, local, guardCode, inputCode, code, codeAll}
 use Rattle.model.specs.Scheme.{codeStarts, codeEnds, codeEnable, codeDisable, codeBranches}
-use Rattle.model.specs.Occam.{Store, value, isTrue, Sender, Frame, Process, before, atAlt, resume, begin, enter, enterAll, State}
+use Rattle.model.specs.Machine.{stateWord}
+use Rattle.model.specs.Occam.{Store, eval, isTrue, Sender, Frame, Process, before, atAlt, resume, begin, enter, enterAll, State}
 use Rattle.model.specs.Occam.{Choice, by-input, by-skip, past-input, past-skip}
 use Rattle.model.proofs.Ways.{Regs, pushing, pointing, reversing, moving, Mem, Way, arrived, quiet}
 use Rattle.model.proofs.Ways.{quiet-ldc, quiet-ajw, quiet-ldlp, quiet-rev}
 use Rattle.model.proofs.Expr.{Seg, nil, at, split, apart, cut, seg-length, local-word}
-use Rattle.model.proofs.Exprs.{evaluates}
+use Rattle.model.proofs.Exprs.{evaluates-whole}
 use Rattle.model.proofs.Sizes.{code-length}
 use Rattle.model.proofs.Points.{Setting, whole, At}
 use Rattle.model.proofs.Arrive.{inside, rises-le}
-use Rattle.model.proofs.Parts.{need-two, sum-first, need-next, Part, Ending, the-end, joins, partOf, FineWhole, Fine, FineGuards}
+use Rattle.model.proofs.Parts.{need-two, sum-first, need-next, Part, Ending, the-end, joins, partOf, lowered, guardRoom, FineWhole}
+use Rattle.model.proofs.Parts.{Fine, FineGuards}
 use Rattle.model.proofs.Parts.{FineBranches}
 use Rattle.model.proofs.Conts.{Scoped, scoped-below, placed-down, Cont, c-end, c-join, c-chan, c-up, c-hop, cont-inside, cont-low}
-use Rattle.model.proofs.Conts.{cont-scoped, cont-bound}
+use Rattle.model.proofs.Conts.{cont-placed, cont-scoped, cont-bound}
 use Rattle.model.proofs.Marks.{Ready, r-input, r-skip, r-past-input, r-past-skip, Picks, p-input, p-skip, p-past-input, p-past-skip}
 use Rattle.model.proofs.Marks.{Rest, rest-all, rest-input, rest-skip, Noticed, n-none, n-input, n-skip, AltCode, ParCode, Enabling}
 use Rattle.model.proofs.Marks.{e-input, e-skip, Disabling, d-input, d-skip, AltPoint, pt-enable, pt-wait, pt-disable, pt-choose}
-use Rattle.model.proofs.Marks.{StartPoint, Guarded, g-here, g-past-input, g-past-skip}
+use Rattle.model.proofs.Marks.{Own, Spare, Marked, StartPoint, Guarded, g-here, g-past-input, g-past-skip}
 use Rattle.model.proofs.Cases.{never}
-use Rattle.model.proofs.Arrivals.{seg-join, Sound, Comes, comes, enters, enters-all, arrives}
+use Rattle.model.proofs.Arrivals.{seg-join, spare-below, Sound, Comes, comes, enters, enters-all, arrives}
 
 -- past one instruction
 seg-tail : {xs ys : List Instruction} {y : Instruction} {i i′ : ℕ} → Seg xs i (y ∷ ys) i′ → Seg xs (suc i) ys i′
@@ -59,27 +62,27 @@ rest-picks (rest-input g) h = p-past-input (rest-picks g h)
 rest-picks (rest-skip g) h = p-past-skip (rest-picks g h)
 
 -- the rest goes on with its next guard
-pub rest-past-input : {gs : Guards} {e : Whole} {d x : Site} {s : Stmt} {hs : Guards} {b c : ℕ} → Rest gs b (inputGuard e d x s hs) c
+pub rest-past-input : {gs : Guards} {e : Expr} {d x : Site} {s : Stmt} {hs : Guards} {b c : ℕ} → Rest gs b (inputGuard e d x s hs) c
     → Rest gs b hs (c + 1 + 4 + size s + 1)
 rest-past-input rest-all = rest-input rest-all
 rest-past-input (rest-input g) = rest-input (rest-past-input g)
 rest-past-input (rest-skip g) = rest-skip (rest-past-input g)
 
-pub rest-past-skip : {gs : Guards} {e : Whole} {s : Stmt} {hs : Guards} {b c : ℕ} → Rest gs b (skipGuard e s hs) c
+pub rest-past-skip : {gs : Guards} {e : Expr} {s : Stmt} {hs : Guards} {b c : ℕ} → Rest gs b (skipGuard e s hs) c
     → Rest gs b hs (c + 1 + size s + 1)
 rest-past-skip rest-all = rest-skip rest-all
 rest-past-skip (rest-input g) = rest-input (rest-past-skip g)
 rest-past-skip (rest-skip g) = rest-skip (rest-past-skip g)
 
 -- one more guard is noticed
-pub noticed-past-input : {st : State} {word : Site → ℕ} {μ : Mem} {w : ℕ} {gs : Guards} {e : Whole} {c x : Site} {s : Stmt} {hs : Guards}
+pub noticed-past-input : {st : State} {word : Site → ℕ} {μ : Mem} {w : ℕ} {gs : Guards} {e : Expr} {c x : Site} {s : Stmt} {hs : Guards}
     → Noticed st word μ w gs (inputGuard e c x s hs) → (isTrue (st .store) e ≡ true → (μ (word c) ≡ w) × (Sender st c → ⊥))
     → Noticed st word μ w gs hs
 noticed-past-input n-none h = n-input h n-none
 noticed-past-input (n-input g n) h = n-input g (noticed-past-input n h)
 noticed-past-input (n-skip f n) h = n-skip f (noticed-past-input n h)
 
-pub noticed-past-skip : {st : State} {word : Site → ℕ} {μ : Mem} {w : ℕ} {gs : Guards} {e : Whole} {s : Stmt} {hs : Guards}
+pub noticed-past-skip : {st : State} {word : Site → ℕ} {μ : Mem} {w : ℕ} {gs : Guards} {e : Expr} {s : Stmt} {hs : Guards}
     → Noticed st word μ w gs (skipGuard e s hs) → isTrue (st .store) e ≡ false → Noticed st word μ w gs hs
 noticed-past-skip n-none h = n-skip h n-none
 noticed-past-skip (n-input g n) h = n-input g (noticed-past-skip n h)
@@ -126,6 +129,12 @@ abbrev distanceOf : Ending → ℕ
 distanceOf the-end = 0
 distanceOf (joins d) = d
 
+-- a guard's stored values and the ALT's own words have room below the ALT's workspace
+guard-room : (b w t : ℕ) → b + 4 ≤ w + 1 → b + lowered t guardRoom ≤ w + 1 → b + lowered t altWords ≤ w
+unfolding lowered
+guard-room b w zero h k = omega arith
+guard-room b w (suc t) h k = omega arith
+
 -- the rest of fine guards is fine
 module _ (word : Site → ℕ) (a : Part) (vars chans : List Site) (w : ℕ) where
   pub rest-fine : {gs hs : Guards} {b c : ℕ} → Rest gs b hs c → FineGuards word a vars chans w gs → FineGuards word a vars chans w hs
@@ -141,24 +150,31 @@ module _ (word : Site → ℕ) (a : Part) (vars chans : List Site) (w : ℕ) whe
   guarded-fine (g-past-skip g) f = guarded-fine g (f .2)
 
 module _ (S : Setting) (a : Part) (st : State) where
+  -- the significant instructions of an ALT whose workspace is w, and the words for stored values, which are below the ALT's own
+  abbrev pub AltAt : (vars chans : List Site) (q : Process) (w up : ℕ) (μ : Mem) (i : ℕ) (r : Regs) → Type 0
+  AltAt vars chans q w up μ i r = AltPoint S a st vars chans q up μ i r × (r .w ≡ w)
+
+  abbrev pub AltSpare : (vars chans : List Site) (w v : ℕ) → Type 0
+  AltSpare vars chans w v = Spare S a vars chans v × (v + altWords < w)
+
   -- the path to the next significant instruction inside an ALT, without jumps
-  abbrev pub AltGoes : (vars chans : List Site) (q : Process) (hi : ℕ) (μ : Mem) (i : ℕ) (r : Regs) → Type 0
-  AltGoes vars chans q hi μ i r =
-      Way (S .xs) (S .off) (S .word) (AltPoint S a st vars chans q) ⊥ (st .store) (λ x. List·Memᴰ x vars × List·Memᴰ x (a .reads)) (λ w. ⊥)
-      hi μ i r
+  abbrev pub AltWay : (vars chans : List Site) (q : Process) (w hi : ℕ) (μ : Mem) (i : ℕ) (r : Regs) → Type 0
+  AltWay vars chans q w hi μ i r =
+      Way (S .xs) (S .off) (S .word) (AltAt vars chans q w) ⊥ (st .store) (λ x. List·Memᴰ x vars × List·Memᴰ x (a .reads))
+      (AltSpare vars chans w) (λ w. ⊥) hi μ i r
+
+  pub data AltGoes (vars chans : List Site) (q : Process) (hi : ℕ) (μ : Mem) (i : ℕ) (r : Regs) : Type 0 where
+    alt-goes : (w : ℕ) → AltWay vars chans q w hi μ i r → AltGoes vars chans q hi μ i r
 
   -- at registers whose workspace is known
-  at-w : (P : Regs → Type 0) {w : ℕ} (r : Regs) → r .w ≡ w → P (record { a = r .a; b = r .b; c = r .c; w = w }) → P r
-  at-w P r e pt = subst (λ z. P (record { a = r .a; b = r .b; c = r .c; w = z })) (sym e) pt
+  at-w : {vars chans : List Site} {q : Process} {up : ℕ} {μ : Mem} {i w : ℕ} (r : Regs) → r .w ≡ w
+      → AltPoint S a st vars chans q up μ i (record { a = r .a; b = r .b; c = r .c; w = w }) → AltAt vars chans q w up μ i r
+  at-w {vars} {chans} {q} {up} {μ} {i} r e pt =
+      (subst (λ z. AltPoint S a st vars chans q up μ i (record { a = r .a; b = r .b; c = r .c; w = z })) (sym e) pt, e)
 
-  -- through an expression, at a workspace of its own
-  through-at : {vars chans : List Site} {w : ℕ} → w < 2 ^ 32 → Sound S a (st .store) vars chans → (q : Process) (e : Whole) {hi i i′ : ℕ}
-      {μ : Mem} {r : Regs} → FineWhole a vars e → Seg (S .xs) i (wholeCode (S .word) w e) i′ → r .w ≡ w
-      → ((r′ : Regs) → r′ .a ≡ value (st .store) e → r′ .w ≡ w → AltGoes vars chans q hi μ i′ r′) → AltGoes vars chans q hi μ i r
-  through-at {vars} {chans} {w} wide v q e f g p next =
-      evaluates (S .xs) (S .off) (S .word) (AltPoint S a st vars chans q) ⊥ (st .store) vars (a .reads)
-      (λ w. ⊥) w wide (v .vars-word) (v .values) (e .expr) g (f .0) (f .1) (f .2) p
-      (λ r′ d. next r′ (d .value) (d .same-w ∙ p))
+  -- memories that are the same at the words of an ALT and above
+  abbrev Kept : (w : ℕ) (μ ν : Mem) → Type 0
+  Kept w μ ν = (u : ℕ) → w ≤ u + altWords → ν u ≡ μ u
 
   module _ {gs : Guards} {vars chans : List Site} {k : List Frame} {hi i : ℕ} (w : ℕ) (c : AltCode S a gs vars chans k hi i (w + 1))
       (v : Sound S a (st .store) vars chans) where
@@ -174,100 +190,147 @@ module _ (S : Setting) (a : Part) (st : State) where
           rises-le S (suc n) (c .over) (omega (arith, seg-length (c .branches))) (cont-inside S a (c .after)),
         )
 
+    -- through a guard's condition: its stored values are below the ALT's words
+    through-guard : (q : Process) (e : Expr) {hi′ j m : ℕ} {μ : Mem} {r : Regs} → FineWhole a vars (w + 1) guardRoom e
+        → Seg (S .xs) j (guardCode (S .word) w e) m → r .w ≡ w
+        → ((ν : Mem) (r′ : Regs) → Kept w μ ν → r′ .a ≡ eval (st .store) e → r′ .w ≡ w → AltWay vars chans q w hi′ ν m r′)
+        → AltWay vars chans q w hi′ μ j r
+    through-guard q e {hi′} f g p next =
+        let room : a .bottom + lowered (temporaries e) altWords ≤ w = guard-room (a .bottom) w (temporaries e) (c .fine .0) (f .2) in
+        evaluates-whole (S .xs) (S .off) (S .word) (AltAt vars chans q w) ⊥ (st .store) vars (a .reads) (AltSpare vars chans w)
+        (λ w. ⊥) hi′ (λ u s. omega (arith, s .0 .below, v .high)) (v .vars-word) (v .values) w altWords e alt-wide (f .0) (f .1)
+        (omega arith) (λ u l h. (spare-below S a (cont-placed S a (c .after)) (omega arith) (omega arith), h)) g p
+        (λ ν r′ d. next ν r′ (d .kept) (d .value) (d .same-w))
+
+    -- what holds while an ALT enables or disables stays
+    module _ {μ ν : Mem} (same : Kept w μ ν) where
+      chan-kept : (d : Site) → List·Memᴰ d chans → ν (S .word d) ≡ μ (S .word d)
+      chan-kept d m = same (S .word d) (omega (arith, cont-scoped S a (c .after) .chans-above d m))
+
+      state-kept : ν (stateWord w) ≡ μ (stateWord w)
+      state-kept = same (stateWord w) (omega (arith, c .fine .0, alt-wide))
+
+      marked-kept : {hs : Guards} → Marked S a st vars chans hs μ w → Marked S a st vars chans hs ν w
+      marked-kept h d m o = let e = chan-kept d m in let g = h d m (subst (Own a) e o) in (e ∙ g .0, g .1)
+
+      noticed-kept : {fs hs : Guards} → FineGuards (S .word) a vars chans (w + 1) fs → Noticed st (S .word) μ w fs hs
+          → Noticed st (S .word) ν w fs hs
+      noticed-kept f n-none = n-none
+      noticed-kept f (n-input {c = d} h n) = n-input (λ z. (chan-kept d (f .2) ∙ h z .0, h z .1)) (noticed-kept (f .5) n)
+      noticed-kept f (n-skip h n) = n-skip h (noticed-kept (f .2) n)
+
+      enabling-kept : {hs : Guards} → Enabling S a st vars chans gs hs μ w → Enabling S a st vars chans gs hs ν w
+      enabling-kept n =
+          record {
+            rest = n .rest;
+            marks = marked-kept (n .marks);
+            state = ⊎-elim (λ e. inl (state-kept ∙ e .0, noticed-kept (c .fine .1) (e .1))) (λ e. inr (state-kept ∙ e .0, e .1)) (n .state);
+          }
+
+      disabling-kept : {hs : Guards} → Disabling S a st vars chans k gs hs (c .choice) μ w
+          → Disabling S a st vars chans k gs hs (c .choice) ν w
+      disabling-kept d =
+          let base : ν w ≡ μ w = same w (omega arith) in
+          record {
+            marks = marked-kept (d .marks);
+            state = state-kept ∙ d .state;
+            chosen = ⊎-elim (λ x. let (t, p, h, z) = x in inl (t, p, h, base ∙ z)) (λ x. inr (base ∙ x .0, x .1)) (d .chosen);
+          }
+
     -- past a condition, to ENBC
-    enable-input : (e : Whole) (d x : Site) (s : Stmt) (hs : Guards) {hi′ j m : ℕ} {μ : Mem} {r : Regs} → hi ≤ hi′
+    enable-input : (e : Expr) (d x : Site) (s : Stmt) (hs : Guards) {hi′ j m : ℕ} {μ : Mem} {r : Regs} → hi ≤ hi′
         → FineGuards (S .word) a vars chans (w + 1) (inputGuard e d x s hs) → Enabling S a st vars chans gs (inputGuard e d x s hs) μ w
-        → Seg (S .xs) j (wholeCode (S .word) w e) m
+        → Seg (S .xs) j (guardCode (S .word) w e) m
         → Seg (S .xs) m (plain ldlp (local (S .word) w d) ∷ operation I.rev ∷ operation I.enbc ∷ codeEnable (S .word) w hs)
-        (i + 2 + sizeEnable gs) → r .w ≡ w → AltGoes vars chans (before (ALT gs) k) hi′ μ j r
+        (i + 2 + sizeEnable gs) → r .w ≡ w → AltWay vars chans (before (ALT gs) k) w hi′ μ j r
     unfolding functionIn operandIn
     enable-input e d x s hs {hi′} {m} {μ} l f n g₁ (at p₁ (at p₂ (at p₃ g₂))) q =
         let o = less (S .word d) w in
         let vd : low (w + o) ≡ S .word d = local-word w (S .word d) alt-wide (v .chans-word d (f .2)) in
         let bound : S .off (suc (suc (suc m))) ≤ hi′ = alt-bound (suc (suc m)) l (omega (arith, c .choice-is, seg-length g₂)) in
-        through-at alt-wide v (before (ALT gs) k) e (f .0) g₁ q (λ r′ val q′.
+        through-guard (before (ALT gs) k) e (f .0) g₁ q (λ ν r′ same val q′.
         quiet (pointing o) p₁ (quiet-ldlp o)
         (quiet reversing p₂ quiet-rev
         (arrived
-        (at-w (AltPoint S a st vars chans (before (ALT gs) k) hi′ μ _) (reversing (pointing o r′)) q′
-        (pt-enable c l n (e-input p₃ val (rw q′ vd) g₂))) bound)))
+        (at-w (reversing (pointing o r′)) q′
+        (pt-enable c l (enabling-kept same n) (e-input p₃ val (rw q′ vd) g₂))) bound)))
 
     -- past a condition, to ENBS
-    enable-skip : (e : Whole) (s : Stmt) (hs : Guards) {hi′ j m : ℕ} {μ : Mem} {r : Regs} → hi ≤ hi′
+    enable-skip : (e : Expr) (s : Stmt) (hs : Guards) {hi′ j m : ℕ} {μ : Mem} {r : Regs} → hi ≤ hi′
         → FineGuards (S .word) a vars chans (w + 1) (skipGuard e s hs) → Enabling S a st vars chans gs (skipGuard e s hs) μ w
-        → Seg (S .xs) j (wholeCode (S .word) w e) m → Seg (S .xs) m (operation I.enbs ∷ codeEnable (S .word) w hs) (i + 2 + sizeEnable gs)
-        → r .w ≡ w → AltGoes vars chans (before (ALT gs) k) hi′ μ j r
+        → Seg (S .xs) j (guardCode (S .word) w e) m → Seg (S .xs) m (operation I.enbs ∷ codeEnable (S .word) w hs) (i + 2 + sizeEnable gs)
+        → r .w ≡ w → AltWay vars chans (before (ALT gs) k) w hi′ μ j r
     enable-skip e s hs {hi′} {m} {μ} l f n g₁ (at p₁ g₂) q =
         let bound : S .off (suc m) ≤ hi′ = alt-bound m l (omega (arith, c .choice-is, seg-length g₂)) in
-        through-at alt-wide v (before (ALT gs) k) e (f .0) g₁ q (λ r′ val q′.
-        arrived (at-w (AltPoint S a st vars chans (before (ALT gs) k) hi′ μ _) r′ q′ (pt-enable c l n (e-skip p₁ val g₂))) bound)
+        through-guard (before (ALT gs) k) e (f .0) g₁ q (λ ν r′ same val q′.
+        arrived (at-w r′ q′ (pt-enable c l (enabling-kept same n) (e-skip p₁ val g₂))) bound)
 
     -- the enabling of the rest of the guards leads to the next ENBC or ENBS, or to ALTWT
     pub enable-way : (hs : Guards) {hi′ j : ℕ} {μ : Mem} {r : Regs} → hi ≤ hi′ → FineGuards (S .word) a vars chans (w + 1) hs
         → Enabling S a st vars chans gs hs μ w → Seg (S .xs) j (codeEnable (S .word) w hs) (i + 2 + sizeEnable gs) → r .w ≡ w
-        → AltGoes vars chans (before (ALT gs) k) hi′ μ j r
+        → AltWay vars chans (before (ALT gs) k) w hi′ μ j r
     unfolding codeEnable
     enable-way noGuard {hi′} {μ} {r} l f n nil q =
-        arrived (at-w (AltPoint S a st vars chans (before (ALT gs) k) hi′ μ _) r q (pt-wait c n))
+        arrived (at-w r q (pt-wait c n))
         (alt-bound (i + 2 + sizeEnable gs) l (omega (arith, c .choice-is)))
-    enable-way (inputGuard e d x s hs) l f n g q = elim (apart (wholeCode (S .word) w e) g) [
+    enable-way (inputGuard e d x s hs) l f n g q = elim (apart (guardCode (S .word) w e) g) [
       | split g₁ g₂ ↦ enable-input e d x s hs l f n g₁ g₂ q
     ]
-    enable-way (skipGuard e s hs) l f n g q = elim (apart (wholeCode (S .word) w e) g) [ split g₁ g₂ ↦ enable-skip e s hs l f n g₁ g₂ q ]
+    enable-way (skipGuard e s hs) l f n g q = elim (apart (guardCode (S .word) w e) g) [ split g₁ g₂ ↦ enable-skip e s hs l f n g₁ g₂ q ]
 
     -- past a condition, to DISC
-    disable-input : (e : Whole) (d x : Site) (s : Stmt) (hs : Guards) {hi′ j b m : ℕ} {μ : Mem} {r : Regs} → hi ≤ hi′
+    disable-input : (e : Expr) (d x : Site) (s : Stmt) (hs : Guards) {hi′ j b m : ℕ} {μ : Mem} {r : Regs} → hi ≤ hi′
         → FineGuards (S .word) a vars chans (w + 1) (inputGuard e d x s hs) → Rest gs (c .choice + 1) (inputGuard e d x s hs) b
-        → Disabling S a st vars chans k gs (inputGuard e d x s hs) (c .choice) μ w → Seg (S .xs) j (wholeCode (S .word) w e) m
+        → Disabling S a st vars chans k gs (inputGuard e d x s hs) (c .choice) μ w → Seg (S .xs) j (guardCode (S .word) w e) m
         → Seg (S .xs) m
         (plain ldlp (local (S .word) w d)
         ∷ operation I.rev
         ∷ distance ldc b (c .choice)
         ∷ operation I.disc
         ∷ codeDisable (S .word) w (c .choice) (b + 1 + 4 + size s + 1) hs)
-        (c .choice) → r .w ≡ w → AltGoes vars chans (atAlt gs k) hi′ μ j r
+        (c .choice) → r .w ≡ w → AltWay vars chans (atAlt gs k) w hi′ μ j r
     unfolding functionIn operandIn
     disable-input e d x s hs {hi′} {b} {m} {μ} l f t n g₁ (at p₁ (at p₂ (at p₃ (at p₄ g₂)))) q =
         let o = less (S .word d) w in
         let z = less (S .off b) (S .off (suc (c .choice))) in
         let vd : low (w + o) ≡ S .word d = local-word w (S .word d) alt-wide (v .chans-word d (f .2)) in
         let bound : S .off (suc (suc (suc (suc m)))) ≤ hi′ = alt-bound (suc (suc (suc m))) l (omega (arith, seg-length g₂)) in
-        through-at alt-wide v (atAlt gs k) e (f .0) g₁ q (λ r′ val q′.
+        through-guard (atAlt gs k) e (f .0) g₁ q (λ ν r′ same val q′.
         quiet (pointing o) p₁ (quiet-ldlp o)
         (quiet reversing p₂ quiet-rev
         (quiet (pushing z) p₃ (quiet-ldc z)
-        (arrived (at-w (AltPoint S a st vars chans (atAlt gs k) hi′ μ _) (pushing z (reversing (pointing o r′))) q′
-        (pt-disable c l t n (d-input p₄ refl val (rw q′ vd) g₂)))
+        (arrived (at-w (pushing z (reversing (pointing o r′))) q′
+        (pt-disable c l t (disabling-kept same n) (d-input p₄ refl val (rw q′ vd) g₂)))
         bound))))
 
     -- past a condition, to DISS
-    disable-skip : (e : Whole) (s : Stmt) (hs : Guards) {hi′ j b m : ℕ} {μ : Mem} {r : Regs} → hi ≤ hi′
+    disable-skip : (e : Expr) (s : Stmt) (hs : Guards) {hi′ j b m : ℕ} {μ : Mem} {r : Regs} → hi ≤ hi′
         → FineGuards (S .word) a vars chans (w + 1) (skipGuard e s hs) → Rest gs (c .choice + 1) (skipGuard e s hs) b
-        → Disabling S a st vars chans k gs (skipGuard e s hs) (c .choice) μ w → Seg (S .xs) j (wholeCode (S .word) w e) m
+        → Disabling S a st vars chans k gs (skipGuard e s hs) (c .choice) μ w → Seg (S .xs) j (guardCode (S .word) w e) m
         → Seg (S .xs) m
         (distance ldc b (c .choice) ∷ operation I.diss ∷ codeDisable (S .word) w (c .choice) (b + 1 + size s + 1) hs) (c .choice)
-        → r .w ≡ w → AltGoes vars chans (atAlt gs k) hi′ μ j r
+        → r .w ≡ w → AltWay vars chans (atAlt gs k) w hi′ μ j r
     unfolding functionIn operandIn
     disable-skip e s hs {hi′} {b} {m} {μ} l f t n g₁ (at p₁ (at p₂ g₂)) q =
         let z = less (S .off b) (S .off (suc (c .choice))) in
         let bound : S .off (suc (suc m)) ≤ hi′ = alt-bound (suc m) l (omega (arith, seg-length g₂)) in
-        through-at alt-wide v (atAlt gs k) e (f .0) g₁ q (λ r′ val q′.
+        through-guard (atAlt gs k) e (f .0) g₁ q (λ ν r′ same val q′.
         quiet (pushing z) p₁ (quiet-ldc z)
-        (arrived (at-w (AltPoint S a st vars chans (atAlt gs k) hi′ μ _) (pushing z r′) q′ (pt-disable c l t n (d-skip p₂ refl val g₂)))
+        (arrived (at-w (pushing z r′) q′ (pt-disable c l t (disabling-kept same n) (d-skip p₂ refl val g₂)))
         bound))
 
     -- the disabling of the rest of the guards leads to the next DISC or DISS, or to ALTEND
     pub disable-way : (hs : Guards) {hi′ j b : ℕ} {μ : Mem} {r : Regs} → hi ≤ hi′ → FineGuards (S .word) a vars chans (w + 1) hs
         → Rest gs (c .choice + 1) hs b → Disabling S a st vars chans k gs hs (c .choice) μ w
         → Seg (S .xs) j (codeDisable (S .word) w (c .choice) b hs) (c .choice) → r .w ≡ w
-        → AltGoes vars chans (atAlt gs k) hi′ μ j r
+        → AltWay vars chans (atAlt gs k) w hi′ μ j r
     unfolding codeDisable
-    disable-way noGuard {hi′} {μ} {r} l f t n nil q = arrived (at-w (AltPoint S a st vars chans (atAlt gs k) hi′ μ _) r q (pt-choose c n))
+    disable-way noGuard {hi′} {μ} {r} l f t n nil q = arrived (at-w r q (pt-choose c n))
         (alt-bound (c .choice) l (omega arith))
-    disable-way (inputGuard e d x s hs) l f t n g q = elim (apart (wholeCode (S .word) w e) g) [
+    disable-way (inputGuard e d x s hs) l f t n g q = elim (apart (guardCode (S .word) w e) g) [
       | split g₁ g₂ ↦ disable-input e d x s hs l f t n g₁ g₂ q
     ]
-    disable-way (skipGuard e s hs) l f t n g q = elim (apart (wholeCode (S .word) w e) g) [
+    disable-way (skipGuard e s hs) l f t n g q = elim (apart (guardCode (S .word) w e) g) [
       | split g₁ g₂ ↦ disable-skip e s hs l f t n g₁ g₂ q
     ]
 
@@ -276,16 +339,18 @@ module _ (S : Setting) (a : Part) (st : State) where
         → AltGoes vars chans (before (ALT gs) k) hi′ μ (i + 2) r
     enable-first l n q =
         let e : w + 1 - 1 ≡ w = omega arith in
-        enable-way gs l (c .fine .1) n
-        (subst (λ z. Seg (S .xs) (i + 2) (codeEnable (S .word) z gs) (i + 2 + sizeEnable gs)) e (c .enables)) q
+        alt-goes w
+        (enable-way gs l (c .fine .1) n
+        (subst (λ z. Seg (S .xs) (i + 2) (codeEnable (S .word) z gs) (i + 2 + sizeEnable gs)) e (c .enables)) q)
 
     pub disable-first : {hi′ : ℕ} {μ : Mem} {r : Regs} → hi ≤ hi′ → Disabling S a st vars chans k gs gs (c .choice) μ w → r .w ≡ w
         → AltGoes vars chans (atAlt gs k) hi′ μ (i + 2 + sizeEnable gs + 1) r
     disable-first l n q =
         let e : w + 1 - 1 ≡ w = omega arith in
-        disable-way gs l (c .fine .1) rest-all n
+        alt-goes w
+        (disable-way gs l (c .fine .1) rest-all n
         (subst (λ z. Seg (S .xs) (i + 2 + sizeEnable gs + 1) (codeDisable (S .word) z (c .choice) (c .choice + 1) gs) (c .choice)) e
-        (c .disables)) q
+        (c .disables)) q)
 
   -- AJW leads on
   raise : {vars chans : List Site} {hi i n w : ℕ} {p : Process} → At S i (plain ajw n) → w + n < 2 ^ 32 → a .bottom + 2 ≤ w
@@ -498,7 +563,7 @@ module _ (S : Setting) (σ : Store) where
   -- the path to the start of the branch s of a PAR
   abbrev pub Starts : (s : Stmt) (ss : Stmts) (d b first w : ℕ) (hi : ℕ) (μ : Mem) (i : ℕ) (r : Regs) → Type 0
   Starts s ss d b first w hi μ i r =
-      Way (S .xs) (S .off) (S .word) (λ hi μ i r. StartPoint S s ss d b first w i r) ⊥ σ (λ x. ⊥) (λ w. ⊥) hi μ i r
+      Way (S .xs) (S .off) (S .word) (λ hi μ i r. StartPoint S s ss d b first w i r) ⊥ σ (λ x. ⊥) (λ v. ⊥) (λ w. ⊥) hi μ i r
 
   pub start-path : (s : Stmt) (ss : Stmts) (d b : ℕ) {first w hi j : ℕ} {μ : Mem} {r : Regs} → whole S < 2 ^ 32 → w < 2 ^ 32
       → Seg (S .xs) j (codeStarts (S .word) d j b (stmt s ss)) first → d ≤ w → b ≤ length (S .xs) → first ≤ length (S .xs)

@@ -8,16 +8,16 @@ use mathlib.Core.Bool.{true, false}
 use mathlib.Core.List.{List, [], _∷_, _++_, List·Memᴰ}
 use borrow.Author.Tests.{ne-eqb}
 use Rattle.model.specs.Word.{notProcess}
-use Rattle.model.specs.Syntax.{Site, Whole, Guards, output}
+use Rattle.model.specs.Syntax.{Site, Expr, Guards, output}
 use Rattle.model.specs.Instruction.{plain, operation}
 use Rattle.model.specs.Instruction as I
 use Rattle.model.specs.Code.{functionIn, operandIn}
 use Rattle.model.specs.Machine.{World, release, _>>_, resumeWord, stateWord}
-use Rattle.model.specs.Occam.{value, isTrue, store, Frame, Process, before, atInput, atOutput, atAlt, resume, go, put, State}
+use Rattle.model.specs.Occam.{eval, isTrue, store, Frame, Process, before, atInput, atOutput, atAlt, resume, go, put, State}
 use Rattle.model.specs.Occam.{over-channel, Sender, process, Step, begins, communicates}
 use Rattle.model.specs.Demand.{step}
 use Rattle.model.proofs.Cases.{never}
-use Rattle.model.proofs.Ways.{Mem}
+use Rattle.model.proofs.Ways.{upd-same, upd-other, upd, Mem}
 use Rattle.model.proofs.Points.{whole, At}
 use Rattle.model.proofs.Arrive.{inside, up}
 use Rattle.model.proofs.Paths.{l-input, l-output, leaf-resume, live-resume, silent-resume, same-path, look-put-same, put-put-same}
@@ -28,11 +28,11 @@ use Rattle.model.proofs.Marks.{Own, Ready, r-input, r-skip, r-past-inpu
 use Rattle.model.proofs.Marks.{p-past-skip, Guarded, AltCode, Marked, Disabling}
 use Rattle.model.proofs.Arrivals.{arrives}
 use Rattle.model.proofs.Trees.{alone, Info, Sits, Tree, bytesLeft}
-use Rattle.model.proofs.Leaves.{upd, member, Unmarked, Resumes, Waits, Held, h-output, h-woken}
+use Rattle.model.proofs.Leaves.{member, Unmarked, Resumes, Waits, Held, h-output, h-woken}
 use Rattle.model.proofs.Effects.{cpuOf, stored}
 use Rattle.model.proofs.Acts.{parked, exec-out-wait, exec-out-alt, exec-out-receiver, notify-waiting, notify-other}
 use Rattle.model.proofs.Kernel.{Loaded, S, root, size, LeafAt, owned, Rest, Lined, Real}
-use Rattle.model.proofs.Writes.{upd-same, upd-other, changed, after-leaf, after-lined, node, apart-parts, apart-zones, own-one}
+use Rattle.model.proofs.Writes.{changed, after-leaf, after-lined, node, apart-parts, apart-zones, own-one}
 use Rattle.model.proofs.Writes.{part-small, sits-at, write-var, write-chan}
 use Rattle.model.proofs.Puts.{putting, treeThen, here-then, other-then, lined-then, rest-then, sender-then}
 use Rattle.model.proofs.Grounds.{var-in, chan-in, small-size, sound-at}
@@ -77,10 +77,10 @@ no-alt-state v h =
       ne-eqb v ready (λ e. absurd (omega arith)),
     )
 
-module _ (L : Loaded) {s : World} {st : State} {μ : Mem} {t : Tree (S L) (root L) (st .process)} {path : List ℕ} {c : Site} {e : Whole}
+module _ (L : Loaded) {s : World} {st : State} {μ : Mem} {t : Tree (S L) (root L) (st .process)} {path : List ℕ} {c : Site} {e : Expr}
     {k : List Frame} {b : Part} {i : Info} {ws : List ℕ} {at hi h : ℕ}
-    (A : Acting L s st μ t path (before (output c e) k) b i (Only path) ws at hi) (ea : cpuOf s .a ≡ value (st .store) e)
-    (small : value (st .store) e < 2 ^ 32) (eb : cpuOf s .b ≡ S L .word c)
+    (A : Acting L s st μ t path (before (output c e) k) b i (Only path) ws at hi) (ea : cpuOf s .a ≡ eval (st .store) e)
+    (small : eval (st .store) e < 2 ^ 32) (eb : cpuOf s .b ≡ S L .word c)
     (f : Fine (S L .word) b (i .vars) (i .chans) (cpuOf s .workspace + 1) (output c e)) (lifts : At (S L) (suc at) (plain I.ajw 1))
     (cont : Cont (S L) b h (i .vars) (i .chans) k (suc (suc at)) (cpuOf s .workspace + 1)) (near : h ≤ whole (S L) + L .off at)
     (clean : Unmarked (S L) b i st μ) where
@@ -88,7 +88,7 @@ module _ (L : Loaded) {s : World} {st : State} {μ : Mem} {t : Tree (S L) (root 
   w = cpuOf s .workspace
 
   abbrev z : ℕ
-  z = value (st .store) e
+  z = eval (st .store) e
 
   space : b .bottom + 3 ≤ w
   space = omega (arith, f .0)

@@ -17,7 +17,7 @@ use Rattle.model.specs.Machine.{World, withCpu}
 use Rattle.model.specs.Execute.{pop}
 use Rattle.model.specs.Occam.{Store, Frame, Process, before, inPar, begin, branches, go, put, State, Step, begins}
 use Rattle.model.specs.Demand.{step}
-use Rattle.model.proofs.Ways.{pushing, Mem, arrived, quiet, quiet-ldc}
+use Rattle.model.proofs.Ways.{upd-same, upd-other, upd, pushing, Mem, arrived, quiet, quiet-ldc}
 use Rattle.model.proofs.Expr.{Seg, at, seg-length}
 use Rattle.model.proofs.Points.{Setting, whole, At}
 use Rattle.model.proofs.Arrive.{inside, rises-le}
@@ -29,10 +29,10 @@ use Rattle.model.proofs.Marks.{ParCode, pt-par-count}
 use Rattle.model.proofs.Arrivals.{Comes}
 use Rattle.model.proofs.Onwards.{Started, all-start, ends-next, start-path}
 use Rattle.model.proofs.Trees.{distanceOf, Info, newInfo, Tree, bytesLeft}
-use Rattle.model.proofs.Leaves.{upd, Unmarked}
+use Rattle.model.proofs.Leaves.{Unmarked}
 use Rattle.model.proofs.Effects.{cpuOf, stored, exec-stl}
 use Rattle.model.proofs.Kernel.{Loaded, S, root, LeafAt, Rest, Lined, Real}
-use Rattle.model.proofs.Writes.{upd-same, upd-other, part-small}
+use Rattle.model.proofs.Writes.{part-small}
 use Rattle.model.proofs.Grounds.{small-size, sound-at}
 use Rattle.model.proofs.Traces.{t-none, t-step}
 use Rattle.model.proofs.Running.{Only, Births, Later, l-here, l-next, unborn, Starting, fresh, Birth, starts, Did}

@@ -1,15 +1,16 @@
 -- Parts of a program that one process runs: the whole program, or a branch of a PAR. What a part may touch, and which statements are
 -- well-formed in it for a scope and laid out at a workspace.
-use Prim.Native.Nat.{ℕ, _+_, _-_, _≤_, _<_}
+use Prim.Native.Nat.{ℕ, zero, suc, _+_, _-_, _≤_, _<_}
 use native.Mathlib.Omega.{arith}
 use mathlib.Core.Path.{_≡_, refl}
 use mathlib.Core.Logic.{_⊎_}
 use mathlib.Core.List.{List, [], _++_, List·Memᴰ}
-use Rattle.model.specs.Syntax.{Site, declared, Whole, Stmt, SKIP, STOP, assign, input, output, VAR, CHAN, SEQ, PAR, IF, WHILE, ALT}
+use Rattle.model.specs.Syntax.{Site, declared, Expr, Stmt, SKIP, STOP, assign, input, output, VAR, CHAN, SEQ, PAR, IF, WHILE, ALT}
 use Rattle.model.specs.Syntax.{Stmts, noStmt, stmt, Pairs, noPair, pair, Guards, noGuard, inputGuard, skipGuard}
 use Rattle.model.specs.Reader.{names}
-use Rattle.model.specs.Counts.{registers, need, sumNeed}
+use Rattle.model.specs.Counts.{temporaries, need, sumNeed}
 use Rattle.model.specs.Usage.{usage}
+use Rattle.model.specs.Scheme.{altWords}
 use Rattle.model.proofs.Values.{FineExpr}
 
 -- every statement needs two words at least
@@ -123,9 +124,19 @@ pub record Inside (b a : Part) : Type 0 where
   pub inputs : Within (b .inputs) (a .inputs)
   pub outputs : Within (b .outputs) (a .outputs)
 
--- an expression of a part: its variables are in scope and read, and it needs three registers at most
-abbrev pub FineWhole : Part → List Site → Whole → Type 0
-FineWhole a vars e = FineExpr vars (e .expr) × FineExpr (a .reads) (e .expr) × (registers (e .expr) ≤ 3)
+-- by how much W is lowered for t stored values and so many words more: not at all without stored values
+unfoldable pub lowered : (t more : ℕ) → ℕ
+lowered zero more = 0
+lowered (suc t) more = suc t + more
+
+-- an expression of a part at a workspace: its variables are in scope and read, and there is room for its stored values and so many words
+-- more
+abbrev pub FineWhole : Part → List Site → (w more : ℕ) → Expr → Type 0
+FineWhole a vars w more e = FineExpr vars e × FineExpr (a .reads) e × (a .bottom + lowered (temporaries e) more ≤ w)
+
+-- the words of an ALT above the stored values of its guards: its own, and the one below which it stands
+abbrev pub guardRoom : ℕ
+guardRoom = suc altWords
 
 -- a variable that a part may change
 abbrev pub Target : Part → List Site → Site → Type 0
@@ -141,9 +152,9 @@ module _ (word : Site → ℕ) where
     pub Fine : Part → (vars chans : List Site) (w : ℕ) → Stmt → Type 0
     Fine a vars chans w SKIP = Unit {0}
     Fine a vars chans w STOP = a .bottom + 2 ≤ w
-    Fine a vars chans w (assign x e) = Target a vars x × FineWhole a vars e
+    Fine a vars chans w (assign x e) = Target a vars x × FineWhole a vars w 0 e
     Fine a vars chans w (input c x) = (a .bottom + 3 ≤ w) × Target a vars x × List·Memᴰ c chans × List·Memᴰ c (a .inputs)
-    Fine a vars chans w (output c e) = (a .bottom + 4 ≤ w) × FineWhole a vars e × List·Memᴰ c chans × List·Memᴰ c (a .outputs)
+    Fine a vars chans w (output c e) = (a .bottom + 4 ≤ w) × FineWhole a vars w 0 e × List·Memᴰ c chans × List·Memᴰ c (a .outputs)
     Fine a vars chans w (VAR p n s) =
         (1 ≤ n)
         × (a .bottom + n + 2 ≤ w)
@@ -155,7 +166,7 @@ module _ (word : Site → ℕ) where
     Fine a vars chans w (SEQ ss) = FineAll a vars chans w ss
     Fine a vars chans w (PAR p ss) = (a .bottom + 2 + sumNeed ss ≤ w) × FineBranches a vars chans (w - 2) 0 ss
     Fine a vars chans w (IF ps) = (a .bottom + 2 ≤ w) × FinePairs a vars chans w ps
-    Fine a vars chans w (WHILE e s) = (a .bottom + 2 ≤ w) × FineWhole a vars e × Fine a vars chans w s
+    Fine a vars chans w (WHILE e s) = (a .bottom + 2 ≤ w) × FineWhole a vars w 0 e × Fine a vars chans w s
     Fine a vars chans w (ALT gs) = (a .bottom + 4 ≤ w) × FineGuards a vars chans w gs
 
     pub FineAll : Part → (vars chans : List Site) (w : ℕ) → Stmts → Type 0
@@ -176,15 +187,15 @@ module _ (word : Site → ℕ) where
 
     pub FinePairs : Part → (vars chans : List Site) (w : ℕ) → Pairs → Type 0
     FinePairs a vars chans w noPair = Unit {0}
-    FinePairs a vars chans w (pair e s ps) = FineWhole a vars e × Fine a vars chans w s × FinePairs a vars chans w ps
+    FinePairs a vars chans w (pair e s ps) = FineWhole a vars w 0 e × Fine a vars chans w s × FinePairs a vars chans w ps
 
     pub FineGuards : Part → (vars chans : List Site) (w : ℕ) → Guards → Type 0
     FineGuards a vars chans w noGuard = Unit {0}
     FineGuards a vars chans w (inputGuard e c x s gs) =
-        FineWhole a vars e
+        FineWhole a vars w guardRoom e
         × Target a vars x
         × List·Memᴰ c chans
         × List·Memᴰ c (a .inputs)
         × Fine a vars chans w s
         × FineGuards a vars chans w gs
-    FineGuards a vars chans w (skipGuard e s gs) = FineWhole a vars e × Fine a vars chans w s × FineGuards a vars chans w gs
+    FineGuards a vars chans w (skipGuard e s gs) = FineWhole a vars w guardRoom e × Fine a vars chans w s × FineGuards a vars chans w gs

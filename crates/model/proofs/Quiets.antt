@@ -1,4 +1,4 @@
--- Instructions that bring no step: loads and arithmetic, jumps, and J at the end of a slice.
+-- Instructions that bring no step: loads and arithmetic, storing a value and loading it again, jumps, and J at the end of a slice.
 use Prim.Native.Nat.{ℕ, suc, _+_, _-_, _≤_, _<_}
 use native.Mathlib.Omega.{arith}
 use native.Mathlib.Decide.{decLt}
@@ -6,28 +6,29 @@ use mathlib.Core.Path.{_≡_, refl, sym, _∙_, subst}
 use mathlib.Core.Logic.{inl}
 use mathlib.Core.Bool.{true}
 use mathlib.Core.List.{List, List·Memᴰ}
-use lib.ListN.{length, getD}
+use lib.ListN.{length}
 use Rattle.model.specs.Word.{low, less}
 use Rattle.model.specs.Syntax.{Site}
 use Rattle.model.specs.Instruction.{Instruction, plain, distance}
 use Rattle.model.specs.Instruction as I
 use Rattle.model.specs.Code.{functionIn, operandIn}
 use Rattle.model.specs.Machine.{World, withCpu, goto, resumeWord}
-use Rattle.model.specs.Execute.{push}
+use Rattle.model.specs.declared.Cpu.{Cpu}
+use Rattle.model.specs.Execute.{push, pop}
 use Rattle.model.specs.Occam.{Process, State}
-use Rattle.model.proofs.Ways.{Regs, regsOf, load, Quiet, pushing, Mem}
+use Rattle.model.proofs.Ways.{upd-same, upd-other, upd, Regs, regsOf, load, Quiet, pushing, popping, Mem}
 use Rattle.model.proofs.Arrive.{inside}
 use Rattle.model.proofs.Parts.{Part}
 use Rattle.model.proofs.Conts.{Placed}
-use Rattle.model.proofs.Marks.{Settled, s-none}
+use Rattle.model.proofs.Marks.{Own, Spare, Settled, s-none}
 use Rattle.model.proofs.Arrivals.{Goes, comes}
-use Rattle.model.proofs.Onwards.{AltGoes}
+use Rattle.model.proofs.Onwards.{AltWay, alt-goes}
 use Rattle.model.proofs.Trees.{Info, Tree, bytesLeft}
-use Rattle.model.proofs.Leaves.{upd, Unmarked, Held, h-queued}
-use Rattle.model.proofs.Effects.{cpuOf, stored, exec-ldl, exec-cj-jumps, exec-j}
+use Rattle.model.proofs.Leaves.{Unmarked, Held, h-queued}
+use Rattle.model.proofs.Effects.{cpuOf, stored, exec-ldl, exec-stl, exec-cj-jumps, exec-j}
 use Rattle.model.proofs.Acts.{exec-j-over, testPlace-in}
 use Rattle.model.proofs.Kernel.{Loaded, S, root, size, LeafAt, Rest, Real}
-use Rattle.model.proofs.Writes.{upd-same, upd-other, node, part-small, sits-at, write-own, left-out}
+use Rattle.model.proofs.Writes.{node, part-small, sits-at, write-own, left-out}
 use Rattle.model.proofs.Grounds.{var-in, small-size}
 use Rattle.model.proofs.Traces.{t-none}
 use Rattle.model.proofs.Running.{Only, Nobody, off-small, Did, Executes, executes, Acting}
@@ -43,52 +44,6 @@ reached a t h k = omega arith
 
 module _ (L : Loaded) {s : World} {st : State} {μ : Mem} {t : Tree (S L) (root L) (st .process)} {path : List ℕ} {q : Process} {b : Part}
     {i : Info} {ws : List ℕ} {at hi : ℕ} (A : Acting L s st μ t path q b i (Only path) ws at hi) where
-  -- registers change
-  pub pass-quiet : {x : Instruction} (g : Regs → Regs) → Quiet (L .off (suc at)) (functionIn x) (operandIn (L .off) x) g
-      → Goes (S L) b (st .store) (i .vars) (i .chans) q hi μ (suc at) (g (regsOf (cpuOf s))) → Settled q → Unmarked (S L) b i st μ
-      → Did L (Executes L x s) s st (bytesLeft (S L) t)
-  pass-quiet g calm way settled clean =
-      let r = load (g (regsOf (cpuOf s))) (cpuOf s) in
-      goes-on L A (withCpu r s) (executes (calm s (A .placed))) refl (real-cpu L r refl refl refl (A .real)) (A .run) (A .operand)
-      (A .rest) (A .lined) (suc at) hi
-      (A .placed) (A .inside) (omega arith) way settled clean
-
-  pub pass-alt : {x : Instruction} (g : Regs → Regs) → Quiet (L .off (suc at)) (functionIn x) (operandIn (L .off) x) g
-      → AltGoes (S L) b st (i .vars) (i .chans) q hi μ (suc at) (g (regsOf (cpuOf s))) → Did L (Executes L x s) s st (bytesLeft (S L) t)
-  pass-alt g calm way =
-      let r = load (g (regsOf (cpuOf s))) (cpuOf s) in
-      alt-goes-on L A (withCpu r s) (executes (calm s (A .placed))) refl (real-cpu L r refl refl refl (A .real)) (A .run)
-      (A .operand) (A .rest) (A .lined)
-      (suc at) hi (A .placed) (A .inside) (omega arith) way
-
-  -- LDL
-  module _ (o : ℕ) (y : Site) (named : low (cpuOf s .workspace + o) ≡ S L .word y) (mine : List·Memᴰ y (i .vars)) where
-    in-memory : S L .word y < size L
-    in-memory = omega (arith, var-in L (node L (A .leaf)) y mine)
-
-    loaded : getD (s .memory) (S L .word y) 0 ≡ st .store y
-    loaded = mirrored L (A .real) (S L .word y) in-memory (sym (A .rest .vars (node L (A .leaf)) y mine .0))
-
-    did-load : Executes L (plain I.ldl o) s (withCpu (push (st .store y) (cpuOf s)) s)
-    unfolding functionIn operandIn
-    did-load = executes (exec-ldl o (S L .word y) s named (rw (size-is L (A .real)) in-memory) ∙ rw loaded)
-
-    pub pass-loads : Goes (S L) b (st .store) (i .vars) (i .chans) q hi μ (suc at) (pushing (st .store y) (regsOf (cpuOf s))) → Settled q
-        → Unmarked (S L) b i st μ → Did L (Executes L (plain I.ldl o) s) s st (bytesLeft (S L) t)
-    pass-loads way settled clean =
-        let r = push (st .store y) (cpuOf s) in
-        goes-on L A (withCpu r s) did-load refl (real-cpu L r refl refl refl (A .real)) (A .run) (A .operand)
-        (A .rest) (A .lined) (suc at) hi
-        (A .placed) (A .inside) (omega arith) way settled clean
-
-    pub pass-alt-loads : AltGoes (S L) b st (i .vars) (i .chans) q hi μ (suc at) (pushing (st .store y) (regsOf (cpuOf s)))
-        → Did L (Executes L (plain I.ldl o) s) s st (bytesLeft (S L) t)
-    pass-alt-loads way =
-        let r = push (st .store y) (cpuOf s) in
-        alt-goes-on L A (withCpu r s) did-load refl (real-cpu L r refl refl refl (A .real)) (A .run) (A .operand)
-        (A .rest) (A .lined) (suc at) hi
-        (A .placed) (A .inside) (omega arith) way
-
   -- the byte that a distance from here reaches
   pub target : (k : ℕ) → k ≤ length (S L .xs) → low (cpuOf s .place + less (L .off k) (L .off (suc at))) ≡ L .off k
   target k h =
@@ -96,26 +51,88 @@ module _ (L : Loaded) {s : World} {st : State} {μ : Mem} {t : Tree (S L) (root 
       (reached (L .off (suc at)) (L .off k) (omega (arith, off-small L (suc at) (A .inside), L .code-small))
       (omega (arith, off-small L k h, L .code-small)))
 
-  -- CJ with a false condition, on the way
-  pub pass-falls : {k : ℕ} → k ≤ length (S L .xs) → cpuOf s .a ≡ 0 → L .off (suc at) ≤ L .off k
-      → Goes (S L) b (st .store) (i .vars) (i .chans) q hi μ k (regsOf (cpuOf s)) → Settled q → Unmarked (S L) b i st μ
-      → Did L (Executes L (distance I.cj k at) s) s st (bytesLeft (S L) t)
-  unfolding functionIn operandIn
-  pass-falls {k} h z f way settled clean =
-      let r = goto (low (cpuOf s .place + less (L .off k) (L .off (suc at)))) (cpuOf s) in
-      goes-on L A (withCpu r s) (executes (exec-cj-jumps _ s z)) refl (real-cpu L r refl refl refl (A .real)) (A .run) (A .operand)
-      (A .rest) (A .lined) k hi
-      (target k h) h (omega arith) way settled clean
+  -- what a path of some kind needs to go on: the world after an instruction shows a memory in which no channel word is another
+  abbrev pub Carries : (ℕ → Mem → ℕ → Regs → Type 0) → Type 0
+  Carries G =
+      (x : Instruction) (u : World) (ν : Mem) → Executes L x s u → u .talk ≡ s .talk → Real L u st ν ws → cpuOf u .running ≡ true
+      → cpuOf u .operand ≡ 0 → Rest L st ν t (Only path) ws → (nx : ℕ) → cpuOf u .place ≡ L .off nx → nx ≤ length (S L .xs)
+      → L .off (suc at) ≤ L .off nx → ((c : Site) → List·Memᴰ c (i .chans) → ν (S L .word c) ≡ μ (S L .word c))
+      → G hi ν nx (regsOf (cpuOf u)) → Did L (Executes L x s) s st (bytesLeft (S L) t)
 
-  pub pass-alt-falls : {k : ℕ} → k ≤ length (S L .xs) → cpuOf s .a ≡ 0 → L .off (suc at) ≤ L .off k
-      → AltGoes (S L) b st (i .vars) (i .chans) q hi μ k (regsOf (cpuOf s))
-      → Did L (Executes L (distance I.cj k at) s) s st (bytesLeft (S L) t)
-  unfolding functionIn operandIn
-  pass-alt-falls {k} h z f way =
-      let r = goto (low (cpuOf s .place + less (L .off k) (L .off (suc at)))) (cpuOf s) in
-      alt-goes-on L A (withCpu r s) (executes (exec-cj-jumps _ s z)) refl (real-cpu L r refl refl refl (A .real))
-      (A .run) (A .operand) (A .rest)
-      (A .lined) k hi (target k h) h (omega arith) way
+  -- a path to the next significant instruction, and one inside an ALT
+  pub carries-goes : Settled q → Unmarked (S L) b i st μ → Carries (Goes (S L) b (st .store) (i .vars) (i .chans) q)
+  carries-goes settled clean x u ν ran talk real run operand rest nx place inner ahead same way =
+      goes-on L A u ran talk real run operand rest (A .lined) nx hi place inner (omega arith) way settled
+      (λ c m o. clean c m (subst (Own b) (same c m) o))
+
+  pub carries-alt : (w : ℕ) → Carries (AltWay (S L) b st (i .vars) (i .chans) q w)
+  carries-alt w x u ν ran talk real run operand rest nx place inner ahead same way =
+      alt-goes-on L A u ran talk real run operand rest (A .lined) nx hi place inner (omega arith) (alt-goes w way)
+
+  module _ (G : ℕ → Mem → ℕ → Regs → Type 0) (carry : Carries G) where
+    -- other registers
+    moves-on : {x : Instruction} (r : Cpu) → r .front ≡ cpuOf s .front → r .back ≡ cpuOf s .back → r .queued ≡ cpuOf s .queued
+        → r .running ≡ true → r .operand ≡ 0 → Executes L x s (withCpu r s) → (nx : ℕ) → r .place ≡ L .off nx → nx ≤ length (S L .xs)
+        → L .off (suc at) ≤ L .off nx → G hi μ nx (regsOf r) → Did L (Executes L x s) s st (bytesLeft (S L) t)
+    moves-on {x} r e₁ e₂ e₃ run operand ran nx place inner ahead way =
+        carry x (withCpu r s) μ ran refl (real-cpu L r e₁ e₂ e₃ (A .real)) run operand (A .rest) nx place inner ahead (λ c m. refl) way
+
+    pub pass-quiet : {x : Instruction} (g : Regs → Regs) → Quiet (L .off (suc at)) (functionIn x) (operandIn (L .off) x) g
+        → G hi μ (suc at) (g (regsOf (cpuOf s))) → Did L (Executes L x s) s st (bytesLeft (S L) t)
+    pass-quiet g calm way =
+        moves-on (load (g (regsOf (cpuOf s))) (cpuOf s)) refl refl refl (A .run) (A .operand) (executes (calm s (A .placed))) (suc at)
+        (A .placed) (A .inside) (omega arith) way
+
+    -- LDL of a word that is known
+    loads-word : (o v z : ℕ) → low (cpuOf s .workspace + o) ≡ v → v < size L → μ v ≡ z
+        → G hi μ (suc at) (pushing z (regsOf (cpuOf s))) → Did L (Executes L (plain I.ldl o) s) s st (bytesLeft (S L) t)
+    unfolding functionIn operandIn
+    loads-word o v z there inner known way =
+        moves-on (push z (cpuOf s)) refl refl refl (A .run) (A .operand)
+        (executes (exec-ldl o v s there (rw (size-is L (A .real)) inner) ∙ rw (mirrored L (A .real) v inner known)))
+        (suc at) (A .placed) (A .inside) (omega arith) way
+
+    -- LDL of a variable
+    pub pass-loads : (o : ℕ) (y : Site) → low (cpuOf s .workspace + o) ≡ S L .word y → List·Memᴰ y (i .vars)
+        → G hi μ (suc at) (pushing (st .store y) (regsOf (cpuOf s))) → Did L (Executes L (plain I.ldl o) s) s st (bytesLeft (S L) t)
+    pass-loads o y named mine way =
+        loads-word o (S L .word y) (st .store y) named (omega (arith, var-in L (node L (A .leaf)) y mine))
+        (sym (A .rest .vars (node L (A .leaf)) y mine .0)) way
+
+    -- a stored value's word
+    module _ (o v : ℕ) (there : low (cpuOf s .workspace + o) ≡ v) (spare : Spare (S L) b (i .vars) (i .chans) v) where
+      spare-in : v < size L
+      spare-in = omega (arith, spare .below, part-small L (A .leaf))
+
+      -- LDL of it
+      pub pass-reloads : G hi μ (suc at) (pushing (μ v) (regsOf (cpuOf s)))
+          → Did L (Executes L (plain I.ldl o) s) s st (bytesLeft (S L) t)
+      pass-reloads way = loads-word o v (μ v) there spare-in refl way
+
+      -- STL into it
+      pub pass-stores : G hi (upd μ v (cpuOf s .a)) (suc at) (popping (regsOf (cpuOf s)))
+          → Did L (Executes L (plain I.stl o) s) s st (bytesLeft (S L) t)
+      unfolding functionIn operandIn
+      pass-stores way =
+          let z = cpuOf s .a in
+          let r = pop (cpuOf s) in
+          carry (plain I.stl o) (withCpu r (stored v z s)) (upd μ v z)
+          (executes (exec-stl o v s there (rw (size-is L (A .real)) spare-in))) refl
+          (real-cpu L r refl refl refl
+          (real-stored L v z spare-in (link-own L (A .lined) (A .leaf) refl v (spare .above) (spare .below)) (A .real)))
+          (A .run) (A .operand)
+          (write-own L (A .leaf) (A .rest) v z (spare .above) (spare .below)
+          (λ x m e. absurd (omega (arith, spare .no-var x m, e))) (λ c m e. absurd (omega (arith, spare .no-chan c m, e))) (left-out refl))
+          (suc at) (A .placed) (A .inside) (omega arith)
+          (λ c m. upd-other μ v z (S L .word c) (λ e. absurd (omega (arith, spare .no-chan c m, e)))) way
+
+    -- CJ with a false condition, on the way
+    pub pass-falls : {k : ℕ} → k ≤ length (S L .xs) → cpuOf s .a ≡ 0 → L .off (suc at) ≤ L .off k → G hi μ k (regsOf (cpuOf s))
+        → Did L (Executes L (distance I.cj k at) s) s st (bytesLeft (S L) t)
+    unfolding functionIn operandIn
+    pass-falls {k} h z f way =
+        moves-on (goto (low (cpuOf s .place + less (L .off k) (L .off (suc at)))) (cpuOf s)) refl refl refl (A .run) (A .operand)
+        (executes (exec-cj-jumps _ s z)) k (target k h) h f way
 
   -- J
   module _ {k hi′ : ℕ} (h : k ≤ length (S L .xs)) (placed : Placed (S L) b (cpuOf s .workspace) (i .vars) (i .chans))

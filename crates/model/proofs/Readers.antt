@@ -9,16 +9,16 @@ use lib.ListN.{length, getElem?, length-drop}
 use lib.Dec.{leb, ltb, eqb}
 use borrow.Author.Tests.{leb-true, ltb-true}
 use Rattle.model.specs.Number.{Number, groups, number}
-use Rattle.model.specs.Syntax.{Site, Expr, Whole, Stmt, Stmts, noStmt, stmt, Pairs, Guards, Program}
+use Rattle.model.specs.Syntax.{Site, Expr, Stmt, Stmts, noStmt, stmt, Pairs, Guards, Program}
 use Rattle.model.specs.Reader.{Parsed, parsed, fails, Reader, onward, pure, refuse, readNumber, oneOf, readCount, Scope, readName}
 use Rattle.model.specs.Reader.{canInput, canOutput, anySite, withVariables, withChannels, ExprKind, isConstant, isVariable, isNot}
-use Rattle.model.specs.Reader.{isBinary, exprKinds, operators, tooDeep, exprOf, readExpr, readWhole, readMany, StmtKind, isSkip}
+use Rattle.model.specs.Reader.{isBinary, exprKinds, operators, tooDeep, exprOf, readExpr, readMany, StmtKind, isSkip}
 use Rattle.model.specs.Reader.{isStop, isAssign, isInput, isOutput, isVar, isChan, isSeq, isPar, isIf, isWhile, isAlt, stmtKinds}
 use Rattle.model.specs.Reader.{GuardKind, isInputGuard, isSkipGuard, guardKinds, Inner, readPair, guardOf, readGuard, stmtOf}
 use Rattle.model.specs.Reader.{readStmt, readProgram, program, readTable}
 use Rattle.model.specs.Scheme.{howMany}
 use Rattle.model.proofs.Cases.{by-bool, by-option, by-parsed, never, is-true}
-use Rattle.model.proofs.Well.{WellExpr, WellWhole, Well, WellAll, WellPairs, WellGuards, WellProgram, Placed, PlacedAll, PlacedPairs}
+use Rattle.model.proofs.Well.{WellExpr, Well, WellAll, WellPairs, WellGuards, WellProgram, Placed, PlacedAll, PlacedPairs}
 use Rattle.model.proofs.Well.{PlacedGuards}
 
 -- a number at the front of k bytes
@@ -151,10 +151,6 @@ module _ {end : ℕ} where
   expr-reads zero sc at = deep-reads at
   expr-reads (suc d) sc at = next (one-reads exprKinds at) λ to k le g. expr-of (expr-reads d sc) k to
 
-  whole-reads : (d : ℕ) (sc : Scope) (at : ℕ) → Sound end Whole at (λ to e. WellWhole sc e) (readWhole d sc at)
-  unfolding readWhole
-  whole-reads d sc at = next (expr-reads d sc at) λ to e h g. done g
-
   -- so many parts, where each part read extends what is read after it
   many-reads : {A L : Type 0} {empty : L} {more : A → L → L} {part : Reader A} (Q : (n at to : ℕ) → L → Type 0)
       → ((at : ℕ) → Q 0 at at empty)
@@ -184,7 +180,7 @@ Extends {L} Q at mid f = (to : ℕ) (l : L) → Q mid to l → Q at to (f l)
 
 -- the parts inside a statement are read as they should be
 record InnerSound (end : ℕ) (sc : Scope) (inner : Inner) : Type 0 where
-  whole : (at : ℕ) → Sound end Whole at (λ to e. WellWhole sc e) (inner .expr at)
+  whole : (at : ℕ) → Sound end Expr at (λ to e. WellExpr sc e) (inner .expr at)
   body : (sc₂ : Scope) (at : ℕ) → Sound end Stmt at (ReadStmt sc₂ at) (inner .stmt sc₂ at)
 
 module _ {end : ℕ} {sc : Scope} {inner : Inner} (i : InnerSound end sc inner) where
@@ -256,7 +252,7 @@ stmt-reads : {end : ℕ} (d : ℕ) (sc : Scope) (at : ℕ) → Sound end Stmt at
 unfolding readStmt
 stmt-reads zero sc at = deep-reads at
 stmt-reads (suc d) sc at =
-    next (one-reads stmtKinds at) λ to k le g. stmt-of (record { whole = whole-reads d sc; body = stmt-reads d }) at to g k
+    next (one-reads stmtKinds at) λ to k le g. stmt-of (record { whole = expr-reads d sc; body = stmt-reads d }) at to g k
 
 program-reads : (end : ℕ) → Sound end Program 0 (λ to p. WellProgram p × Placed 0 to (p .body)) (readProgram 0)
 unfolding readProgram

@@ -15,14 +15,13 @@ use Rattle.model.specs.Syntax.{Site}
 use Rattle.model.specs.Machine.{Talk, World, withCpu, withMemory, withOffers, linkWord, memorySize}
 use Rattle.model.specs.Occam.{Store, Process, State}
 use Rattle.model.specs.declared.Cpu.{Cpu}
-use Rattle.model.proofs.Ways.{Mem}
+use Rattle.model.proofs.Ways.{upd-same, upd-other, upd, Mem}
 use Rattle.model.proofs.Parts.{Part}
 use Rattle.model.proofs.Trees.{Info, Tree}
-use Rattle.model.proofs.Leaves.{upd}
 use Rattle.model.proofs.Effects.{cpuOf, sizeOf, stored}
 use Rattle.model.proofs.Queues.{Queue, queue-cpu, queue-stored, queue-same}
 use Rattle.model.proofs.Kernel.{Loaded, S, root, size, LeafAt, whose, Lined, Real, Offer, no-offer, held-offer}
-use Rattle.model.proofs.Writes.{upd-same, upd-other, node, apart-zones, part-small, sits-at}
+use Rattle.model.proofs.Writes.{node, apart-zones, part-small, sits-at}
 use Rattle.model.proofs.Grounds.{small-size}
 use Rattle.model.proofs.Paths.{same-path}
 use Rattle.model.proofs.Moving.{same-leaf}

@@ -13,7 +13,7 @@ use Rattle.model.specs.Machine as M
 use Rattle.model.specs.Scheme.{sizeEnable}
 use Rattle.model.specs.Occam.{Process, put, State}
 use Rattle.model.specs.Demand.{Segment}
-use Rattle.model.proofs.Ways.{regsOf, Mem}
+use Rattle.model.proofs.Ways.{upd-same, upd-other, upd, regsOf, Mem}
 use Rattle.model.proofs.Points.{whole}
 use Rattle.model.proofs.Arrive.{inside}
 use Rattle.model.proofs.Paths.{Leaf, same-path}
@@ -21,13 +21,13 @@ use Rattle.model.proofs.Parts.{Part}
 use Rattle.model.proofs.Arrivals.{Comes, comes}
 use Rattle.model.proofs.Onwards.{disable-first}
 use Rattle.model.proofs.Trees.{Info, Sits, Tree, bytesLeft, leaf-bytes}
-use Rattle.model.proofs.Leaves.{upd, member, Unmarked, Held, h-queued, h-woken}
+use Rattle.model.proofs.Leaves.{member, Unmarked, Held, h-queued, h-woken}
 use Rattle.model.proofs.Stays.{Calm}
 use Rattle.model.proofs.Effects.{cpuOf}
 use Rattle.model.proofs.Queues.{LinksIn, Apart, apart, released, joined, lastOf, release-queue, released-queue, release-queue-none}
 use Rattle.model.proofs.Queues.{idle-queue, join-queue, joined-queue, apart-snoc, link-injective, last-in}
 use Rattle.model.proofs.Kernel.{Loaded, S, root, size, LeafAt, Rest, whose, Lined, Real}
-use Rattle.model.proofs.Writes.{upd-same, upd-other, node, apart-zones, part-small, sits-at, write-own, link}
+use Rattle.model.proofs.Writes.{node, apart-zones, part-small, sits-at, write-own, link}
 use Rattle.model.proofs.Puts.{putting, treeThen, here-then, lined-then, rest-then, moved}
 use Rattle.model.proofs.Grounds.{small-size, sound-at}
 use Rattle.model.proofs.Traces.{Trace, t-none, Moves, moves, skip-moves}

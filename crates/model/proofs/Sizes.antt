@@ -2,14 +2,17 @@
 use Prim.Native.Nat.{ℕ, zero, suc, _+_, _-_, _*_}
 use native.Mathlib.Omega.{arith}
 use mathlib.Core.Path.{_≡_, refl}
+use mathlib.Core.List.{List}
 use lib.ListN.{length, length-append}
 use Rattle.model.specs.Syntax.{Site, Operator, PLUS, MINUS, TIMES, GT, EQ, AND, OR, XOR, Expr, constant, variable, NOT, binary, Stmt}
 use Rattle.model.specs.Syntax.{SKIP, STOP, assign, input, output, VAR, CHAN, SEQ, PAR, IF, WHILE, ALT, Stmts, noStmt, stmt, Pairs}
 use Rattle.model.specs.Syntax.{noPair, pair, Guards, noGuard, inputGuard, skipGuard}
-use Rattle.model.specs.Counts.{need}
+use Rattle.model.specs.Counts.{Order, leftFirst, rightFirst, rightStored, order, temporaries, need}
 use Rattle.model.specs.Instruction.{Instruction}
-use Rattle.model.specs.Scheme.{operatorCode, operatorSize, initialise, exprSize, howMany, size, sizeAll, sizePar, sizeEnds, sizePairs}
-use Rattle.model.specs.Scheme.{sizeEnable, sizeDisable, sizeBranches, exprCode, code, codeAll, codePar, codeStarts, codeEnds}
+use Rattle.model.specs.Scheme.{operatorCode, operatorSize, initialise, sidesCode, sidesSize, exprSize, wrapped, wrapSize, wholeSize}
+use Rattle.model.specs.Scheme.{altWords, howMany, size, sizeAll, sizePar, sizeEnds, sizePairs}
+use Rattle.model.specs.Scheme.{sizeEnable, sizeDisable, sizeBranches, exprCode, wholeCode, guardCode, code, codeAll, codePar}
+use Rattle.model.specs.Scheme.{codeStarts, codeEnds}
 use Rattle.model.specs.Scheme.{codePairs, codeEnable, codeDisable, codeBranches}
 
 pub operator-length : (op : Operator) → length (operatorCode op) ≡ operatorSize op
@@ -28,13 +31,40 @@ unfolding initialise
 initialise-length first zero = refl
 initialise-length first (suc n) = simp (length-append, initialise-length first n) (omega arith)
 
+-- two sides, each of its own length
+pub sides-length : (o : Order) (h : ℕ) (left : ℕ → List Instruction) (right : List Instruction) {l r : ℕ}
+    → ((k : ℕ) → length (left k) ≡ l) → length right ≡ r → length (sidesCode o h left right) ≡ sidesSize o l r
+unfolding sidesCode sidesSize
+sides-length leftFirst h left right el er = omega (arith, length-append (left h) right, el h)
+sides-length rightFirst h left right el er = simp (length-append, el h, er) (omega arith)
+sides-length rightStored h left right el er = simp (length-append, el (suc h), er) (omega arith)
+
+pub wrapped-length : (t more w : ℕ) (code : ℕ → List Instruction) {n : ℕ} → ((v : ℕ) → length (code v) ≡ n)
+    → length (wrapped t more w code) ≡ n + wrapSize t
+unfolding wrapped wrapSize
+wrapped-length zero more w code e = omega (arith, e w)
+wrapped-length (suc t) more w code e = simp (length-append, e (w - (suc t + more))) (omega arith)
+
 module _ (word : Site → ℕ) where
-  pub expr-length : (w : ℕ) (e : Expr) → length (exprCode word w e) ≡ exprSize e
+  pub expr-length : (w h : ℕ) (e : Expr) → length (exprCode word w h e) ≡ exprSize e
   unfolding exprCode exprSize
-  expr-length w (constant n) = refl
-  expr-length w (variable x) = refl
-  expr-length w (NOT e) = simp (length-append, expr-length w e)
-  expr-length w (binary op l r) = simp (length-append, expr-length w l, expr-length w r, operator-length op)
+  expr-length w h (constant n) = refl
+  expr-length w h (variable x) = refl
+  expr-length w h (NOT e) = simp (length-append, expr-length w h e)
+  expr-length w h (binary op l r) =
+      simp (
+        length-append,
+        sides-length (order l r) h (λ k. exprCode word w k l) (exprCode word w h r) (λ k. expr-length w k l) (expr-length w h r),
+        operator-length op,
+      )
+
+  pub whole-length : (w : ℕ) (e : Expr) → length (wholeCode word w e) ≡ wholeSize e
+  unfolding wholeSize
+  whole-length w e = wrapped-length (temporaries e) 0 w (λ v. exprCode word v 0 e) (λ v. expr-length v 0 e)
+
+  pub guard-length : (w : ℕ) (e : Expr) → length (guardCode word w e) ≡ wholeSize e
+  unfolding wholeSize
+  guard-length w e = wrapped-length (temporaries e) altWords w (λ v. exprCode word v 0 e) (λ v. expr-length v 0 e)
 
   pub starts-length : (d i b : ℕ) (ss : Stmts) → length (codeStarts word d i b ss) ≡ 3 * howMany ss
   unfolding codeStarts howMany
@@ -44,16 +74,16 @@ module _ (word : Site → ℕ) where
   pub enable-length : (w : ℕ) (gs : Guards) → length (codeEnable word w gs) ≡ sizeEnable gs
   unfolding codeEnable sizeEnable
   enable-length w noGuard = refl
-  enable-length w (inputGuard e c x s gs) = simp (length-append, expr-length, enable-length w gs) (omega arith)
-  enable-length w (skipGuard e s gs) = simp (length-append, expr-length, enable-length w gs) (omega arith)
+  enable-length w (inputGuard e c x s gs) = simp (length-append, guard-length w e, enable-length w gs) (omega arith)
+  enable-length w (skipGuard e s gs) = simp (length-append, guard-length w e, enable-length w gs) (omega arith)
 
   pub disable-length : (w choice b : ℕ) (gs : Guards) → length (codeDisable word w choice b gs) ≡ sizeDisable gs
   unfolding codeDisable sizeDisable
   disable-length w choice b noGuard = refl
   disable-length w choice b (inputGuard e c x s gs) =
-      simp (length-append, expr-length, disable-length w choice (b + 1 + 4 + size s + 1) gs) (omega arith)
+      simp (length-append, guard-length w e, disable-length w choice (b + 1 + 4 + size s + 1) gs) (omega arith)
   disable-length w choice b (skipGuard e s gs) =
-      simp (length-append, expr-length, disable-length w choice (b + 1 + size s + 1) gs) (omega arith)
+      simp (length-append, guard-length w e, disable-length w choice (b + 1 + size s + 1) gs) (omega arith)
 
   mutual
     unfolding code size
@@ -61,9 +91,9 @@ module _ (word : Site → ℕ) where
     pub code-length : (w i : ℕ) (s : Stmt) → length (code word w i s) ≡ size s
     code-length w i SKIP = refl
     code-length w i STOP = refl
-    code-length w i (assign x e) = simp (length-append, expr-length)
+    code-length w i (assign x e) = simp (length-append, whole-length w e)
     code-length w i (input c x) = refl
-    code-length w i (output c e) = simp (length-append, expr-length)
+    code-length w i (output c e) = simp (length-append, whole-length w e)
     code-length w i (VAR p n s) =
         simp (length-append, initialise-length, code-length (w - n) (i + 1 + (n + n)) s) (omega arith)
     code-length w i (CHAN p n s) =
@@ -72,7 +102,7 @@ module _ (word : Site → ℕ) where
     code-length w i (PAR p ss) = par-length w i ss
     code-length w i (IF ps) = pairs-length w i _ ps
     code-length w i (WHILE e s) =
-        simp (length-append, expr-length, code-length w (i + exprSize (e .expr) + 1) s) (omega arith)
+        simp (length-append, whole-length w e, code-length w (i + wholeSize e + 1) s) (omega arith)
     code-length w i (ALT gs) =
         let choice = i + 2 + sizeEnable gs + 1 + sizeDisable gs in
         let disable = disable-length (w - 1) choice (choice + 1) gs in
@@ -99,8 +129,8 @@ module _ (word : Site → ℕ) where
     pub pairs-length : (w i over : ℕ) (ps : Pairs) → length (codePairs word w i over ps) ≡ sizePairs ps
     pairs-length w i over noPair = refl
     pairs-length w i over (pair e s ps) =
-        let test = i + exprSize (e .expr) in
-        simp (length-append, expr-length, code-length w (test + 1) s, pairs-length w (test + 1 + size s + 1) over ps) (omega arith)
+        let test = i + wholeSize e in
+        simp (length-append, whole-length w e, code-length w (test + 1) s, pairs-length w (test + 1 + size s + 1) over ps) (omega arith)
 
     pub branches-length : (w i over : ℕ) (gs : Guards) → length (codeBranches word w i over gs) ≡ sizeBranches gs
     branches-length w i over noGuard = refl

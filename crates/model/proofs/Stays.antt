@@ -3,16 +3,16 @@ use Prim.Native.Nat.{ℕ, _+_, _^_, _≤_, _<_}
 use native.Mathlib.Omega.{arith}
 use mathlib.Core.Path.{_≡_, refl, sym, ap, ap₂, _∙_, subst}
 use mathlib.Core.Logic.{_≢_, _⊎_, inl, inr, ⊎-elim}
-use mathlib.Core.Bool.{Bool, not}
+use mathlib.Core.Bool.{Bool, cond, not}
 use mathlib.Core.List.{List, List·Memᴰ}
 use lib.Dec.{eqb}
-use Rattle.model.specs.Syntax.{Site, Expr, constant, variable, NOT, binary, Whole, Pairs, noPair, pair, Guards}
+use Rattle.model.specs.Syntax.{Site, Expr, constant, variable, NOT, binary, Pairs, noPair, pair, Guards}
 use Rattle.model.specs.Machine.{resumeWord, linkWord, stateWord}
-use Rattle.model.specs.Occam.{Store, eval, value, isTrue, Frame, Process, firstTrue, deny, operate, State, Sender}
+use Rattle.model.specs.Occam.{Store, eval, isTrue, Frame, Process, firstTrue, deny, operate, State, Sender}
 use Rattle.model.proofs.Ways.{Regs, Mem, way-stable}
 use Rattle.model.proofs.Values.{FineExpr}
 use Rattle.model.proofs.Points.{Setting}
-use Rattle.model.proofs.Parts.{Part, FineWhole, FinePairs, FineGuards}
+use Rattle.model.proofs.Parts.{Part, FinePairs, FineGuards}
 use Rattle.model.proofs.Conts.{cont-low}
 use Rattle.model.proofs.Marks.{Own, Ready, r-input, r-skip, r-past-input, r-past-skip, Picks, p-input, p-skip, p-past-input}
 use Rattle.model.proofs.Marks.{p-past-skip, Guarded, g-here, g-past-input, g-past-skip, Noticed, n-none, n-input, n-skip, Marked}
@@ -32,10 +32,10 @@ module _ (b : Part) (vars : List Site) {σ τ : Store} (same : (x : Site) → Li
   eval-same (NOT e) f g = ap deny (eval-same e f g)
   eval-same (binary op l r) f g = ap₂ (operate op) (eval-same l (f .0) (g .0)) (eval-same r (f .1) (g .1))
 
-  pub value-same : (e : Whole) → FineWhole b vars e → value σ e ≡ value τ e
-  value-same e f = eval-same (e .expr) (f .0) (f .1)
+  pub value-same : {Room : Type 0} (e : Expr) → FineExpr vars e × FineExpr (b .reads) e × Room → eval σ e ≡ eval τ e
+  value-same e f = eval-same e (f .0) (f .1)
 
-  pub true-same : (e : Whole) → FineWhole b vars e → isTrue σ e ≡ isTrue τ e
+  pub true-same : {Room : Type 0} (e : Expr) → FineExpr vars e × FineExpr (b .reads) e × Room → isTrue σ e ≡ isTrue τ e
   true-same e f = ap (λ v. not (eqb v 0)) (value-same e f)
 
   pairs-same : (word : Site → ℕ) (chans : List Site) (w : ℕ) (ps : Pairs) (k : List Frame) → FinePairs word b vars chans w ps
@@ -80,8 +80,9 @@ module _ (S : Setting) (b : Part) (vars chans : List Site) {σ τ : Store}
   pub goes-stays : {q : Process} {hi : ℕ} {μ ν : Mem} {i : ℕ} {r : Regs} → ((v : ℕ) → b .bottom ≤ v → v < b .top → ν v ≡ μ v)
       → Goes S b σ vars chans q hi μ i r → Goes S b τ vars chans q hi ν i r
   goes-stays h way =
-      way-stable (S .xs) (S .off) (S .word) (λ x m. same x (m .0) (m .1)) (λ u ν i r pt. point-stays (λ v k l. refl) pt)
-      (λ u i r pt. point-stays h pt) way
+      way-stable (S .xs) (S .off) (S .word) (λ μ ν. (v : ℕ) → b .bottom ≤ v → v < b .top → ν v ≡ μ v)
+      (λ μ ν v z s f u l k. ap (λ n. cond (eqb u v) z n) (f u l k)) (λ μ ν v s f. f v (s .above) (s .below))
+      (λ x m. same x (m .0) (m .1)) (λ w c ν v k l. refl) (λ u μ ν i r f pt. point-stays f pt) h way
 
 -- what a process is led to
 pub comes-stays : (S : Setting) (b : Part) (vars chans : List Site) {σ τ : Store}

@@ -15,7 +15,7 @@ use Rattle.model.proofs.Marks.{Ready, r-input, r-skip, r-past-input, r-
 use Rattle.model.proofs.Marks.{Settled, Disabling, AltPoint, pt-enable, pt-wait, pt-disable, pt-choose}
 use Rattle.model.proofs.Arrivals.{Comes, comes}
 use Rattle.model.proofs.Onwards.{picks-choice, ready-picks, rest-ready, AltGoes}
-use Rattle.model.proofs.Reach.{way-kind, alt-in}
+use Rattle.model.proofs.Reach.{alt-kind}
 use Rattle.model.proofs.Forks.{look-self}
 use Rattle.model.proofs.Joins.{Last, at-top, last, lastly}
 
@@ -95,4 +95,4 @@ module _ (S : Setting) (a : Part) {st : State} where
 
   pub alt-goes-active : {vars chans : List Site} {q : Process} {hi i : ℕ} {μ : Mem} {r : Regs} → AltGoes S a st vars chans q hi μ i r
       → Active st q
-  alt-goes-active {q = q} way = way-kind S (alt-in S a) (Active st q) alt-active (λ z. absurd z) way
+  alt-goes-active {q = q} way = alt-kind S a (Active st q) alt-active way

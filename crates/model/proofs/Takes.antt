@@ -20,15 +20,15 @@ use Rattle.model.specs.Occam.{Frame, Process, atOutput, resume, State, S
 use Rattle.model.specs.declared.Setup.{Setup}
 use Rattle.model.specs.declared.TakeAnswer.the-variants.{Taken}
 use Rattle.model.proofs.Cases.{never, by-bool}
-use Rattle.model.proofs.Ways.{Mem}
+use Rattle.model.proofs.Ways.{upd-same, upd-other, upd, Mem}
 use Rattle.model.proofs.Parts.{Part}
 use Rattle.model.proofs.Marks.{Own}
 use Rattle.model.proofs.Trees.{Info, Tree, bytesLeft}
-use Rattle.model.proofs.Leaves.{upd, member, Unmarked, Waits}
+use Rattle.model.proofs.Leaves.{member, Unmarked, Waits}
 use Rattle.model.proofs.Effects.{cpuOf, sizeOf, stored, poke-in}
 use Rattle.model.proofs.Acts.{when-true, when-false, peek-at}
 use Rattle.model.proofs.Kernel.{Loaded, S, root, size, LeafAt, Rest, Lined, Real}
-use Rattle.model.proofs.Writes.{upd-same, upd-other, apart-parts, own-one, part-small, sits-at}
+use Rattle.model.proofs.Writes.{apart-parts, own-one, part-small, sits-at}
 use Rattle.model.proofs.Puts.{putting}
 use Rattle.model.proofs.Grounds.{small-size}
 use Rattle.model.proofs.Traces.{t-none, t-event}

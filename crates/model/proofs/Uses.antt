@@ -147,9 +147,9 @@ mutual
   pub uses-from : (s : Stmt) (sc : Scope) {lo hi : ℕ} → Well sc s → Placed lo hi s → From (sc .variables) lo hi (usage s .uses)
   uses-from SKIP sc w h = from-none
   uses-from STOP sc w h = from-none
-  uses-from (assign x e) sc w h = from-both (x ∷ []) (reads (e .expr)) (from-one x (w .0)) (from-reads sc (e .expr) (w .1))
+  uses-from (assign x e) sc w h = from-both (x ∷ []) (reads e) (from-one x (w .0)) (from-reads sc e (w .1))
   uses-from (input c x) sc w h = from-one x (w .1)
-  uses-from (output c e) sc w h = from-reads sc (e .expr) (w .1)
+  uses-from (output c e) sc w h = from-reads sc e (w .1)
   uses-from (VAR p n s) sc w h =
       let le = placed-le s (h .1) in
       let inner = uses-from s (withVariables p n sc) (w .2) (h .1) in
@@ -167,7 +167,7 @@ mutual
   uses-from (PAR p ss) sc w h = uses-all ss sc (w .1) h
   uses-from (IF ps) sc w h = uses-pairs ps sc w h
   uses-from (WHILE e s) sc w h =
-      from-both (reads (e .expr)) (usage s .uses) (from-reads sc (e .expr) (w .0)) (uses-from s sc (w .1) h)
+      from-both (reads e) (usage s .uses) (from-reads sc e (w .0)) (uses-from s sc (w .1) h)
   uses-from (ALT gs) sc w h = uses-guards gs sc w h
 
   uses-all : (ss : Stmts) (sc : Scope) {lo hi : ℕ} → WellAll sc ss → PlacedAll lo hi ss
@@ -181,7 +181,7 @@ mutual
       → From (sc .variables) lo hi (usagePairs ps .uses)
   uses-pairs noPair sc w h = from-none
   uses-pairs (pair e s ps) sc w h =
-      from-both (reads (e .expr)) (usage s .uses ++ usagePairs ps .uses) (from-reads sc (e .expr) (w .0))
+      from-both (reads e) (usage s .uses ++ usagePairs ps .uses) (from-reads sc e (w .0))
       (from-next (usage s .uses) (usagePairs ps .uses) (placed-le s (h .1)) (placed-le-pairs ps (h .2))
       (uses-from s sc (w .1) (h .1)) (uses-pairs ps sc (w .2) (h .2)))
 
@@ -189,12 +189,12 @@ mutual
       → From (sc .variables) lo hi (usageGuards gs .uses)
   uses-guards noGuard sc w h = from-none
   uses-guards (inputGuard e c x s gs) sc w h =
-      from-both (reads (e .expr)) (x ∷ usage s .uses ++ usageGuards gs .uses) (from-reads sc (e .expr) (w .0))
+      from-both (reads e) (x ∷ usage s .uses ++ usageGuards gs .uses) (from-reads sc e (w .0))
       (from-both (x ∷ []) (usage s .uses ++ usageGuards gs .uses) (from-one x (w .2))
       (from-next (usage s .uses) (usageGuards gs .uses) (placed-le s (h .1)) (placed-le-guards gs (h .2))
       (uses-from s sc (w .3) (h .1)) (uses-guards gs sc (w .4) (h .2))))
   uses-guards (skipGuard e s gs) sc w h =
-      from-both (reads (e .expr)) (usage s .uses ++ usageGuards gs .uses) (from-reads sc (e .expr) (w .0))
+      from-both (reads e) (usage s .uses ++ usageGuards gs .uses) (from-reads sc e (w .0))
       (from-next (usage s .uses) (usageGuards gs .uses) (placed-le s (h .1)) (placed-le-guards gs (h .2))
       (uses-from s sc (w .1) (h .1)) (uses-guards gs sc (w .2) (h .2)))
 

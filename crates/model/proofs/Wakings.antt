@@ -20,7 +20,7 @@ use Rattle.model.specs.Occam.{Communication, over-channel, Event}
 use Rattle.model.specs.Demand.{Segment, liveIn, talkOf}
 use Rattle.model.proofs.Cases.{never, by-bool}
 use Rattle.model.proofs.Sites.{same-eq}
-use Rattle.model.proofs.Ways.{Mem}
+use Rattle.model.proofs.Ways.{upd-same, upd-other, upd, Mem}
 use Rattle.model.proofs.Points.{Setting}
 use Rattle.model.proofs.Arrive.{inside, rises-le}
 use Rattle.model.proofs.Paths.{Leaf, leaf-resume, live-resume, silent-resume}
@@ -31,13 +31,13 @@ use Rattle.model.proofs.Onwards.{disable-first}
 use Rattle.model.proofs.Trees.{some-same, Label, alone, Info, Sits, Tree, t-leaf, t-par, Forest, f-none, f-live, f-over, labelAt}
 use Rattle.model.proofs.Trees.{labelIn, part-inside, bytesLeft, leaf-bytes}
 use Rattle.model.proofs.Zones.{zoneOf, Distant}
-use Rattle.model.proofs.Leaves.{upd, Unmarked, Waits, Held, h-queued, h-woken}
+use Rattle.model.proofs.Leaves.{Unmarked, Waits, Held, h-queued, h-woken}
 use Rattle.model.proofs.Stays.{Calm, calm-trans}
 use Rattle.model.proofs.Effects.{cpuOf}
 use Rattle.model.proofs.Acts.{when-true, when-false, testPlace-in}
 use Rattle.model.proofs.Queues.{joined, released, join-queue-free, free-queue}
 use Rattle.model.proofs.Kernel.{Loaded, S, root, size, LeafAt, Owned, Rest, Lined, Real}
-use Rattle.model.proofs.Writes.{upd-same, upd-other, changed, node, apart-zones, apart-parts, part-small, sits-at, sender-stored}
+use Rattle.model.proofs.Writes.{changed, node, apart-zones, apart-parts, part-small, sits-at, sender-stored}
 use Rattle.model.proofs.Writes.{sender-kept}
 use Rattle.model.proofs.Puts.{putting, treeThen, here-then, other-then, lined-then, rest-then, moved, sender-then, sender-before}
 use Rattle.model.proofs.Grounds.{chan-in, small-size, sound-at, code-end}

@@ -2,16 +2,19 @@
 -- A path says that from an instruction, with some registers, the next significant instruction is reached, and in how many bytes.
 -- It reads the variables in scope and no other word, so it stays as it is under whatever happens elsewhere.
 use Prim.Native.Nat.{ℕ, suc, _+_, _*_, _≤_}
-use mathlib.Core.Path.{_≡_, refl}
+use mathlib.Core.Path.{_≡_, refl, sym, subst}
+use mathlib.Core.Logic.{_≢_}
+use mathlib.Core.Bool.{cond}
 use mathlib.Core.List.{List}
 use mathlib.Core.Option.{some}
 use lib.ListN.{length, getElem?}
 use lib.Bits.{bitAnd, bitOr, bitXor}
 use lib.Dec.{eqb}
+use borrow.Author.Tests.{eq-eqb, ne-eqb}
 use Rattle.model.specs.Word.{low, less, truth, notProcess}
 use Rattle.model.specs.Code.{functionIn, operandIn}
 use Rattle.model.specs.Syntax.{Site}
-use Rattle.model.specs.Instruction.{Function, ldlp, ldc, ldl, cj, ajw, eqc, opr, Instruction, plain}
+use Rattle.model.specs.Instruction.{Function, ldlp, ldc, ldl, cj, ajw, eqc, stl, opr, Instruction, plain}
 use Rattle.model.specs.Instruction.{distance, operationOf, operationCode, coded}
 use Rattle.model.specs.Instruction as I
 use Rattle.model.specs.Machine.{World, done, withCpu, stack, work}
@@ -44,6 +47,10 @@ pushing v r = record { a = v; b = r .a; c = r .b; w = r .w }
 -- two values give one
 abbrev pub reducing : (ℕ → ℕ → ℕ) → Regs → Regs
 reducing f r = record { a = f (r .b) (r .a); b = r .c; c = r .c; w = r .w }
+
+-- the top value goes
+abbrev pub popping : Regs → Regs
+popping r = record { a = r .b; b = r .c; c = r .c; w = r .w }
 
 abbrev pub pointing : ℕ → Regs → Regs
 pointing n r = pushing (low (r .w + n)) r
@@ -121,35 +128,58 @@ quiet-ldpi s e = rw (← e)
 abbrev pub Mem : Type 0
 Mem = ℕ → ℕ
 
+-- a memory in which one word is another
+abbrev pub upd : Mem → (v z : ℕ) → Mem
+upd μ v z = λ a. cond (eqb a v) z (μ a)
+
+pub upd-same : (μ : Mem) (v z : ℕ) → upd μ v z v ≡ z
+upd-same μ v z = rw (eq-eqb v v refl)
+
+pub upd-other : (μ : Mem) (v z a : ℕ) → a ≢ v → upd μ v z a ≡ μ a
+upd-other μ v z a d = rw (ne-eqb a v d)
+
 -- From the instruction i with registers r the next significant instruction is reached, at which `Point` holds; or the program's end,
 -- where `End` holds. `hi` bounds the bytes: at a place, at most hi - place of them are left. J may let others run, so what follows it
--- holds for any registers and memory; `Clear` holds of the workspace there. `Readable` variables are read, and no other word
+-- holds for any registers and memory; `Clear` holds of the workspace there. `Readable` variables are read. Values are stored in `Spare`
+-- words, which are the process's own and no name's, and loaded from them; no other word is read or written
 module _ (xs : List Instruction) (off : ℕ → ℕ) (word : Site → ℕ) where
-  pub data Way (Point : ℕ → Mem → ℕ → Regs → Type 0) (End : Type 0) (σ : Store) (Readable : Site → Type 0) (Clear : ℕ → Type 0)
+  pub data Way (Point : ℕ → Mem → ℕ → Regs → Type 0) (End : Type 0) (σ : Store) (Readable : Site → Type 0) (Spare Clear : ℕ → Type 0)
       : ℕ → Mem → ℕ → Regs → Type 0 where
-    arrived : {hi : ℕ} {μ : Mem} {i : ℕ} {r : Regs} → Point hi μ i r → off (suc i) ≤ hi → Way Point End σ Readable Clear hi μ i r
-    through : {hi : ℕ} {μ : Mem} {i : ℕ} {r : Regs} → i ≡ length xs → off i ≤ hi → End → Way Point End σ Readable Clear hi μ i r
+    arrived : {hi : ℕ} {μ : Mem} {i : ℕ} {r : Regs} → Point hi μ i r → off (suc i) ≤ hi → Way Point End σ Readable Spare Clear hi μ i r
+    through : {hi : ℕ} {μ : Mem} {i : ℕ} {r : Regs} → i ≡ length xs → off i ≤ hi → End → Way Point End σ Readable Spare Clear hi μ i r
     quiet : {hi : ℕ} {μ : Mem} {i : ℕ} {x : Instruction} {r : Regs} (g : Regs → Regs) → getElem? xs i ≡ some x
         → Quiet (off (suc i)) (functionIn x) (operandIn off x) g
-        → Way Point End σ Readable Clear hi μ (suc i) (g r) → Way Point End σ Readable Clear hi μ i r
+        → Way Point End σ Readable Spare Clear hi μ (suc i) (g r) → Way Point End σ Readable Spare Clear hi μ i r
     loads : {hi : ℕ} {μ : Mem} {i o : ℕ} {r : Regs} (x : Site) → getElem? xs i ≡ some (plain ldl o) → low (r .w + o) ≡ word x
         → Readable x
-        → Way Point End σ Readable Clear hi μ (suc i) (pushing (σ x) r) → Way Point End σ Readable Clear hi μ i r
+        → Way Point End σ Readable Spare Clear hi μ (suc i) (pushing (σ x) r) → Way Point End σ Readable Spare Clear hi μ i r
+    stores : {hi : ℕ} {μ : Mem} {i o : ℕ} {r : Regs} (v : ℕ) → getElem? xs i ≡ some (plain stl o) → low (r .w + o) ≡ v → Spare v
+        → Way Point End σ Readable Spare Clear hi (upd μ v (r .a)) (suc i) (popping r) → Way Point End σ Readable Spare Clear hi μ i r
+    reloads : {hi : ℕ} {μ : Mem} {i o : ℕ} {r : Regs} (v : ℕ) → getElem? xs i ≡ some (plain ldl o) → low (r .w + o) ≡ v → Spare v
+        → Way Point End σ Readable Spare Clear hi μ (suc i) (pushing (μ v) r) → Way Point End σ Readable Spare Clear hi μ i r
     jumps : {hi : ℕ} {μ : Mem} {i t hi′ : ℕ} {r : Regs} → getElem? xs i ≡ some (distance I.j t i) → t ≤ length xs → Clear (r .w)
         → hi′ + off (suc i) ≤ hi + off t
-        → ((μ′ : Mem) (r′ : Regs) → r′ .w ≡ r .w → Way Point End σ Readable Clear hi′ μ′ t r′) → Way Point End σ Readable Clear hi μ i r
+        → ((μ′ : Mem) (r′ : Regs) → r′ .w ≡ r .w → Way Point End σ Readable Spare Clear hi′ μ′ t r′)
+        → Way Point End σ Readable Spare Clear hi μ i r
     falls : {hi : ℕ} {μ : Mem} {i t : ℕ} {r : Regs} → getElem? xs i ≡ some (distance cj t i) → t ≤ length xs → r .a ≡ 0
         → off (suc i) ≤ off t
-        → Way Point End σ Readable Clear hi μ t r → Way Point End σ Readable Clear hi μ i r
+        → Way Point End σ Readable Spare Clear hi μ t r → Way Point End σ Readable Spare Clear hi μ i r
 
-  -- a path stays under a change of other variables and of words that its significant instruction does not look at
-  pub way-stable : {P Q : ℕ → Mem → ℕ → Regs → Type 0} {E : Type 0} {σ σ′ : Store} {R : Site → Type 0}
-      {C : ℕ → Type 0} {hi : ℕ} {μ μ′ : Mem}
-      {i : ℕ} {r : Regs} → ((x : Site) → R x → σ x ≡ σ′ x) → ((h : ℕ) (ν : Mem) (i : ℕ) (r : Regs) → P h ν i r → Q h ν i r)
-      → ((h i : ℕ) (r : Regs) → P h μ i r → Q h μ′ i r) → Way P E σ R C hi μ i r → Way Q E σ′ R C hi μ′ i r
-  way-stable h k l (arrived p b) = arrived (l _ _ _ p) b
-  way-stable h k l (through e b f) = through e b f
-  way-stable h k l (quiet g at q v) = quiet g at q (way-stable h k l v)
-  way-stable h k l (loads x at a m v) = loads x at a m (rw (h x m) at (way-stable h k l v))
-  way-stable h k l (jumps at i c e v) = jumps at i c e (λ ν r q. way-stable h k (λ h. k h ν) (v ν r q))
-  way-stable h k l (falls at i a e v) = falls at i a e (way-stable h k l v)
+  -- a path stays under a change of other variables and of words that neither it nor its significant instruction looks at: `Same` memories
+  -- are equal at spare words and stay the same where both get one value there
+  module _ {P Q : ℕ → Mem → ℕ → Regs → Type 0} {E : Type 0} {σ σ′ : Store} {R : Site → Type 0} {Spare C : ℕ → Type 0}
+      (Same : Mem → Mem → Type 0) (both : (μ ν : Mem) (v z : ℕ) → Spare v → Same μ ν → Same (upd μ v z) (upd ν v z))
+      (equal : (μ ν : Mem) (v : ℕ) → Spare v → Same μ ν → ν v ≡ μ v) (reads : (x : Site) → R x → σ x ≡ σ′ x)
+      (again : (w : ℕ) → C w → (ν : Mem) → Same ν ν) (point : (h : ℕ) (μ ν : Mem) (i : ℕ) (r : Regs) → Same μ ν → P h μ i r → Q h ν i r)
+    where
+      pub way-stable : {hi : ℕ} {μ ν : Mem} {i : ℕ} {r : Regs} → Same μ ν → Way P E σ R Spare C hi μ i r → Way Q E σ′ R Spare C hi ν i r
+      way-stable h (arrived p b) = arrived (point _ _ _ _ _ h p) b
+      way-stable h (through e b f) = through e b f
+      way-stable h (quiet g at q v) = quiet g at q (way-stable h v)
+      way-stable h (loads x at a m v) = loads x at a m (rw (reads x m) at (way-stable h v))
+      way-stable {μ = μ} {ν} {r = r} h (stores v at a m w) = stores v at a m (way-stable (both μ ν v (r .a) m h) w)
+      way-stable {hi} {μ} {ν} {i} {r} h (reloads v at a m w) =
+          reloads v at a m
+          (subst (λ z. Way Q E σ′ R Spare C hi ν (suc i) (pushing z r)) (sym (equal μ ν v m h)) (way-stable h w))
+      way-stable h (jumps at i c e v) = jumps at i c e (λ ν r q. way-stable (again _ c ν) (v ν r q))
+      way-stable h (falls at i a e v) = falls at i a e (way-stable h v)

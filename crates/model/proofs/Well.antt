@@ -3,7 +3,7 @@ use Prim.Native.Nat.{ℕ, suc, _-_, _^_, _≤_, _<_}
 use mathlib.Core.Path.{_≡_}
 use mathlib.Core.Bool.{true}
 use mathlib.Core.List.{[], _++_, List·Memᴰ}
-use Rattle.model.specs.Syntax.{Site, inputOf, outputOf, Expr, constant, variable, NOT, binary, Whole, Stmt, SKIP, STOP, assign, input}
+use Rattle.model.specs.Syntax.{Site, inputOf, outputOf, Expr, constant, variable, NOT, binary, Stmt, SKIP, STOP, assign, input}
 use Rattle.model.specs.Syntax.{output, VAR, CHAN, SEQ, PAR, IF, WHILE, ALT, Stmts, noStmt, stmt, Pairs, noPair, pair, Guards, noGuard}
 use Rattle.model.specs.Syntax.{inputGuard, skipGuard, Program}
 use Rattle.model.specs.Reader.{Scope, canInput, canOutput, withVariables, withChannels, numbered}
@@ -16,9 +16,6 @@ WellExpr sc (variable x) = List·Memᴰ x (sc .variables)
 WellExpr sc (NOT e) = WellExpr sc e
 WellExpr sc (binary op l r) = WellExpr sc l × WellExpr sc r
 
-abbrev pub WellWhole : Scope → Whole → Type 0
-WellWhole sc e = WellExpr sc (e .expr)
-
 abbrev pub Inputs : Scope → Site → Type 0
 Inputs sc c = List·Memᴰ c (sc .channels) × (canInput c ≡ true)
 
@@ -29,15 +26,15 @@ abbrev mutual
   pub Well : Scope → Stmt → Type 0
   Well sc SKIP = Unit {0}
   Well sc STOP = Unit {0}
-  Well sc (assign x e) = List·Memᴰ x (sc .variables) × WellWhole sc e
+  Well sc (assign x e) = List·Memᴰ x (sc .variables) × WellExpr sc e
   Well sc (input c x) = Inputs sc c × List·Memᴰ x (sc .variables)
-  Well sc (output c e) = Outputs sc c × WellWhole sc e
+  Well sc (output c e) = Outputs sc c × WellExpr sc e
   Well sc (VAR p n s) = (1 ≤ n) × (n ≤ 32) × Well (withVariables p n sc) s
   Well sc (CHAN p n s) = (1 ≤ n) × (n ≤ 32) × Well (withChannels p n sc) s
   Well sc (SEQ ss) = WellAll sc ss
   Well sc (PAR p ss) = (howMany ss ≤ 16) × WellAll sc ss
   Well sc (IF ps) = WellPairs sc ps
-  Well sc (WHILE e s) = WellWhole sc e × Well sc s
+  Well sc (WHILE e s) = WellExpr sc e × Well sc s
   Well sc (ALT gs) = WellGuards sc gs
 
   pub WellAll : Scope → Stmts → Type 0
@@ -46,12 +43,12 @@ abbrev mutual
 
   pub WellPairs : Scope → Pairs → Type 0
   WellPairs sc noPair = Unit {0}
-  WellPairs sc (pair e s ps) = WellWhole sc e × Well sc s × WellPairs sc ps
+  WellPairs sc (pair e s ps) = WellExpr sc e × Well sc s × WellPairs sc ps
 
   pub WellGuards : Scope → Guards → Type 0
   WellGuards sc noGuard = Unit {0}
-  WellGuards sc (inputGuard e c x s gs) = WellWhole sc e × Inputs sc c × List·Memᴰ x (sc .variables) × Well sc s × WellGuards sc gs
-  WellGuards sc (skipGuard e s gs) = WellWhole sc e × Well sc s × WellGuards sc gs
+  WellGuards sc (inputGuard e c x s gs) = WellExpr sc e × Inputs sc c × List·Memᴰ x (sc .variables) × Well sc s × WellGuards sc gs
+  WellGuards sc (skipGuard e s gs) = WellExpr sc e × Well sc s × WellGuards sc gs
 
 -- the names in scope of a whole program
 abbrev pub outermost : Program → Scope

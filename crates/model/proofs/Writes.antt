@@ -6,7 +6,6 @@ use mathlib.Core.Path.{_≡_, refl, sym, ap, _∙_, subst}
 use mathlib.Core.Logic.{_≢_, _⊎_, inl, inr, ⊎-elim}
 use mathlib.Core.List.{List, List·Memᴰ}
 use mathlib.Core.Option.{Option}
-use borrow.Author.Tests.{eq-eqb, ne-eqb}
 use Rattle.model.specs.Word.{notProcess}
 use Rattle.model.specs.Syntax.{Site}
 use Rattle.model.specs.Usage.{same}
@@ -14,7 +13,7 @@ use Rattle.model.specs.Machine.{linkWord}
 use Rattle.model.specs.Occam.{Store, store, Process, State, Sender, process, outside}
 use Rattle.model.proofs.Cases.{never, by-bool}
 use Rattle.model.proofs.Sites.{same-refl, same-eq}
-use Rattle.model.proofs.Ways.{Mem}
+use Rattle.model.proofs.Ways.{upd, upd-same, upd-other, Mem}
 use Rattle.model.proofs.Paths.{left, leaves-apart, same-path}
 use Rattle.model.proofs.Parts as Parts
 use Rattle.model.proofs.Parts.{Part}
@@ -22,15 +21,8 @@ use Rattle.model.proofs.Marks.{Own}
 use Rattle.model.proofs.Trees.{some-same, Label, alone, parted, alone-info, alone-parted, Info, Sits, Tree, labelAt, parts-apart}
 use Rattle.model.proofs.Trees.{label-sits}
 use Rattle.model.proofs.Zones.{zoneOf, Distant, zones-distant, zone-under, Differ, names-differ}
-use Rattle.model.proofs.Leaves.{upd}
 use Rattle.model.proofs.Stays.{Calm, held-stays}
 use Rattle.model.proofs.Kernel.{Loaded, S, root, LeafAt, NodeAt, Owned, owned, Rest, whose, Lined}
-
-pub upd-same : (μ : Mem) (v z : ℕ) → upd μ v z v ≡ z
-upd-same μ v z = rw (eq-eqb v v refl)
-
-pub upd-other : (μ : Mem) (v z a : ℕ) → a ≢ v → upd μ v z a ≡ μ a
-upd-other μ v z a d = rw (ne-eqb a v d)
 
 -- a state with another store and other offers
 abbrev pub changed : Store → (ℕ → Option ℕ) → State → State

@@ -1,4 +1,4 @@
--- Which tables are accepted: refusals 1 to 9, lowest first after reading (01, "When a call is turned down").
+-- Which tables are accepted: refusals 1 to 7 and 9, lowest first after reading (01, "When a call is turned down").
 use Prim.Native.Nat.{ℕ, _+_}
 use mathlib.Core.Bool.{cond}
 use mathlib.Core.List.{List}
@@ -7,7 +7,7 @@ use lib.Dec.{leb}
 use Rattle.model.specs.Syntax.{Program}
 use Rattle.model.specs.Reader.{Read, program, refused, readTable}
 use Rattle.model.specs.Usage.{firstClash}
-use Rattle.model.specs.Counts.{firstDeep, processes, need}
+use Rattle.model.specs.Counts.{processes, need}
 use Rattle.model.specs.declared.Reading.{Reading}
 use Rattle.model.specs.declared.Reading.the-variants.{Accepted, Refused}
 
@@ -15,23 +15,21 @@ use Rattle.model.specs.declared.Reading.the-variants.{Accepted, Refused}
 abbrev pub limit : ℕ
 limit = 64
 
--- a refusal at the place found, if one was; else what is tested next
-abbrev refusedAt : ℕ → Option ℕ → Read → Read
-refusedAt n none r = r
-refusedAt n (some p) r = refused n p
+-- 7 at the place found, if one was; else what is tested next
+abbrev clashOr : Option ℕ → Read → Read
+clashOr none r = r
+clashOr (some p) r = refused 7 p
 
--- 7 at the first PAR with a clash, 8 at the first expression of over 3 registers, 9 at place 0; lowest first, whatever the places
+-- 7 at the first PAR with a clash, then 9 at place 0: lowest first, whatever the places
 unfoldable pub checks : Program → Read
-checks p =
-    let body = p .body in
-    refusedAt 7 (firstClash body) (refusedAt 8 (firstDeep body) (cond (leb (processes body) limit) (program p) (refused 9 0)))
+checks p = clashOr (firstClash (p .body)) (cond (leb (processes (p .body)) limit) (program p) (refused 9 0))
 
--- 7 to 9 are tested after the whole table was read
+-- 7 and 9 are tested after the whole table was read
 abbrev onRead : Read → Read
 onRead (program p) = checks p
 onRead (refused n p) = refused n p
 
--- a table that passes refusals 1 to 9. 10 and 11 need the code: Code.antt has them
+-- a table that passes refusals 1 to 7 and 9. 10 and 11 need the code: Code.antt has them
 unfoldable pub accept : List ℕ → Read
 accept table = onRead (readTable table)
 

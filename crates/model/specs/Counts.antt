@@ -1,53 +1,47 @@
--- What is counted of a program: registers (refusal 8), live processes (refusal 9), words (01, "Workspace and code").
-use Prim.Native.Nat.{ℕ, _+_, max}
-use mathlib.Core.Bool.{cond}
-use mathlib.Core.Option.{Option, none, some}
-use lib.Dec.{leb}
+-- What is counted of a program: registers and stored values (02, order 2), live processes (refusal 9), words (01, "Workspace and code").
+use Prim.Native.Nat.{ℕ, zero, suc, _+_, min, max}
+use mathlib.Core.Bool.{cond, _&&_}
+use lib.Dec.{ltb, eqb}
 use Rattle.model.specs.Limits.{registerLimit}
-use Rattle.model.specs.Syntax.{Expr, constant, variable, NOT, binary, Whole, Stmt, SKIP, STOP, assign, input, output}
+use Rattle.model.specs.Syntax.{Expr, constant, variable, NOT, binary, Stmt, SKIP, STOP, assign, input, output}
 use Rattle.model.specs.Syntax.{VAR, CHAN, SEQ, PAR, IF, WHILE, ALT, Stmts, noStmt, stmt, Pairs, noPair, pair, Guards, noGuard}
 use Rattle.model.specs.Syntax.{inputGuard, skipGuard}
-use Rattle.model.specs.Usage.{orElse}
 
--- 01, registers: constant or variable 1, NOT as its operand, an operator the larger of left and 1 + right
+-- 02, order 2: an operator whose sides need the same number needs one more, otherwise the larger, and never over 3
+unfoldable pub sidesNeed : (left right : ℕ) → ℕ
+sidesNeed l r = min registerLimit (cond (eqb l r) (suc l) (max l r))
+
+-- 02, order 2, registers: a leaf needs 1; NOT needs what its operand needs; an operator by its sides
 unfoldable pub registers : Expr → ℕ
 registers (constant n) = 1
 registers (variable x) = 1
 registers (NOT e) = registers e
-registers (binary op l r) = max (registers l) (1 + registers r)
+registers (binary op l r) = sidesNeed (registers l) (registers r)
 
--- refusal 8: an expression needing over 3 registers, by its place
-abbrev over3 : Whole → Option ℕ
-over3 e = cond (leb (registers (e .expr)) registerLimit) none (some (e .place))
+-- how two sides are brought in: left first, then right (01); right first, then left; or the right value is stored while left follows
+pub data Order : Type 0 where
+  leftFirst rightFirst rightStored : Order
 
--- refusal 8: the place of the first outermost expression that needs over 3 registers
-unfoldable mutual
-  pub firstDeep : Stmt → Option ℕ
-  firstDeep SKIP = none
-  firstDeep STOP = none
-  firstDeep (assign x e) = over3 e
-  firstDeep (input c x) = none
-  firstDeep (output c e) = over3 e
-  firstDeep (VAR p n s) = firstDeep s
-  firstDeep (CHAN p n s) = firstDeep s
-  firstDeep (SEQ ss) = firstDeepAll ss
-  firstDeep (PAR p ss) = firstDeepAll ss
-  firstDeep (IF ps) = firstDeepPairs ps
-  firstDeep (WHILE e s) = orElse (over3 e) (firstDeep s)
-  firstDeep (ALT gs) = firstDeepGuards gs
+-- 02, order 2: right goes first where the right side needs more than the left; the right value is stored where both need 3
+unfoldable pub orderOf : (left right : ℕ) → Order
+orderOf l r = cond (ltb l r) rightFirst (cond (eqb l registerLimit && eqb r registerLimit) rightStored leftFirst)
 
-  pub firstDeepAll : Stmts → Option ℕ
-  firstDeepAll noStmt = none
-  firstDeepAll (stmt s ss) = orElse (firstDeep s) (firstDeepAll ss)
+-- the same for two expressions
+abbrev pub order : (left right : Expr) → Order
+order l r = orderOf (registers l) (registers r)
 
-  pub firstDeepPairs : Pairs → Option ℕ
-  firstDeepPairs noPair = none
-  firstDeepPairs (pair e s ps) = orElse (over3 e) (orElse (firstDeep s) (firstDeepPairs ps))
+-- the stored values that two sides hold together at most, by what each holds: where the right value is stored, left holds it beside its own
+unfoldable pub sidesHold : Order → (left right : ℕ) → ℕ
+sidesHold leftFirst l r = max l r
+sidesHold rightFirst l r = max l r
+sidesHold rightStored l r = max (suc l) r
 
-  pub firstDeepGuards : Guards → Option ℕ
-  firstDeepGuards noGuard = none
-  firstDeepGuards (inputGuard e c x s gs) = orElse (over3 e) (orElse (firstDeep s) (firstDeepGuards gs))
-  firstDeepGuards (skipGuard e s gs) = orElse (over3 e) (orElse (firstDeep s) (firstDeepGuards gs))
+-- 02, order 2, t: the stored values that an expression holds together at most
+unfoldable pub temporaries : Expr → ℕ
+temporaries (constant n) = 0
+temporaries (variable x) = 0
+temporaries (NOT e) = temporaries e
+temporaries (binary op l r) = sidesHold (order l r) (temporaries l) (temporaries r)
 
 -- 01, live processes: PAR the sum, others the largest part, each at least 1 (refusal 9)
 unfoldable mutual
@@ -86,21 +80,27 @@ unfoldable mutual
   guardProcesses (inputGuard e c x s gs) = max (processes s) (guardProcesses gs)
   guardProcesses (skipGuard e s gs) = max (processes s) (guardProcesses gs)
 
+-- 02, order 2: an ALT needs at least t + 8 words for a guard's condition that stores; without stored values it asks for none
+unfoldable pub guardWords : (t : ℕ) → ℕ
+guardWords zero = 0
+guardWords (suc t) = suc t + 8
+
 -- words that a statement needs below its workspace pointer. 01: SKIP, STOP, assignment 2; input 3; output 4; VAR or CHAN count + body;
--- SEQ, IF, WHILE the most of the parts, at least 2; ALT likewise, at least 4; PAR 2 + the sum of branches
+-- SEQ, IF, WHILE the most of the parts, at least 2; ALT likewise, at least 4; PAR 2 + the sum of branches.
+-- 02, order 2: a statement with a stored expression needs at least t + 2 words; an output t + 3; an ALT t + 8
 unfoldable mutual
   pub need : Stmt → ℕ
   need SKIP = 2
   need STOP = 2
-  need (assign x e) = 2
+  need (assign x e) = temporaries e + 2
   need (input c x) = 3
-  need (output c e) = 4
+  need (output c e) = max 4 (temporaries e + 3)
   need (VAR p n s) = n + need s
   need (CHAN p n s) = n + need s
   need (SEQ ss) = max 2 (mostNeed ss)
   need (PAR p ss) = 2 + sumNeed ss
   need (IF ps) = max 2 (pairNeed ps)
-  need (WHILE e s) = max 2 (need s)
+  need (WHILE e s) = max (temporaries e + 2) (need s)
   need (ALT gs) = max 4 (guardNeed gs)
 
   -- SEQ: the most of the parts
@@ -113,13 +113,13 @@ unfoldable mutual
   sumNeed noStmt = 0
   sumNeed (stmt s ss) = need s + sumNeed ss
 
-  -- IF: the most of the parts
+  -- IF: the most of the parts, and of what the conditions ask for
   pub pairNeed : Pairs → ℕ
   pairNeed noPair = 0
-  pairNeed (pair e s ps) = max (need s) (pairNeed ps)
+  pairNeed (pair e s ps) = max (temporaries e + 2) (max (need s) (pairNeed ps))
 
-  -- ALT: the most of the parts
+  -- ALT: the most of the parts, and of what the conditions ask for
   pub guardNeed : Guards → ℕ
   guardNeed noGuard = 0
-  guardNeed (inputGuard e c x s gs) = max (need s) (guardNeed gs)
-  guardNeed (skipGuard e s gs) = max (need s) (guardNeed gs)
+  guardNeed (inputGuard e c x s gs) = max (guardWords (temporaries e)) (max (need s) (guardNeed gs))
+  guardNeed (skipGuard e s gs) = max (guardWords (temporaries e)) (max (need s) (guardNeed gs))

@@ -1,6 +1,6 @@
 -- The proved examples of 01 as one statement about the definitions. proofs/Examples.antt proves each part by computation.
 -- Bytes are hexadecimal, the rest decimal. Beside 01's list stand depth 33 and the depths of NOTs and, from GT on, operators by Occam's
--- rules and, as a program that outputs what they give, in the machine; and names of two scopes.
+-- rules and, as a program that outputs what they give, in the machine; names of two scopes; and stored values (02, order 2).
 use Prim.Native.Nat.{ℕ, zero, suc}
 use Prim.Native.String.{String, _++_}
 use mathlib.Core.Path.{_≡_}
@@ -8,7 +8,8 @@ use mathlib.Core.List.{List, [], _∷_}
 use mathlib.Core.Option.{Option, none, some}
 use lib.IntN.{pos, negℤ}
 use Rattle.model.specs.Word.{minus, signed}
-use Rattle.model.specs.Syntax.{Site, PLUS, TIMES, GT, AND, XOR, NOT, constant, Whole, input, output, PAR, noStmt, stmt}
+use Rattle.model.specs.Syntax.{Site, PLUS, MINUS, TIMES, GT, AND, XOR, Expr, NOT, constant, binary, SKIP, assign, input, output, PAR}
+use Rattle.model.specs.Syntax.{ALT, noStmt, stmt, noGuard, skipGuard}
 use Rattle.model.specs.Reader.{refused}
 use Rattle.model.specs.Counts.{need}
 use Rattle.model.specs.Accept.{accept}
@@ -62,6 +63,20 @@ outputting e = 0x00 ∷ 0x01 ∷ 0x04 ∷ 0x00 ∷ e
 abbrev assigning : (expression : List ℕ) → List ℕ
 assigning e = 0x00 ∷ 0x00 ∷ 0x05 ∷ 0x04 ∷ 0x02 ∷ 0x00 ∷ e
 
+-- sums of constants: of two, which need 2 registers, and of four, which need 3
+abbrev sumOf : (a b : ℕ) → Expr
+sumOf a b = binary PLUS (constant a) (constant b)
+
+abbrev sumOfFour : Expr
+sumOfFour = binary PLUS (sumOf 1 2) (sumOf 3 4)
+
+-- differences of these, which store one value and hold two together
+abbrev storesOne : Expr
+storesOne = binary MINUS sumOfFour sumOfFour
+
+abbrev storesTwo : Expr
+storesTwo = binary MINUS storesOne sumOfFour
+
 -- 01, "Proved examples", as one statement
 pub record Examples : Type 0 where
   -- LDC 1876 is 27 25 44. LDC -31 is 61 41
@@ -76,7 +91,7 @@ pub record Examples : Type 0 where
   pub plus : signed (operate PLUS 2147483647 1) ≡ negℤ (pos 2147483648)
   pub bits : operate AND 1 2 ≡ 0
   -- PAR of an output and an input needs 9 words
-  pub words : (p : ℕ) (c d x : Site) (e : Whole) → need (PAR p (stmt (output c e) (stmt (input d x) noStmt))) ≡ 9
+  pub words : (p n : ℕ) (c d x : Site) → need (PAR p (stmt (output c (constant n)) (stmt (input d x) noStmt))) ≡ 9
   -- 00 00 07 00 has no code and ends after 0
   pub no-code : Prints (0x00 ∷ 0x00 ∷ 0x07 ∷ 0x00 ∷ []) "bytes 0\nwords 2\ncode\nended 0\n"
   -- 00 00 01 is 21 F5 and waits
@@ -103,9 +118,10 @@ pub record Examples : Type 0 where
   pub clash : Prints
       (0x00 ∷ 0x00 ∷ 0x05 ∷ 0x01 ∷ 0x08 ∷ 0x02 ∷ 0x02 ∷ 0x00 ∷ 0x00 ∷ 0x01 ∷ 0x02 ∷ 0x00 ∷ 0x00 ∷ 0x02 ∷ [])
       "refused 7 at 4\n"
-  -- a + (b + (c + d)) gets 8, ((a + b) + c) + d passes
-  pub right-sum : Refused
-      (assigning (0x03 ∷ 0x00 ∷ 0x01 ∷ 0x00 ∷ 0x03 ∷ 0x00 ∷ 0x01 ∷ 0x01 ∷ 0x03 ∷ 0x00 ∷ 0x01 ∷ 0x02 ∷ 0x01 ∷ 0x03 ∷ [])) 8 6
+  -- a + (b + (c + d)) passes with order 2 of 02, and ((a + b) + c) + d passes
+  pub right-sum : Prints
+      (assigning (0x03 ∷ 0x00 ∷ 0x01 ∷ 0x00 ∷ 0x03 ∷ 0x00 ∷ 0x01 ∷ 0x01 ∷ 0x03 ∷ 0x00 ∷ 0x01 ∷ 0x02 ∷ 0x01 ∷ 0x03 ∷ []))
+      "bytes 24\nwords 6\ncode 60 bc 40 d0 40 d1 40 d2 40 d3 72 73 25 f2 71 f0 25 f2 70 f0 25 f2 d0 b4\nended 24\n"
   pub left-sum : Prints
       (assigning (0x03 ∷ 0x00 ∷ 0x03 ∷ 0x00 ∷ 0x03 ∷ 0x00 ∷ 0x01 ∷ 0x00 ∷ 0x01 ∷ 0x01 ∷ 0x01 ∷ 0x02 ∷ 0x01 ∷ 0x03 ∷ []))
       "bytes 22\nwords 6\ncode 60 bc 40 d0 40 d1 40 d2 40 d3 70 71 25 f2 72 25 f2 73 25 f2 d0 b4\nended 22\n"
@@ -136,6 +152,19 @@ pub record Examples : Type 0 where
   pub not-0 : (σ : Store) → eval σ (NOT (constant 0)) ≡ 1
   pub not-0-run : Prints (outputting (0x02 ∷ 0x00 ∷ 0x00 ∷ []))
       "bytes 8\nwords 5\ncode 40 c0 10 f0 60 bf ff b1\nout 0 1\nended 8\n"
+  -- 02, order 2, both sides need 3: ((1 + 2) + (3 + 4)) - ((5 + 6) + (7 + 8)) stores its right side
+  pub stored : Prints
+      (outputting
+      (0x03 ∷ 0x01 ∷ 0x03 ∷ 0x00 ∷ 0x03 ∷ 0x00 ∷ 0x00 ∷ 0x01 ∷ 0x00 ∷ 0x02 ∷ 0x03 ∷ 0x00 ∷ 0x00 ∷ 0x03 ∷ 0x00 ∷ 0x04
+      ∷ 0x03 ∷ 0x00 ∷ 0x03 ∷ 0x00 ∷ 0x00 ∷ 0x05 ∷ 0x00 ∷ 0x06 ∷ 0x03 ∷ 0x00 ∷ 0x00 ∷ 0x07 ∷ 0x00 ∷ 0x08 ∷ []))
+      ("bytes 32\nwords 5\n"
+      ++ "code 60 bf 45 46 25 f2 47 48 25 f2 25 f2 d0 41 42 25 f2 43 44 25 f2 25 f2 70 f4 b1 10 f0 60 bf ff b1\n"
+      ++ "out 0 -16\nended 32\n")
+  -- words by stored values: with t = 2 an assignment needs 4 and an output 5; with t = 1 an ALT needs 9, with none 4
+  pub words-assign : (x : Site) → need (assign x storesTwo) ≡ 4
+  pub words-output : (c : Site) → need (output c storesTwo) ≡ 5
+  pub words-guard : need (ALT (skipGuard storesOne SKIP noGuard)) ≡ 9
+  pub words-plain-guard : need (ALT (skipGuard (sumOf 1 2) SKIP noGuard)) ≡ 4
   -- a VAR in a VAR: a := 7, then inside b := 9 and the outputs of a and of b, then after the inner VAR the output of a
   pub scopes : Prints
       (0x00 ∷ 0x01 ∷ 0x05 ∷ 0x01 ∷ 0x07 ∷ 0x03 ∷ 0x02 ∷ 0x00 ∷ 0x00 ∷ 0x07

@@ -17,7 +17,7 @@ wordLimit = 4096
 abbrev pub depthLimit : ℕ
 depthLimit = 32
 
--- registers that an expression needs (refusal 8)
+-- the registers that an expression's code may use (02, order 2: never over 3)
 abbrev pub registerLimit : ℕ
 registerLimit = 3
 

@@ -9,7 +9,7 @@ use lib.Dec.{eqb}
 use lib.Signed.{ltZ}
 use Rattle.model.specs.Word.{low, less, signed, truth}
 use Rattle.model.specs.Syntax.{Site, inputOf, outputOf, Operator, PLUS, MINUS, TIMES, GT, EQ, AND, OR, XOR, Expr, constant, variable}
-use Rattle.model.specs.Syntax.{NOT, binary, Whole, Stmt, SKIP, STOP, assign, input, output, VAR, CHAN, SEQ, PAR, IF, WHILE, ALT}
+use Rattle.model.specs.Syntax.{NOT, binary, Stmt, SKIP, STOP, assign, input, output, VAR, CHAN, SEQ, PAR, IF, WHILE, ALT}
 use Rattle.model.specs.Syntax.{Stmts, noStmt, stmt, Pairs, noPair, pair, Guards, inputGuard, skipGuard, Program}
 use Rattle.model.specs.Reader.{names}
 use Rattle.model.specs.Usage.{same, isIn}
@@ -44,13 +44,9 @@ eval σ (variable x) = σ x
 eval σ (NOT e) = deny (eval σ e)
 eval σ (binary op l r) = operate op (eval σ l) (eval σ r)
 
--- the same for an expression that stands in no other
-abbrev pub value : Store → Whole → ℕ
-value σ e = eval σ (e .expr)
-
 -- a condition is true when not 0
-abbrev pub isTrue : Store → Whole → Bool
-isTrue σ e = not (eqb (value σ e) 0)
+abbrev pub isTrue : Store → Expr → Bool
+isTrue σ e = not (eqb (eval σ e) 0)
 
 -- a variable gets a value: assignment and input
 abbrev pub store : Site → ℕ → Store → Store
@@ -64,7 +60,7 @@ zeros xs σ = λ y. cond (isIn y xs) 0 (σ y)
 pub data Frame : Type 0 where
   inSeq : Stmts → Frame
   inVar : List Site → Frame
-  inWhile : Whole → Stmt → Frame
+  inWhile : Expr → Stmt → Frame
 
 -- a process, and what it goes on with. `before`: about to begin a statement. The next four: waiting there; an output holds its value.
 -- In a PAR, a branch whose process is finished has not yet taken the step of its end; after it, it is over
@@ -139,9 +135,9 @@ moved p σ = record { process = p; store = σ }
 unfoldable pub go : Stmt → List Frame → Store → Moved
 go SKIP k σ = moved (resume k) σ
 go STOP k σ = moved (atStop k) σ
-go (assign x e) k σ = moved (resume k) (store x (value σ e) σ)
+go (assign x e) k σ = moved (resume k) (store x (eval σ e) σ)
 go (input c x) k σ = moved (atInput c x k) σ
-go (output c e) k σ = moved (atOutput c (value σ e) k) σ
+go (output c e) k σ = moved (atOutput c (eval σ e) k) σ
 go (VAR p n s) k σ = moved (begin s (inVar (names p n) ∷ k)) (zeros (names p n) σ)
 go (CHAN p n s) k σ = moved (begin s k) σ
 go (SEQ ss) k σ = moved (begin (SEQ ss) k) σ
@@ -247,11 +243,11 @@ module _ (st : State) where
 
   -- an ALT takes any one true guard that is SKIP or whose channel has a sender; the guard's input is a later step
   pub data Choice (k : List Frame) : Guards → Process → Type 0 where
-    by-input : {e : Whole} {c x : Site} {s : Stmt} {gs : Guards} → isTrue (st .store) e ≡ true → Sender c
+    by-input : {e : Expr} {c x : Site} {s : Stmt} {gs : Guards} → isTrue (st .store) e ≡ true → Sender c
         → Choice k (inputGuard e c x s gs) (begin (SEQ (stmt (input c x) (stmt s noStmt))) k)
-    by-skip : {e : Whole} {s : Stmt} {gs : Guards} → isTrue (st .store) e ≡ true → Choice k (skipGuard e s gs) (begin s k)
-    past-input : {e : Whole} {c x : Site} {s : Stmt} {gs : Guards} {p : Process} → Choice k gs p → Choice k (inputGuard e c x s gs) p
-    past-skip : {e : Whole} {s : Stmt} {gs : Guards} {p : Process} → Choice k gs p → Choice k (skipGuard e s gs) p
+    by-skip : {e : Expr} {s : Stmt} {gs : Guards} → isTrue (st .store) e ≡ true → Choice k (skipGuard e s gs) (begin s k)
+    past-input : {e : Expr} {c x : Site} {s : Stmt} {gs : Guards} {p : Process} → Choice k gs p → Choice k (inputGuard e c x s gs) p
+    past-skip : {e : Expr} {s : Stmt} {gs : Guards} {p : Process} → Choice k gs p → Choice k (skipGuard e s gs) p
 
   -- any live process that can go may take the next step
   pub data Step : List Communication → State → Type 0 where

@@ -9,7 +9,7 @@ use lib.Dec.{leb}
 use Rattle.model.specs.Number.{Number, number}
 use Rattle.model.specs.Limits.{tableLimit, depthLimit, channelLimit, nameLimit, partLimit, branchLimit}
 use Rattle.model.specs.Syntax.{Site, inputOf, outputOf, declared, Operator, PLUS, MINUS, TIMES, GT, EQ, AND, OR, XOR, Expr, constant}
-use Rattle.model.specs.Syntax.{variable, NOT, binary, Whole, Stmt, SKIP, STOP, assign, input, output, VAR, CHAN, SEQ, PAR, IF, WHILE}
+use Rattle.model.specs.Syntax.{variable, NOT, binary, Stmt, SKIP, STOP, assign, input, output, VAR, CHAN, SEQ, PAR, IF, WHILE}
 use Rattle.model.specs.Syntax.{ALT, noStmt, stmt, Pairs, noPair, pair, Guards, noGuard, inputGuard, skipGuard, Program}
 
 -- what was read, the place of the next byte and the bytes from there on; or a refusal's number and place
@@ -169,13 +169,6 @@ readExpr (suc d) scope = do
   k ← oneOf exprKinds
   exprOf scope (readExpr d scope) k
 
--- an expression that stands in no other, with the place that refusal 8 returns
-unfoldable pub readWhole : ℕ → Scope → Reader Whole
-readWhole d scope = do
-  at ← here
-  e ← readExpr d scope
-  pure (record { place = at; expr = e })
-
 -- so many parts, one after the other
 unfoldable pub readMany : {A L : Type 0} → L → (A → L → L) → Reader A → ℕ → Reader L
 readMany empty more part zero = pure empty
@@ -202,7 +195,7 @@ guardKinds = isInputGuard ∷ isSkipGuard ∷ []
 
 -- the readers of the parts inside a statement
 pub record Inner : Type 0 where
-  pub expr : Reader Whole
+  pub expr : Reader Expr
   pub stmt : Scope → Reader Stmt
 
 -- a pair of an IF: expression, statement
@@ -256,7 +249,7 @@ readStmt zero scope = tooDeep
 readStmt (suc d) scope = do
   at ← here
   k ← oneOf stmtKinds
-  stmtOf at scope (record { expr = readWhole d scope; stmt = readStmt d }) k
+  stmtOf at scope (record { expr = readExpr d scope; stmt = readStmt d }) k
 
 -- 01: first two numbers, 0 to 8 each: outside inputs, then outside outputs, numbered so. Then one statement, at depth 1; 32 is the deepest
 unfoldable pub readProgram : Reader Program

@@ -2,10 +2,10 @@
 use Prim.Native.Nat.{ℕ, zero, suc, _+_, _-_, _*_}
 use mathlib.Core.List.{List, [], _∷_, _++_}
 use Rattle.model.specs.Word.{less, minus}
-use Rattle.model.specs.Syntax.{Site, Operator, PLUS, MINUS, TIMES, GT, EQ, AND, OR, XOR, Expr, constant, variable, NOT, binary, Whole}
+use Rattle.model.specs.Syntax.{Site, Operator, PLUS, MINUS, TIMES, GT, EQ, AND, OR, XOR, Expr, constant, variable, NOT, binary}
 use Rattle.model.specs.Syntax.{Stmt, SKIP, STOP, assign, input, output, VAR, CHAN, SEQ, PAR, IF, WHILE, ALT, Stmts, noStmt, stmt}
 use Rattle.model.specs.Syntax.{Pairs, noPair, pair, Guards, noGuard, inputGuard, skipGuard, Program}
-use Rattle.model.specs.Counts.{need}
+use Rattle.model.specs.Counts.{Order, leftFirst, rightFirst, rightStored, order, temporaries, need}
 use Rattle.model.specs.Layout.{base, wordOf}
 use Rattle.model.specs.Instruction as I
 use Rattle.model.specs.Instruction.{Instruction, plain, distance, operation, ldlp, ldc, ldl, cj, ajw, eqc, stl, rev, endp, diff, «in»}
@@ -21,6 +21,23 @@ operatorCode EQ = operation diff ∷ plain eqc 0 ∷ []
 operatorCode AND = operation I.and ∷ []
 operatorCode OR = operation I.or ∷ []
 operatorCode XOR = operation I.xor ∷ []
+
+-- 02, order 2: the code of two sides apart from the operator; it leaves left in B and right in A. Left, then right; right first, then left,
+-- then REV; or right is stored, left follows, and the word is loaded. `h` values are held before: that is the stored value's number, and
+-- left is computed with one more held
+unfoldable pub sidesCode : Order → (h : ℕ) → (left : ℕ → List Instruction) → (right : List Instruction) → List Instruction
+sidesCode leftFirst h left right = left h ++ right
+sidesCode rightFirst h left right = right ++ left h ++ operation rev ∷ []
+sidesCode rightStored h left right = right ++ plain stl h ∷ left (suc h) ++ plain ldl h ∷ []
+
+-- code with t stored values, at w lowered by t and so many words more; without stored values, at w
+unfoldable pub wrapped : (t more w : ℕ) → (ℕ → List Instruction) → List Instruction
+wrapped zero more w code = code w
+wrapped (suc t) more w code = let n = suc t + more in plain ajw (minus n) ∷ code (w - n) ++ plain ajw n ∷ []
+
+-- 02, order 2, the 5 of AJW -t-5: an ALT's own words below its W, which are resume place, queue link, state, and two for a time guard
+abbrev pub altWords : ℕ
+altWords = 5
 
 -- VAR and CHAN: LDC 0 or MINT, then STL j, for j = 0 to n - 1
 unfoldable pub initialise : Instruction → ℕ → List Instruction
@@ -38,16 +55,27 @@ operatorSize AND = 1
 operatorSize OR = 1
 operatorSize XOR = 1
 
+-- how many instructions bring in two sides, by how many each has: REV, or STL and LDL, beside them
+unfoldable pub sidesSize : Order → (left right : ℕ) → ℕ
+sidesSize leftFirst l r = l + r
+sidesSize rightFirst l r = l + r + 1
+sidesSize rightStored l r = l + r + 2
+
 -- how many instructions an expression has
 unfoldable pub exprSize : Expr → ℕ
 exprSize (constant n) = 1
 exprSize (variable x) = 1
 exprSize (NOT e) = exprSize e + 1
-exprSize (binary op l r) = exprSize l + exprSize r + operatorSize op
+exprSize (binary op l r) = sidesSize (order l r) (exprSize l) (exprSize r) + operatorSize op
 
--- the same for an expression that stands in no other
-abbrev pub wholeSize : Whole → ℕ
-wholeSize e = exprSize (e .expr)
+-- how many instructions wrap an expression with so many stored values: its two AJWs
+unfoldable pub wrapSize : (t : ℕ) → ℕ
+wrapSize zero = 0
+wrapSize (suc t) = 2
+
+-- how many instructions a whole expression has, one that stands in no other
+unfoldable pub wholeSize : Expr → ℕ
+wholeSize e = exprSize e + wrapSize (temporaries e)
 
 -- how many statements or branches there are
 unfoldable pub howMany : Stmts → ℕ
@@ -108,16 +136,20 @@ module _ (word : Site → ℕ) where
   abbrev pub local : (w : ℕ) → Site → ℕ
   local w x = less (word x) w
 
-  -- 01, expression: LDC a constant, LDL a variable; left, right, then the operation; NOT is EQC 0
-  unfoldable pub exprCode : (w : ℕ) → Expr → List Instruction
-  exprCode w (constant n) = plain ldc n ∷ []
-  exprCode w (variable x) = plain ldl (local w x) ∷ []
-  exprCode w (NOT e) = exprCode w e ++ plain eqc 0 ∷ []
-  exprCode w (binary op l r) = exprCode w l ++ exprCode w r ++ operatorCode op
+  -- 01, expression: LDC a constant, LDL a variable; both sides, then the operation; NOT is EQC 0. `h` stored values are held before it
+  unfoldable pub exprCode : (w h : ℕ) → Expr → List Instruction
+  exprCode w h (constant n) = plain ldc n ∷ []
+  exprCode w h (variable x) = plain ldl (local w x) ∷ []
+  exprCode w h (NOT e) = exprCode w h e ++ plain eqc 0 ∷ []
+  exprCode w h (binary op l r) = sidesCode (order l r) h (λ k. exprCode w k l) (exprCode w h r) ++ operatorCode op
 
-  -- the code of an expression that stands in no other
-  abbrev pub wholeCode : (w : ℕ) → Whole → List Instruction
-  wholeCode w e = exprCode w (e .expr)
+  -- the code of a whole expression, one that stands in no other. 02, order 2: one with stored values is wrapped in AJW -t and AJW t;
+  -- in an ALT's guards in AJW -t-5 and AJW t + 5, below the ALT's own words
+  abbrev pub wholeCode : (w : ℕ) → Expr → List Instruction
+  wholeCode w e = wrapped (temporaries e) 0 w (λ v. exprCode v 0 e)
+
+  abbrev pub guardCode : (w : ℕ) → Expr → List Instruction
+  guardCode w e = wrapped (temporaries e) altWords w (λ v. exprCode v 0 e)
 
   -- 01, input: LDLP variable, LDLP channel, LDC 4, IN
   abbrev pub inputCode : (w : ℕ) → (channel variable : Site) → List Instruction
@@ -210,22 +242,22 @@ module _ (word : Site → ℕ) where
     pub codeEnable : (w : ℕ) → Guards → List Instruction
     codeEnable w noGuard = []
     codeEnable w (inputGuard e c x s gs) =
-        wholeCode w e ++ plain ldlp (local w c) ∷ operation rev ∷ operation enbc ∷ codeEnable w gs
-    codeEnable w (skipGuard e s gs) = wholeCode w e ++ operation enbs ∷ codeEnable w gs
+        guardCode w e ++ plain ldlp (local w c) ∷ operation rev ∷ operation enbc ∷ codeEnable w gs
+    codeEnable w (skipGuard e s gs) = guardCode w e ++ operation enbs ∷ codeEnable w gs
 
     -- per guard condition, LDLP channel, REV, LDC branch, DISC, or condition, LDC branch, DISS.
     -- `choice` is the index of ALTEND, b that of the first branch
     pub codeDisable : (w choice b : ℕ) → Guards → List Instruction
     codeDisable w choice b noGuard = []
     codeDisable w choice b (inputGuard e c x s gs) =
-        wholeCode w e
+        guardCode w e
         ++ plain ldlp (local w c)
         ∷ operation rev
         ∷ distance ldc b choice
         ∷ operation disc
         ∷ codeDisable w choice (b + 1 + 4 + size s + 1) gs
     codeDisable w choice b (skipGuard e s gs) =
-        wholeCode w e ++ distance ldc b choice ∷ operation diss ∷ codeDisable w choice (b + 1 + size s + 1) gs
+        guardCode w e ++ distance ldc b choice ∷ operation diss ∷ codeDisable w choice (b + 1 + size s + 1) gs
 
     -- per branch AJW 1, the input if any, statement, J end; the last branch too
     pub codeBranches : (w i over : ℕ) → Guards → List Instruction

@@ -20,24 +20,19 @@ pub data Expr : Type 0 where
   NOT : Expr → Expr
   binary : Operator → Expr → Expr → Expr
 
--- an expression that stands in no other, with the place of its first byte, which refusal 8 returns
-pub record Whole : Type 0 where
-  pub place : ℕ
-  pub expr : Expr
-
 -- VAR, CHAN and PAR have the place of their first byte: it tells declarations apart, and refusal 7 returns it
 mutual
   -- a statement: 01's kinds 0 SKIP to 11 ALT
   pub data Stmt : Type 0 where
     SKIP STOP : Stmt
-    assign : Site → Whole → Stmt
+    assign : Site → Expr → Stmt
     input : (channel variable : Site) → Stmt
-    output : (channel : Site) → Whole → Stmt
+    output : (channel : Site) → Expr → Stmt
     VAR CHAN : (place count : ℕ) → Stmt → Stmt
     SEQ : Stmts → Stmt
     PAR : (place : ℕ) → Stmts → Stmt
     IF : Pairs → Stmt
-    WHILE : Whole → Stmt → Stmt
+    WHILE : Expr → Stmt → Stmt
     ALT : Guards → Stmt
 
   -- the statements of a SEQ or PAR
@@ -48,13 +43,13 @@ mutual
   -- the pairs of an IF: expression, statement
   pub data Pairs : Type 0 where
     noPair : Pairs
-    pair : Whole → Stmt → Pairs → Pairs
+    pair : Expr → Stmt → Pairs → Pairs
 
   -- a guard that waits for input, or a SKIP guard, and the statement that it guards
   pub data Guards : Type 0 where
     noGuard : Guards
-    inputGuard : Whole → (channel variable : Site) → Stmt → Guards → Guards
-    skipGuard : Whole → Stmt → Guards → Guards
+    inputGuard : Expr → (channel variable : Site) → Stmt → Guards → Guards
+    skipGuard : Expr → Stmt → Guards → Guards
 
 -- outside input channels, outside output channels, the statement
 pub record Program : Type 0 where

@@ -5,7 +5,7 @@ use mathlib.Core.Bool.{Bool, false, cond, _&&_, _||_}
 use mathlib.Core.List.{List, [], _∷_, _++_}
 use mathlib.Core.Option.{Option, none, some}
 use lib.Dec.{eqb}
-use Rattle.model.specs.Syntax.{Site, inputOf, outputOf, declared, Expr, constant, variable, NOT, binary, Whole, Stmt, SKIP}
+use Rattle.model.specs.Syntax.{Site, inputOf, outputOf, declared, Expr, constant, variable, NOT, binary, Stmt, SKIP}
 use Rattle.model.specs.Syntax.{STOP, assign, input, output, VAR, CHAN, SEQ, PAR, IF, WHILE, ALT, Stmts, noStmt, stmt, Pairs, noPair}
 use Rattle.model.specs.Syntax.{pair, Guards, noGuard, inputGuard, skipGuard}
 
@@ -39,8 +39,8 @@ reads (NOT e) = reads e
 reads (binary op l r) = reads l ++ reads r
 
 -- an expression uses its variables, a condition too
-abbrev pub reading : Whole → Usage
-reading e = record { changes = []; uses = reads (e .expr); inputs = []; outputs = [] }
+abbrev pub reading : Expr → Usage
+reading e = record { changes = []; uses = reads e; inputs = []; outputs = [] }
 
 -- assigning or inputting a variable, which also uses it
 abbrev pub changing : Site → Usage

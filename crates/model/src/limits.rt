@@ -17,7 +17,7 @@ pub const DEPTH: u64 = 32;
 // Processes that are live together.
 pub const PROCESSES: u64 = 64;
 
-// Registers that an expression needs.
+// The registers that an expression's code may use.
 pub const REGISTERS: u64 = 3;
 
 // Outside inputs, and outside outputs: as a table's count, and as a start's.

@@ -1,5 +1,5 @@
 -- ALT.
-use Prim.Native.Nat.{ℕ, _-_, _≤_}
+use Prim.Native.Nat.{ℕ, _-_, _≤_, max}
 use native.Mathlib.Omega.{arith}
 use mathlib.Core.Path.{_≡_, refl, sym, ap, _∙_}
 use mathlib.Core.Bool.{cond}
@@ -7,13 +7,13 @@ use mathlib.Core.List.{List}
 use lib.ListN.{length, drop}
 use lib.Seq.{slice}
 use lib.Dec.{eqb}
-use Rattle.model.specs.Syntax.{Site, Whole, stmt, Guards, noGuard, inputGuard, skipGuard}
+use Rattle.model.specs.Syntax.{Site, stmt, Guards, noGuard, inputGuard, skipGuard}
 use Rattle.model.specs.Syntax as M
-use Rattle.model.specs.Reader.{onward, pure, Scope, readWhole, Inner, stmtOf, applied, readGuard, guardOf, isAlt, isInputGuard, isSkipGuard}
+use Rattle.model.specs.Reader.{onward, pure, Scope, readExpr, Inner, stmtOf, applied, readGuard, guardOf, isAlt, isInputGuard, isSkipGuard}
 use Rattle.model.specs.Reader.{guardKinds, readStmt}
 use Rattle.model.specs.Usage.{Usage, _⊕_, reading, changing, inputting, usage, firstClash, usageGuards, firstClashGuards}
-use Rattle.model.specs.Counts.{firstDeep, processes, need, guardNeed, guardProcesses, firstDeepGuards}
-use Rattle.table.specs.Stmts.{firstOf, wholeAt, takenAt, Fits, stmtAt, headAt, withHead, withStmt}
+use Rattle.model.specs.Counts.{temporaries, guardWords, processes, need, guardNeed, guardProcesses}
+use Rattle.table.specs.Stmts.{asked, wholeAt, takenAt, Fits, stmtAt, headAt, withHead, withStmt}
 use Rattle.table.specs.Stmts.{guardAt, behind, nothing as no-part, partAt, mostFrom, gathered}
 use Rattle.table.specs.Uses.{thenUsed, nameUsed, variableUsed, exprUsed, stmtUsed, headUsed, guardUsed}
 use Rattle.numbers.specs.declared.Item.{Item}
@@ -24,57 +24,53 @@ use Rattle.table.specs.declared.stmt.HeadRead.{HeadRead}
 use Rattle.table.specs.declared.stmt.HeadRead.the-variants.{Head, Refused as NoHead}
 use Rattle.table.proofs.SameItems.{Bytes, NumberAt, Same, gives, onwards, Listed, one-same, each}
 use Rattle.table.proofs.Marks.{Stretch, number-in, later}
-use Rattle.table.proofs.SameSimple.{first, partOf, Within, Scoped, UsesFrom, RestIs, StmtIs, wider, within-both, use-both, noted}
+use Rattle.table.proofs.SameSimple.{first, partOf, Within, Scoped, UsesFrom, RestIs, StmtIs, wider, within-both, use-both}
 use Rattle.table.proofs.SameSimple.{WholeIs, taken-onward, input-used, within-input}
 use Rattle.table.proofs.SameDeclare.{InnerIs}
 use Rattle.numbers.specs.Items.{betweenAt, withItem}
 use Rattle.table.proofs.SameMany.{first-orElse, Counting, partWay, PartIs}
-use Rattle.table.proofs.SameParts.{outer-later, scoped-later, plus-assoc, deeper, condition-same, whole-scoped, countedWay}
+use Rattle.table.proofs.SameParts.{outer-later, scoped-later, plus-assoc, condition-same, whole-scoped, countedWay}
 use Rattle.table.proofs.SameParts.{counted-same}
 
 abbrev guarded : Counting Guards
-unfolding guardNeed guardProcesses firstDeepGuards firstClashGuards usageGuards
+unfolding guardNeed guardProcesses firstClashGuards usageGuards
 guarded =
     record {
       empty = noGuard;
       needs = guardNeed;
       lives = guardProcesses;
-      deeps = firstDeepGuards;
       clashes = firstClashGuards;
       usages = usageGuards;
       no-needs = refl;
       no-lives = refl;
-      no-deeps = refl;
       no-clashes = refl;
       no-usages = refl;
     }
 
 -- the statement behind a guard's head
 abbrev behindHead : (d : ℕ) → Names → List ℕ → HeadRead → StmtRead
-behindHead d w s x = withHead NoStmt x (λ n e. withStmt NoStmt (stmtAt d w s n) (λ p. Stmt (behind e p)))
+behindHead d w s x = withHead NoStmt x (λ n a. withStmt NoStmt (stmtAt d w s n) (λ p. Stmt (behind a p)))
 
 skip-guard : (s : List ℕ) (d : ℕ) (w : Names) (sc : Scope) (place : ℕ) (inner : Inner) → Bytes s → Scoped w sc place → Fits w d
     → InnerIs s d
-    → inner .expr ≡ readWhole d sc → inner .stmt ≡ readStmt d → (at n : ℕ) → place ≤ at → NumberAt s at 1 n
+    → inner .expr ≡ readExpr d sc → inner .stmt ≡ readStmt d → (at n : ℕ) → place ≤ at → NumberAt s at 1 n
     → Same s (λ a m x. PartIs guarded s d sc 11 place at (applied a) m x) NoStmt
-    (behindHead d w s (withHead NoHead (wholeAt d (w .variables) s n) (λ m e. Head m e))) (guardOf sc inner isSkipGuard n (drop n s))
-unfolding headUsed guardUsed guardOf guardNeed guardProcesses firstDeepGuards firstClashGuards usageGuards
+    (behindHead d w s (withHead NoHead (wholeAt 11 d (w .variables) s n) (λ m a. Head m a))) (guardOf sc inner isSkipGuard n (drop n s))
+unfolding headUsed guardUsed guardOf asked guardNeed guardProcesses firstClashGuards usageGuards
 skip-guard s d w sc place inner b h f i ee es at n l t =
-    rw (ee, es, same-head (wholeAt d (w .variables) s n)) (
-    condition-same (λ a m x. PartIs guarded s d sc 11 place at (applied a) m x) s d w sc place n (λ e st. skipGuard e st) b
+    rw (ee, es, same-head (wholeAt 11 d (w .variables) s n)) (
+    condition-same (λ a m x. PartIs guarded s d sc 11 place at (applied a) m x) s 11 d w sc place n (λ e st. skipGuard e st) b
     (omega (arith, l, t .ahead)) h f i
     (λ e st o k.
     record {
-      words = need st;
+      words = max (guardWords (temporaries e)) (need st);
       processes = processes st;
-      deep = firstOf (noted e) (first (firstDeep st));
       clash = first (firstClash st);
       use-of = reading e ⊕ usage st;
       is = refl;
       ahead = omega (arith, t .ahead, k .ahead);
-      needs = λ gs. refl;
+      needs = λ gs. omega arith;
       lives = λ gs. refl;
-      deeps = λ gs. deeper e (firstDeep st) (firstDeepGuards gs);
       clashes = λ gs. first-orElse (firstClash st) (firstClashGuards gs);
       usages = λ gs. sym (plus-assoc (reading e) (usage st) (usageGuards gs));
       uses = λ vs cs from to j out z.
@@ -84,19 +80,19 @@ skip-guard s d w sc place inner b h f i ee es at n l t =
       within = k .within;
     }))
   where
-    same-head : (x : HeadRead) → withHead NoHead x (λ m e. Head m e) ≡ x
+    same-head : (x : HeadRead) → withHead NoHead x (λ m a. Head m a) ≡ x
     same-head (Head m e) = refl
     same-head (NoHead k p) = refl
 
 -- an input guard's head and its statement together
-record InputGuardIs (s : List ℕ) (d : ℕ) (sc : Scope) (place at : ℕ) (e : Whole) (ch x : Site) (st : M.Stmt) (n : ℕ) : Type 0 where
+record InputGuardIs (s : List ℕ) (d : ℕ) (sc : Scope) (place at : ℕ) (e : M.Expr) (ch x : Site) (st : M.Stmt) (n : ℕ) : Type 0 where
   ahead : at ≤ n
   uses : UsesFrom s sc place at n (reading e ⊕ ((inputting ch ⊕ changing x) ⊕ usage st)) (partWay 11 d)
   within : Within sc place n (reading e ⊕ ((inputting ch ⊕ changing x) ⊕ usage st))
 
-input-guard-is : {s : List ℕ} {d : ℕ} {sc : Scope} {place at n m c v o : ℕ} {e : Whole} {ch x : Site} {st : M.Stmt} {y : HeadRead}
+input-guard-is : {s : List ℕ} {d : ℕ} {sc : Scope} {place at n m c v o : ℕ} {e : M.Expr} {ch x : Site} {st : M.Stmt} {y : HeadRead}
     {i j : Item}
-    {z : StmtRead} → place ≤ at → NumberAt s at 0 n → WholeIs s d sc n e m y → Listed s m (sc .channels) ch c i
+    {z : StmtRead} → place ≤ at → NumberAt s at 0 n → WholeIs s 11 d sc n e m y → Listed s m (sc .channels) ch c i
     → Listed s c (sc .variables) x v j → StmtIs s d sc v st o z → InputGuardIs s d sc place at e ch x st o
 unfolding headUsed guardUsed
 input-guard-is {s} {d} {sc} {place} {at} {n} {m} {c} {v} {o} {e} {ch} {x} {st} l t r kc kx k =
@@ -132,34 +128,32 @@ input-guard-is {s} {d} {sc} {place} {at} {n} {m} {c} {v} {o} {e} {ch} {x} {st} l
 
 input-guard : (s : List ℕ) (d : ℕ) (w : Names) (sc : Scope) (place : ℕ) (inner : Inner) → Bytes s → Scoped w sc place → Fits w d
     → InnerIs s d
-    → inner .expr ≡ readWhole d sc → inner .stmt ≡ readStmt d → (at n : ℕ) → place ≤ at → NumberAt s at 0 n
+    → inner .expr ≡ readExpr d sc → inner .stmt ≡ readStmt d → (at n : ℕ) → place ≤ at → NumberAt s at 0 n
     → Same s (λ a m x. PartIs guarded s d sc 11 place at (applied a) m x) NoStmt
-    (behindHead d w s (withHead NoHead (wholeAt d (w .variables) s n) (λ m e. takenAt w s m e)))
+    (behindHead d w s (withHead NoHead (wholeAt 11 d (w .variables) s n) (λ m a. takenAt w s m a)))
     (guardOf sc inner isInputGuard n (drop n s))
-unfolding guardOf guardNeed guardProcesses firstDeepGuards firstClashGuards usageGuards
+unfolding guardOf asked guardNeed guardProcesses firstClashGuards usageGuards
 input-guard s d w sc place inner b h f i ee es at n l t =
     rw (ee, es) (
-    onwards (λ x. behindHead d w s (withHead NoHead x (λ m e. takenAt w s m e))) _ (whole-scoped d w sc s place n b h)
+    onwards (λ x. behindHead d w s (withHead NoHead x (λ m a. takenAt w s m a))) _ (whole-scoped 11 d w sc s place n b h)
     (λ e m y r q. rw (r .is) (
-    taken-onward w sc s place m (noted e) (λ x. behindHead d w s x)
+    taken-onward w sc s place m (guardWords (temporaries e)) (λ x. behindHead d w s x)
     (λ ch x. λ a bytes. onward (readStmt d sc a bytes) (λ st. pure (inputGuard e ch x st))) b h
     (λ ch x c v i2 j2 kc kx.
-    onwards (λ z. withStmt NoStmt z (λ p. Stmt (behind (noted e) p))) (λ st. pure (inputGuard e ch x st))
+    onwards (λ z. withStmt NoStmt z (λ p. Stmt (behind (guardWords (temporaries e)) p))) (λ st. pure (inputGuard e ch x st))
     (i w sc v (scoped-later v (omega (arith, l, t .ahead, r .ahead, kc .there .ahead, kx .there .ahead)) h) f)
     (λ st o z k p.
     let g = input-guard-is l t r kc kx k in
-    rw (k .is) (gives (inputGuard e ch x st) o (Stmt (behind (noted e) (partOf st o)))
+    rw (k .is) (gives (inputGuard e ch x st) o (Stmt (behind (guardWords (temporaries e)) (partOf st o)))
     (record {
-      words = need st;
+      words = max (guardWords (temporaries e)) (need st);
       processes = processes st;
-      deep = firstOf (noted e) (first (firstDeep st));
       clash = first (firstClash st);
       use-of = reading e ⊕ ((inputting ch ⊕ changing x) ⊕ usage st);
       is = refl;
       ahead = g .ahead;
-      needs = λ gs. refl;
+      needs = λ gs. omega arith;
       lives = λ gs. refl;
-      deeps = λ gs. deeper e (firstDeep st) (firstDeepGuards gs);
       clashes = λ gs. first-orElse (firstClash st) (firstClashGuards gs);
       usages = λ gs. rejoin e ch x st gs;
       uses = g .uses;
@@ -169,7 +163,7 @@ input-guard s d w sc place inner b h f i ee es at n l t =
     (λ j p. refl)))
     (λ j p. refl))
   where
-    rejoin : (e : Whole) (ch x : Site) (st : M.Stmt) (gs : Guards)
+    rejoin : (e : M.Expr) (ch x : Site) (st : M.Stmt) (gs : Guards)
         → usageGuards (inputGuard e ch x st gs) ≡ (reading e ⊕ ((inputting ch ⊕ changing x) ⊕ usage st)) ⊕ usageGuards gs
     rejoin e ch x st gs =
         sym
@@ -180,18 +174,18 @@ input-guard s d w sc place inner b h f i ee es at n l t =
 
 guard-part : (s : List ℕ) (d : ℕ) (w : Names) (sc : Scope) (place : ℕ) (inner : Inner) → Bytes s → Scoped w sc place → Fits w d
     → InnerIs s d
-    → inner .expr ≡ readWhole d sc → inner .stmt ≡ readStmt d → (at : ℕ) → place ≤ at
+    → inner .expr ≡ readExpr d sc → inner .stmt ≡ readStmt d → (at : ℕ) → place ≤ at
     → Same s (λ a m x. PartIs guarded s d sc 11 place at (applied a) m x) NoStmt (partAt 11 d w (λ i. stmtAt d w s i) s at)
     (readGuard sc inner at (drop at s))
 unfolding partAt headAt guardAt readGuard
 guard-part s d w sc place inner b h f i ee es at l =
     onwards
     (λ x. behindHead d w s
-    (withItem NoHead x (λ g n. withHead NoHead (wholeAt d (w .variables) s n) (λ m e. cond (eqb g 0) (takenAt w s m e) (Head m e))))) _
+    (withItem NoHead x (λ g n. withHead NoHead (wholeAt 11 d (w .variables) s n) (λ m a. cond (eqb g 0) (takenAt w s m a) (Head m a))))) _
     (one-same guardKinds 1 s at b refl)
     (λ kind n y k q. rw (k .found) (
     each (λ v kind. NumberAt s at v n → Same s (λ a m x. PartIs guarded s d sc 11 place at (applied a) m x) NoStmt
-    (behindHead d w s (withHead NoHead (wholeAt d (w .variables) s n) (λ m e. cond (eqb v 0) (takenAt w s m e) (Head m e))))
+    (behindHead d w s (withHead NoHead (wholeAt 11 d (w .variables) s n) (λ m a. cond (eqb v 0) (takenAt w s m a) (Head m a))))
     (guardOf sc inner kind n (drop n s))) guardKinds (k .value)
     (input-guard s d w sc place inner b h f i ee es at n l, (skip-guard s d w sc place inner b h f i ee es at n l, tt)) (k .listed)
     (k .there)))
@@ -199,11 +193,11 @@ guard-part s d w sc place inner b h f i ee es at l =
 
 pub alternative-same : (s : List ℕ) (d : ℕ) (w : Names) (sc : Scope) (place at : ℕ) (inner : Inner) → Bytes s → place ≤ at
     → Scoped w sc place
-    → Fits w d → InnerIs s d → inner .expr ≡ readWhole d sc → inner .stmt ≡ readStmt d
+    → Fits w d → InnerIs s d → inner .expr ≡ readExpr d sc → inner .stmt ≡ readStmt d
     → Same s (RestIs s sc place at (countedWay 11 d)) NoStmt
     (withItem NoStmt (betweenAt 0 32 s at) (λ c m. gathered 11 (mostFrom c 11 d w (λ i. stmtAt d w s i) s (no-part m))))
     (stmtOf place sc inner isAlt at (drop at s))
-unfolding stmtOf need processes firstDeep firstClash usage
+unfolding stmtOf need processes firstClash usage
 alternative-same s d w sc place at inner b l h f i ee es =
     counted-same guarded applied (readGuard sc inner) (λ gs. M.ALT gs) s d w sc (λ i. stmtAt d w s i) 11 place at b l
-    (record { counts = λ gs t a c x y. rw (a, c, x, y) refl; same-usage = λ gs. refl }) (guard-part s d w sc place inner b h f i ee es)
+    (record { counts = λ gs t a c x. rw (a, c, x) refl; same-usage = λ gs. refl }) (guard-part s d w sc place inner b h f i ee es)

@@ -14,7 +14,7 @@ use Rattle.model.specs.Syntax as M
 use Rattle.model.specs.Reader.{onward, pure, Scope, names, withVariables, withChannels, readCount, canInput, canOutput, readStmt, Inner}
 use Rattle.model.specs.Reader.{stmtOf, isVar, isChan}
 use Rattle.model.specs.Usage.{Usage, usage, firstClash}
-use Rattle.model.specs.Counts.{firstDeep, processes, need}
+use Rattle.model.specs.Counts.{processes, need}
 use Rattle.table.specs.Stmts.{Fits, stmtAt, declaring, moreNames}
 use Rattle.table.specs.Uses.{stmtUsed}
 use Rattle.table.specs.declared.stmt.Names.{Names}
@@ -178,7 +178,7 @@ pub variables-same : (s : List ℕ) (d : ℕ) (w : Names) (sc : Scope) (place at
     → Same s (RestIs s sc place at (declaredWay d)) NoStmt
     (withItem NoStmt (betweenAt 1 32 s at) (λ c m. declaring c (stmtAt d (moreNames 5 c w) s m)))
     (stmtOf place sc inner isVar at (drop at s))
-unfolding stmtOf need processes firstDeep firstClash usage
+unfolding stmtOf need processes firstClash usage
 variables-same s d w sc place at inner b l h f i e =
     rw e (
     declare-same s d w sc place 5 (λ c. withVariables place c sc) (λ c st. M.VAR place c st) at b l i
@@ -196,7 +196,7 @@ pub channels-same : (s : List ℕ) (d : ℕ) (w : Names) (sc : Scope) (place at 
     → Same s (RestIs s sc place at (declaredWay d)) NoStmt
     (withItem NoStmt (betweenAt 1 32 s at) (λ c m. declaring c (stmtAt d (moreNames 6 c w) s m)))
     (stmtOf place sc inner isChan at (drop at s))
-unfolding stmtOf need processes firstDeep firstClash usage
+unfolding stmtOf need processes firstClash usage
 channels-same s d w sc place at inner b l h f i e =
     rw e (
     declare-same s d w sc place 6 (λ c. withChannels place c sc) (λ c st. M.CHAN place c st) at b l i

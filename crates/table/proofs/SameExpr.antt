@@ -1,9 +1,9 @@
--- Expressions as the reader answers them are those of the model's reader, with the registers that they need.
+-- Expressions as the reader answers them are those of the model's reader, with the registers that they need and the values that they store.
 use Prim.Native.Nat.{ℕ, zero, suc, _-_, _<_}
 use native.Mathlib.Omega.{arith}
 use mathlib.Core.Path.{_≡_, refl}
 use mathlib.Core.Bool.{true, cond}
-use mathlib.Core.List.{List, []}
+use mathlib.Core.List.{List}
 use lib.ListN.{length, drop}
 use lib.Seq.{slice}
 use lib.Dec.{ltb, eqb}
@@ -12,23 +12,20 @@ use Rattle.model.specs.Syntax.{Site, constant, variable, NOT, binary}
 use Rattle.model.specs.Syntax as M
 use Rattle.model.specs.Reader.{Parsed, Reader, pure, Scope, readName, anySite, isConstant, isVariable, isNot, isBinary, exprKinds}
 use Rattle.model.specs.Reader.{operators, exprOf, readExpr}
-use Rattle.model.specs.Usage.{Usage, isIn, reads}
+use Rattle.model.specs.Usage.{Usage, reading, isIn, reads}
 use Rattle.model.proofs.Cases.{never}
-use Rattle.model.specs.Counts.{registers}
+use Rattle.model.specs.Counts.{registers, temporaries}
 use Rattle.numbers.specs.Items.{betweenAt, nameAt, valueAt, withItem}
-use Rattle.table.specs.Exprs.{withExpr, leafAt, joined, sides, exprAt}
+use Rattle.table.specs.Exprs.{withExpr, single, leafAt, joined, sides, exprAt}
 use Rattle.table.specs.Uses.{Used, used, thenUsed, nameUsed, exprUsed}
 use Rattle.numbers.specs.declared.Item.the-variants.{Refused}
+use Rattle.table.specs.declared.expr.Term.{Term}
 use Rattle.table.specs.declared.expr.ExprRead.{ExprRead}
 use Rattle.table.specs.declared.expr.ExprRead.the-variants.{Expr, Refused as NoExpr}
 use Rattle.table.proofs.SameItems.{Bytes, NumberAt, Same, gives, turns, onwards, Listed, one-same, name-same, deep-same, word-same}
 use Rattle.table.proofs.SameItems.{each}
 use Rattle.table.proofs.Marks.{Fresh, UsedAs, Stretch, marked-nothing, marked-both, used-there, number-in, later, name-used}
 use Rattle.table.proofs.Marks.{skip-used, InScope, or-cases, in-one, isIn-append}
-
--- the variables that an expression reads, and no more
-abbrev pub readsOnly : M.Expr → Usage
-readsOnly e = record { changes = []; uses = reads e; inputs = []; outputs = [] }
 
 -- a way to use a part of a stretch, from a place on: the place after it, and the sets
 abbrev pub Way : Type 0
@@ -40,11 +37,15 @@ UsesAs s names at n u way =
     (vs cs : List Site) (from to : ℕ) (l : List ℕ) → Fresh vs (names .variables) → Fresh cs (names .channels)
     → Stretch s vs cs at n from to l → UsedAs vs cs l u n from (way vs cs (slice from to s) (at - from) l)
 
--- an expression: its registers, its end and what it reads
+-- what is counted of an expression that ends at a place
+abbrev pub termOf : M.Expr → ℕ → Term
+termOf e n = record { next = n; registers = registers e; stored = temporaries e }
+
+-- an expression: what is counted of it, its end and what it reads
 pub record ExprIs (s : List ℕ) (names : Scope) (at : ℕ) (way : Way) (e : M.Expr) (n : ℕ) (x : ExprRead) : Type 0 where
-  pub is : x ≡ Expr n (registers e)
+  pub is : x ≡ Expr (termOf e n)
   pub ahead : at < n
-  pub uses : UsesAs s names at n (readsOnly e) way
+  pub uses : UsesAs s names at n (reading e) way
   pub within : (x : Site) → isIn x (reads e) ≡ true → InScope (names .variables) x
 
 abbrev pub exprWay : (d : ℕ) → Way
@@ -65,9 +66,9 @@ variable-same vs s at b =
 
 constant-same : (d : ℕ) (names : Scope) (inner : Reader M.Expr) (vs : ℕ) (s : List ℕ) (at : ℕ) → Bytes s
     → Same s (ExprIs s names at (restWay d 0)) NoExpr (leafAt 0 vs s at) (exprOf names inner isConstant at (drop at s))
-unfolding leafAt exprOf registers reads isIn
+unfolding leafAt exprOf registers temporaries reads isIn
 constant-same d names inner vs s at b =
-    onwards (λ i. withItem NoExpr i (λ v n. Expr n 1)) (λ v. pure (constant v)) (word-same s at b)
+    onwards (λ i. withItem NoExpr i (λ v n. single n)) (λ v. pure (constant v)) (word-same s at b)
     (λ v n y h e. rw (h .found) (gives (constant v) n _
     (record {
       is = refl;
@@ -80,9 +81,9 @@ constant-same d names inner vs s at b =
 leaf-same : (d : ℕ) (names : Scope) (inner : Reader M.Expr) (s : List ℕ) (at : ℕ) → Bytes s
     → Same s (ExprIs s names at (restWay d 1)) NoExpr (leafAt 1 (length (names .variables)) s at)
     (exprOf names inner isVariable at (drop at s))
-unfolding leafAt exprOf registers reads
+unfolding leafAt exprOf registers temporaries reads
 leaf-same d names inner s at b =
-    onwards (λ i. withItem NoExpr i (λ v n. Expr n 1)) (λ x. pure (variable x)) (variable-same (names .variables) s at b)
+    onwards (λ i. withItem NoExpr i (λ v n. single n)) (λ x. pure (variable x)) (variable-same (names .variables) s at b)
     (λ x n y h e. rw (h .found) (gives (variable x) n _
     (record {
       is = refl;
@@ -97,7 +98,7 @@ InnerSame s d names inner reader = (i : ℕ) → Same s (ExprIs s names i (exprW
 
 not-same : (d : ℕ) (names : Scope) (inner : ℕ → ExprRead) (reader : Reader M.Expr) (s : List ℕ) (at : ℕ) → InnerSame s d names inner reader
     → Same s (ExprIs s names at (restWay d 2)) NoExpr (inner at) (exprOf names reader isNot at (drop at s))
-unfolding exprOf registers reads
+unfolding exprOf registers temporaries reads
 not-same d names inner reader s at h =
     onwards (λ y. y) (λ e. pure (NOT e)) (h at)
     (λ e n y k q. gives (NOT e) n y (record { is = k .is; ahead = k .ahead; uses = k .uses; within = k .within })) (λ j p. refl)
@@ -106,7 +107,7 @@ not-same d names inner reader s at h =
 both-uses : {s : List ℕ} {names : Scope} {at n m i : ℕ} {o : ℕ} {l r : M.Expr} {x y : ExprRead} (d : ℕ) (op : M.Operator)
     → NumberAt s at o n
     → ExprIs s names n (exprWay d) l m x → ExprIs s names m (exprWay d) r i y
-    → UsesAs s names at i (readsOnly (binary op l r)) (restWay d 3)
+    → UsesAs s names at i (reading (binary op l r)) (restWay d 3)
 unfolding reads
 both-uses {s} {at = at} {n} {m} {i} d op t kl kr vs cs from to marks fv fc st =
     let here : Stretch s vs cs at n from to marks = later st (omega arith) (omega (arith, kl .ahead, kr .ahead)) refl in
@@ -121,13 +122,13 @@ binary-same : (d : ℕ) (names : Scope) (inner : ℕ → ExprRead) (reader : Rea
     → InnerSame s d names inner reader
     → Same s (ExprIs s names at (restWay d 3)) NoExpr (withItem NoExpr (betweenAt 0 7 s at) (λ o m. sides inner m))
     (exprOf names reader isBinary at (drop at s))
-unfolding exprOf registers reads
+unfolding exprOf registers temporaries reads
 binary-same d names inner reader s at b h =
     onwards (λ i. withItem NoExpr i (λ o m. sides inner m)) _ (one-same operators 7 s at b refl)
     (λ op n y k q. rw (k .found) (
-    onwards (λ x. withExpr NoExpr x (λ n l. withExpr NoExpr (inner n) (λ m r. Expr m (joined l r)))) _ (h n)
+    onwards (λ x. withExpr NoExpr x (λ l. withExpr NoExpr (inner (l .next)) (λ r. joined l r))) _ (h n)
     (λ l m z kl ql. rw (kl .is) (
-    onwards (λ x. withExpr NoExpr x (λ i r. Expr i (joined (registers l) r))) (λ r. pure (binary op l r)) (h m)
+    onwards (λ x. withExpr NoExpr x (λ r. joined (termOf l m) r)) (λ r. pure (binary op l r)) (h m)
     (λ r i u kr qr. rw (kr .is) (gives (binary op l r) i _
     (record {
       is = refl;
@@ -145,7 +146,7 @@ pub expr-same : (d : ℕ) (names : Scope) (s : List ℕ) (at : ℕ) → Bytes s
     → Same s (ExprIs s names at (exprWay d)) NoExpr (exprAt d (length (names .variables)) s at) (readExpr d names at (drop at s))
 unfolding exprAt readExpr exprUsed
 expr-same zero names s at b =
-    deep-same (ExprIs s names at (exprWay zero)) NoExpr (λ i. withItem NoExpr i (λ v n. Expr n 1)) s at b (λ j p. refl)
+    deep-same (ExprIs s names at (exprWay zero)) NoExpr (λ i. withItem NoExpr i (λ v n. single n)) s at b (λ j p. refl)
 expr-same (suc d) names s at b =
     let inner : InnerSame s d names (λ i. exprAt d (length (names .variables)) s i) (readExpr d names) = λ i. expr-same d names s i b in
     onwards (λ x. withItem NoExpr x (λ k n. kinds k n)) (λ k. exprOf names (readExpr d names) k) (one-same exprKinds 3 s at b refl)

@@ -42,12 +42,10 @@ pub record Counting (L : Type 0) : Type 0 where
   pub empty : L
   pub needs : L → ℕ
   pub lives : L → ℕ
-  pub deeps : L → Option ℕ
   pub clashes : L → Option ℕ
   pub usages : L → Usage
   pub no-needs : needs empty ≡ 0
   pub no-lives : lives empty ≡ 0
-  pub no-deeps : deeps empty ≡ none
   pub no-clashes : clashes empty ≡ none
   pub no-usages : usages empty ≡ nothing
 
@@ -60,14 +58,12 @@ pub record PartIs {L : Type 0} (K : Counting L) (s : List ℕ) (d : ℕ) (sc : S
     : Type 0 where
   pub words : ℕ
   pub processes : ℕ
-  pub deep : First
   pub clash : First
   pub use-of : Usage
-  pub is : x ≡ Stmt (record { next = n; words = words; processes = processes; deep = deep; clash = clash })
+  pub is : x ≡ Stmt (record { next = n; words = words; processes = processes; clash = clash })
   pub ahead : at ≤ n
   pub needs : (l : L) → K .needs (add l) ≡ max words (K .needs l)
   pub lives : (l : L) → K .lives (add l) ≡ max processes (K .lives l)
-  pub deeps : (l : L) → first (K .deeps (add l)) ≡ firstOf deep (first (K .deeps l))
   pub clashes : (l : L) → first (K .clashes (add l)) ≡ firstOf clash (first (K .clashes l))
   pub usages : (l : L) → K .usages (add l) ≡ use-of ⊕ K .usages l
   pub uses : UsesFrom s sc place at n use-of (partWay kind d)
@@ -87,7 +83,6 @@ pub record ManyIs {L : Type 0} (K : Counting L) (s : List ℕ) (d : ℕ) (sc : S
   pub ahead : t .next ≤ n
   pub most : total .most ≡ max (t .most) (K .needs l)
   pub live : total .live ≡ max (t .live) (K .lives l)
-  pub deep : total .deep ≡ firstOf (t .deep) (first (K .deeps l))
   pub clash : total .clash ≡ firstOf (t .clash) (first (K .clashes l))
   pub uses : UsesFrom s sc place (t .next) n (K .usages l) (manyWay count kind d)
   pub within : Within sc place n (K .usages l)
@@ -108,7 +103,6 @@ many-same K more part s d w sc inner zero kind place t l parts =
       ahead = omega arith;
       most = rw (K .no-needs) (omega arith);
       live = rw (K .no-lives) (omega arith);
-      deep = rw (K .no-deeps) (sym (firstOf-nowhere (t .deep)));
       clash = rw (K .no-clashes) (sym (firstOf-nowhere (t .clash)));
       uses = λ vs cs from to j o st. rw (K .no-usages) (record { next = refl; marks = marked-nothing vs cs j });
       within = rw (K .no-usages) (within-nothing sc place (t .next));
@@ -116,7 +110,7 @@ many-same K more part s d w sc inner zero kind place t l parts =
 many-same {L = L} K more part s d w sc inner (suc i) kind place t l parts =
     onwards (λ x. withStmt NoSum x (λ p. mostFrom i kind d w inner s (added t p))) _ (parts (t .next) l)
     (λ a n y k q.
-    let p : Part = record { next = n; words = k .words; processes = k .processes; deep = k .deep; clash = k .clash } in
+    let p : Part = record { next = n; words = k .words; processes = k .processes; clash = k .clash } in
     rw (k .is) (
     onwards (λ x. x) (λ l. pure (more a l))
     (many-same K more part s d w sc inner i kind place (added t p) (omega (arith, l, k .ahead)) parts)
@@ -128,7 +122,6 @@ many-same {L = L} K more part s d w sc inner (suc i) kind place t l parts =
       ahead = omega (arith, k .ahead, h .ahead);
       most = h .most ∙ rw (k .needs r) (omega arith);
       live = h .live ∙ rw (k .lives r) (omega arith);
-      deep = h .deep ∙ rw (k .deeps r) (firstOf-assoc (t .deep) (k .deep) (first (K .deeps r)));
       clash = h .clash ∙ rw (k .clashes r) (firstOf-assoc (t .clash) (k .clash) (first (K .clashes r)));
       uses = λ vs cs from to j o st.
           let here : Stretch s vs cs (t .next) n from to j = later st (omega arith) (omega (arith, h .ahead)) refl in

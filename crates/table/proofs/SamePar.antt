@@ -12,7 +12,7 @@ use Rattle.model.specs.Syntax.{Site, inputOf, outputOf, declared, Stmts, noStmt
 use Rattle.model.specs.Syntax as M
 use Rattle.model.specs.Reader.{pure, Scope, Inner, stmtOf, readMany, readStmt, isPar}
 use Rattle.model.specs.Usage.{Usage, nothing, _⊕_, usage, firstClash, usageAll, firstClashAll, clash, anyClash}
-use Rattle.model.specs.Counts.{firstDeep, processes, need, firstDeepAll, sumNeed, sumProcesses}
+use Rattle.model.specs.Counts.{processes, need, sumNeed, sumProcesses}
 use Rattle.table.specs.Stmts.{firstOf, Fits, stmtAt, Branches, joinedBy, parOf, branchesFrom, noBranches, withStmt}
 use Rattle.table.specs.Uses.{stmtUsed, headUsed, repeated, checkedAt}
 use Rattle.table.specs.declared.stmt.Names.{Names}
@@ -91,7 +91,6 @@ record BranchesIs (s : List ℕ) (d : ℕ) (sc : Scope) (count place : ℕ) (b :
   ahead : b .total .next ≤ n
   sum : total .sum ≡ b .total .sum + sumNeed ss
   all : total .all ≡ b .total .all + sumProcesses ss
-  deep : total .deep ≡ firstOf (b .total .deep) (first (firstDeepAll ss))
   clash-in : total .clash ≡ firstOf (b .total .clash) (first (firstClashAll ss))
   clashing : bad ≡ (b .bad || clashesBefore u ss)
   uses : UsesFrom s sc place (b .total .next) n (usageAll ss) (manyWay count 8 d)
@@ -103,7 +102,7 @@ branches-same : (s : List ℕ) (d : ℕ) (w : Names) (sc : Scope) (i place : ℕ
     → Within sc place (b .total .next) u
     → Same s (BranchesIs s d sc i place b u) NoStmt (branchesFrom i d place w (λ i. stmtAt d w s i) s b)
     (readMany noStmt stmt (readStmt d sc) i (b .total .next) (drop (b .total .next) s))
-unfolding branchesFrom readMany repeated headUsed sumNeed sumProcesses firstDeepAll firstClashAll clashesBefore usageAll
+unfolding branchesFrom readMany repeated headUsed sumNeed sumProcesses firstClashAll clashesBefore usageAll
 branches-same s d w sc zero place b u l h f fv fc inner sets within =
     gives noStmt (b .total .next) (parOf place (b .total) (b .bad))
     (record {
@@ -114,7 +113,6 @@ branches-same s d w sc zero place b u l h f fv fc inner sets within =
       ahead = omega arith;
       sum = omega arith;
       all = omega arith;
-      deep = sym (firstOf-nowhere (b .total .deep));
       clash-in = sym (firstOf-nowhere (b .total .clash));
       clashing = sym (or-false (b .bad));
       uses = λ vs cs from to j o z. record { next = refl; marks = marked-nothing vs cs j };
@@ -142,8 +140,6 @@ branches-same s d w sc (suc i) place b u l h f fv fc inner sets within =
       ahead = omega (arith, k .ahead, r .ahead);
       sum = r .sum ∙ omega arith;
       all = r .all ∙ omega arith;
-      deep = r .deep ∙ rw (first-orElse (firstDeep st) (firstDeepAll ss))
-          (firstOf-assoc (b .total .deep) (first (firstDeep st)) (first (firstDeepAll ss)));
       clash-in = r .clash-in
           ∙ rw (first-orElse (firstClash st) (firstClashAll ss))
           (firstOf-assoc (b .total .clash) (first (firstClash st)) (first (firstClashAll ss)));
@@ -165,7 +161,7 @@ pub par-same : (s : List ℕ) (d : ℕ) (w : Names) (sc : Scope) (place at : ℕ
     → Same s (RestIs s sc place at (countedWay 8 d)) NoStmt
     (withItem NoStmt (betweenAt 0 16 s at) (λ c m. branchesFrom c d place w (λ i. stmtAt d w s i) s (noBranches m)))
     (stmtOf place sc inner isPar at (drop at s))
-unfolding stmtOf need processes firstDeep firstClash usage
+unfolding stmtOf need processes firstClash usage
 par-same s d w sc place at inner b l h fits f i es =
     rw es (
     onwards (λ x. withItem NoStmt x (λ c m. branchesFrom c d place w (λ i. stmtAt d w s i) s (noBranches m))) _ (count-same 0 16 s at b)
@@ -176,7 +172,7 @@ par-same s d w sc place at inner b l h fits f i es =
     (sets-nothing (sc .variables) (sc .channels)) (within-nothing sc place m))
     (λ ss n z r p. gives (M.PAR place ss) n z
     (record {
-      is = r .is ∙ par-is ss (r .total) (r .bad) (r .sum) (r .all) (r .deep) (r .clash-in) (r .clashing ∙ before-any ss) ∙ rw
+      is = r .is ∙ par-is ss (r .total) (r .bad) (r .sum) (r .all) (r .clash-in) (r .clashing ∙ before-any ss) ∙ rw
           (r .next) refl;
       ahead = omega (arith, k .there .ahead, r .ahead);
       uses = λ vs cs from to j o z2.
@@ -189,9 +185,8 @@ par-same s d w sc place at inner b l h fits f i es =
     (λ j p. refl))
   where
     par-is : (ss : Stmts) (t : Sum) (bad : Bool) → t .sum ≡ 0 + sumNeed ss → t .all ≡ 0 + sumProcesses ss
-        → t .deep ≡ first (firstDeepAll ss)
         → t .clash ≡ first (firstClashAll ss) → bad ≡ anyClash ss → parOf place t bad ≡ Stmt (partOf (M.PAR place ss) (t .next))
-    par-is ss t bad a c x y e =
+    par-is ss t bad a c x e =
         let words : 2 + t .sum ≡ 2 + sumNeed ss = omega (arith, a) in
         let live : max 1 (t .all) ≡ max 1 (sumProcesses ss) = omega (arith, c) in
-        rw (words, live, x, y, e) (by-bool (anyClash ss) (λ f. rw f refl) (λ f. rw f refl))
+        rw (words, live, x, e) (by-bool (anyClash ss) (λ f. rw f refl) (λ f. rw f refl))

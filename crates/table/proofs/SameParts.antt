@@ -1,25 +1,20 @@
 -- SEQ, IF, WHILE and ALT.
-use Prim.Native.Nat.{ℕ, _-_, _≤_, max}
+use Prim.Native.Nat.{ℕ, _+_, _-_, _≤_, max}
 use native.Mathlib.Omega.{arith}
 use mathlib.Core.Path.{_≡_, refl, sym, _∙_}
-use mathlib.Core.Bool.{cond}
 use mathlib.Core.List.{List, append-assoc}
-use mathlib.Core.Option.{Option, none, some}
 use lib.ListN.{length, drop}
 use lib.Seq.{slice}
-use lib.Dec.{leb}
-use Rattle.model.specs.Syntax.{Site, Whole, Stmts, noStmt, stmt, Pairs, noPair, pair}
+use Rattle.model.specs.Syntax.{Site, Stmts, noStmt, stmt, Pairs, noPair, pair}
 use Rattle.model.specs.Syntax as M
-use Rattle.model.specs.Reader.{Reader, onward, pure, Scope, readWhole, Inner, stmtOf, readMany, applied, readPair, isSeq, isIf, isWhile}
+use Rattle.model.specs.Reader.{Reader, onward, pure, Scope, readExpr, Inner, stmtOf, readMany, applied, readPair, isSeq, isIf, isWhile}
 use Rattle.model.specs.Reader.{readStmt, readCount}
-use Rattle.model.specs.Usage.{Usage, _⊕_, reading, usage, orElse, firstClash, usageAll, usagePairs, firstClashAll, firstClashPairs}
-use Rattle.model.specs.Counts.{registers, firstDeep, processes, need, mostNeed, pairNeed, mostProcesses, pairProcesses, firstDeepAll}
-use Rattle.model.specs.Counts.{firstDeepPairs}
-use Rattle.table.specs.Stmts.{firstOf, wholeAt, Fits, stmtAt, headAt, behind, nothing as no-part, withHead, withStmt}
+use Rattle.model.specs.Usage.{Usage, _⊕_, reading, usage, firstClash, usageAll, usagePairs, firstClashAll, firstClashPairs}
+use Rattle.model.specs.Counts.{temporaries, processes, need, mostNeed, pairNeed, mostProcesses, pairProcesses}
+use Rattle.table.specs.Stmts.{asked, wholeAt, Fits, stmtAt, headAt, behind, nothing as no-part, withHead, withStmt}
 use Rattle.table.specs.Stmts.{added, partAt, mostFrom, gathered}
 use Rattle.table.specs.Uses.{used, thenUsed, exprUsed, stmtUsed, headUsed, repeated}
 use Rattle.table.specs.declared.stmt.Names.{Names}
-use Rattle.table.specs.declared.stmt.First.the-variants.{Nowhere}
 use Rattle.table.specs.declared.stmt.StmtRead.{StmtRead}
 use Rattle.table.specs.declared.stmt.StmtRead.the-variants.{Stmt, Refused as NoStmt}
 use Rattle.table.specs.declared.stmt.HeadRead.{HeadRead}
@@ -30,10 +25,10 @@ use Rattle.table.specs.declared.stmt.Sum.{Sum}
 use Rattle.table.specs.declared.stmt.SumRead.the-variants.{Sum as Total, Refused as NoSum}
 use Rattle.table.proofs.SameExpr.{Way}
 use Rattle.table.proofs.SameSimple.{first, partOf, Within, Scoped, Outer, UsesFrom, RestIs, StmtIs, below-later, wider, within-both}
-use Rattle.table.proofs.SameSimple.{use-both, noted, WholeIs, whole-same, first-noted}
+use Rattle.table.proofs.SameSimple.{use-both, WholeIs, whole-same}
 use Rattle.table.proofs.SameDeclare.{InnerIs}
 use Rattle.numbers.specs.Items.{groupsAt, betweenAt, withItem, withNumber}
-use Rattle.table.proofs.SameMany.{first-orElse, firstOf-assoc, Counting, PartIs, manyWay, many-same}
+use Rattle.table.proofs.SameMany.{first-orElse, Counting, PartIs, manyWay, many-same}
 
 pub outer-later : {sc : Scope} {place : ℕ} {vs cs : List Site} (m : ℕ) → place ≤ m → Outer sc place vs cs → Outer sc m vs cs
 outer-later {place = place} {vs} {cs} m l o =
@@ -61,18 +56,16 @@ scoped-later {sc = sc} {place} m l h =
     }
 
 abbrev sequence : Counting Stmts
-unfolding mostNeed mostProcesses firstDeepAll firstClashAll usageAll
+unfolding mostNeed mostProcesses firstClashAll usageAll
 sequence =
     record {
       empty = noStmt;
       needs = mostNeed;
       lives = mostProcesses;
-      deeps = firstDeepAll;
       clashes = firstClashAll;
       usages = usageAll;
       no-needs = refl;
       no-lives = refl;
-      no-deeps = refl;
       no-clashes = refl;
       no-usages = refl;
     }
@@ -81,21 +74,19 @@ sequence-part : (s : List ℕ) (d : ℕ) (w : Names) (sc : Scope) (place : ℕ) 
     → place ≤ at
     → Same s (λ a n x. PartIs sequence s d sc 7 place at (stmt a) n x) NoStmt (partAt 7 d w (λ i. stmtAt d w s i) s at)
     (readStmt d sc at (drop at s))
-unfolding partAt headAt headUsed mostNeed mostProcesses firstDeepAll firstClashAll usageAll
+unfolding partAt headAt headUsed mostNeed mostProcesses firstClashAll usageAll
 sequence-part s d w sc place h f inner at l =
-    mapped (λ x. withStmt NoStmt x (λ p. Stmt (behind Nowhere p))) (inner w sc at (scoped-later at l h) f)
+    mapped (λ x. withStmt NoStmt x (λ p. Stmt (behind 0 p))) (inner w sc at (scoped-later at l h) f)
     (λ st n y k. rw (k .is)
     (record {
-      words = need st;
+      words = max 0 (need st);
       processes = processes st;
-      deep = first (firstDeep st);
       clash = first (firstClash st);
       use-of = usage st;
       is = refl;
       ahead = omega (arith, k .ahead);
-      needs = λ ss. refl;
+      needs = λ ss. omega arith;
       lives = λ ss. refl;
-      deeps = λ ss. first-orElse (firstDeep st) (firstDeepAll ss);
       clashes = λ ss. first-orElse (firstClash st) (firstClashAll ss);
       usages = λ ss. refl;
       uses = λ vs cs from to j o st2. k .uses vs cs from to j (outer-later at l o) st2;
@@ -108,7 +99,7 @@ countedWay kind d vs cs part i l = withNumber (used i l) (groupsAt 5 part i) (λ
 
 -- what is counted over parts is what is counted of their statement
 pub record Gathers {L : Type 0} (K : Counting L) (kind : ℕ) (of : L → M.Stmt) : Type 0 where
-  pub counts : (l : L) (t : Sum) → t .most ≡ K .needs l → t .live ≡ K .lives l → t .deep ≡ first (K .deeps l)
+  pub counts : (l : L) (t : Sum) → t .most ≡ K .needs l → t .live ≡ K .lives l
       → t .clash ≡ first (K .clashes l) → gathered kind (Total t) ≡ Stmt (partOf (of l) (t .next))
   pub same-usage : (l : L) → usage (of l) ≡ K .usages l
 
@@ -127,7 +118,7 @@ counted-same K more part of s d w sc inner kind place at b l g parts =
     (many-same K more part s d w sc inner c kind place (no-part m) (omega (arith, l, k .there .ahead)) parts)
     (λ list n z r p.
     let same-part : gathered kind (Total (r .total)) ≡ Stmt (partOf (of list) n) =
-    g .counts list (r .total) (r .most ∙ omega arith) (r .live ∙ omega arith) (r .deep) (r .clash) ∙ rw (r .next) refl in
+    g .counts list (r .total) (r .most ∙ omega arith) (r .live ∙ omega arith) (r .clash) ∙ rw (r .next) refl in
     rw (r .is, same-part) (gives (of list) n (Stmt (partOf (of list) n))
     (record {
       is = refl;
@@ -146,11 +137,11 @@ pub sequence-same : (s : List ℕ) (d : ℕ) (w : Names) (sc : Scope) (place at 
     → Same s (RestIs s sc place at (countedWay 7 d)) NoStmt
     (withItem NoStmt (betweenAt 0 32 s at) (λ c m. gathered 7 (mostFrom c 7 d w (λ i. stmtAt d w s i) s (no-part m))))
     (stmtOf place sc inner isSeq at (drop at s))
-unfolding stmtOf need processes firstDeep firstClash usage
+unfolding stmtOf need processes firstClash usage
 sequence-same s d w sc place at inner b l h f i e =
     rw e (
     counted-same sequence stmt (readStmt d sc) (λ ss. M.SEQ ss) s d w sc (λ i. stmtAt d w s i) 7 place at b l
-    (record { counts = λ ss t a c x y. rw (a, c, x, y) refl; same-usage = λ ss. refl }) (sequence-part s d w sc place h f i))
+    (record { counts = λ ss t a c x. rw (a, c, x) refl; same-usage = λ ss. refl }) (sequence-part s d w sc place h f i))
 
 pub plus-assoc : (u v w : Usage) → (u ⊕ v) ⊕ w ≡ u ⊕ (v ⊕ w)
 plus-assoc u v w =
@@ -161,28 +152,19 @@ plus-assoc u v w =
       append-assoc (u .outputs) (v .outputs) (w .outputs),
     ) refl
 
--- the first expression over 3 registers: a condition, or behind it
-noted-first : (e : Whole) (a : Option ℕ)
-    → first (orElse (cond (leb (registers (e .expr)) 3) none (some (e .place))) a) ≡ firstOf (noted e) (first a)
-noted-first e a = first-orElse (cond (leb (registers (e .expr)) 3) none (some (e .place))) a ∙ rw (first-noted e)
-
-pub deeper : (e : Whole) (a b : Option ℕ)
-    → first (orElse (cond (leb (registers (e .expr)) 3) none (some (e .place))) (orElse a b))
-    ≡ firstOf (firstOf (noted e) (first a)) (first b)
-deeper e a b = noted-first e (orElse a b) ∙ rw (first-orElse a b) (sym (firstOf-assoc (noted e) (first a) (first b)))
-
 abbrev pub conditionWay : (d : ℕ) → Way
 conditionWay d vs cs part i j = thenUsed (exprUsed d (length vs) part i j) (λ m k. stmtUsed d (length vs) (length cs) part m k)
 
 -- a condition and a statement behind it
-pub record ConditionIs (s : List ℕ) (d : ℕ) (sc : Scope) (place at : ℕ) (e : Whole) (st : M.Stmt) (n : ℕ) : Type 0 where
+pub record ConditionIs (s : List ℕ) (d : ℕ) (sc : Scope) (place at : ℕ) (e : M.Expr) (st : M.Stmt) (n : ℕ) : Type 0 where
   pub ahead : at ≤ n
   pub uses : UsesFrom s sc place at n (reading e ⊕ usage st) (conditionWay d)
   pub within : Within sc place n (reading e ⊕ usage st)
 
-condition-is : {s : List ℕ} {d : ℕ} {sc : Scope} {place at n m : ℕ} {e : Whole} {st : M.Stmt} {x : HeadRead} {y : StmtRead} → place ≤ at
-    → WholeIs s d sc at e n x → StmtIs s d sc n st m y → ConditionIs s d sc place at e st m
-condition-is {s} {d} {sc} {place} {at} {n} {m} {e} {st} l r k =
+condition-is : {s : List ℕ} {kind d : ℕ} {sc : Scope} {place at n m : ℕ} {e : M.Expr} {st : M.Stmt} {x : HeadRead} {y : StmtRead}
+    → place ≤ at
+    → WholeIs s kind d sc at e n x → StmtIs s d sc n st m y → ConditionIs s d sc place at e st m
+condition-is {s} {kind} {d} {sc} {place} {at} {n} {m} {e} {st} l r k =
     record {
       ahead = omega (arith, r .ahead, k .ahead);
       uses = λ vs cs from to j o z.
@@ -195,62 +177,60 @@ condition-is {s} {d} {sc} {place} {at} {n} {m} {e} {st} l r k =
       within = within-both (r .within place m) (wider (omega (arith, l, r .ahead)) (omega arith) (k .within));
     }
 
-pub whole-scoped : (d : ℕ) (w : Names) (sc : Scope) (s : List ℕ) (place at : ℕ) → Bytes s → Scoped w sc place
-    → Same s (WholeIs s d sc at) NoHead (wholeAt d (w .variables) s at) (readWhole d sc at (drop at s))
-whole-scoped d w sc s place at b h = rw (h .variables) (whole-same d sc s at b)
+pub whole-scoped : (kind d : ℕ) (w : Names) (sc : Scope) (s : List ℕ) (place at : ℕ) → Bytes s → Scoped w sc place
+    → Same s (WholeIs s kind d sc at) NoHead (wholeAt kind d (w .variables) s at) (readExpr d sc at (drop at s))
+whole-scoped kind d w sc s place at b h = rw (h .variables) (whole-same kind d sc s at b)
 
-pub condition-same : {B : Type 0} (R : B → ℕ → StmtRead → Type 0) (s : List ℕ) (d : ℕ) (w : Names) (sc : Scope) (place at : ℕ)
-    (of : Whole → M.Stmt → B) → Bytes s → place ≤ at → Scoped w sc place → Fits w d → InnerIs s d
-    → ((e : Whole) (st : M.Stmt) (n : ℕ) → ConditionIs s d sc place at e st n → R (of e st) n (Stmt (behind (noted e) (partOf st n))))
-    → Same s R NoStmt (withHead NoStmt (wholeAt d (w .variables) s at) (λ n e. withStmt NoStmt (stmtAt d w s n) (λ p. Stmt (behind e p))))
-    (onward (readWhole d sc at (drop at s)) (λ e. λ i bytes. onward (readStmt d sc i bytes) (λ st. pure (of e st))))
-condition-same R s d w sc place at of b l h f inner g =
-    onwards (λ x. withHead NoStmt x (λ n e. withStmt NoStmt (stmtAt d w s n) (λ p. Stmt (behind e p)))) _
-    (whole-scoped d w sc s place at b h)
+pub condition-same : {B : Type 0} (R : B → ℕ → StmtRead → Type 0) (s : List ℕ) (kind d : ℕ) (w : Names) (sc : Scope) (place at : ℕ)
+    (of : M.Expr → M.Stmt → B) → Bytes s → place ≤ at → Scoped w sc place → Fits w d → InnerIs s d
+    → ((e : M.Expr) (st : M.Stmt) (n : ℕ) → ConditionIs s d sc place at e st n
+    → R (of e st) n (Stmt (behind (asked kind (temporaries e)) (partOf st n))))
+    → Same s R NoStmt
+    (withHead NoStmt (wholeAt kind d (w .variables) s at) (λ n a. withStmt NoStmt (stmtAt d w s n) (λ p. Stmt (behind a p))))
+    (onward (readExpr d sc at (drop at s)) (λ e. λ i bytes. onward (readStmt d sc i bytes) (λ st. pure (of e st))))
+condition-same R s kind d w sc place at of b l h f inner g =
+    onwards (λ x. withHead NoStmt x (λ n a. withStmt NoStmt (stmtAt d w s n) (λ p. Stmt (behind a p)))) _
+    (whole-scoped kind d w sc s place at b h)
     (λ e n y r q. rw (r .is) (
-    onwards (λ x. withStmt NoStmt x (λ p. Stmt (behind (noted e) p))) (λ st. pure (of e st))
+    onwards (λ x. withStmt NoStmt x (λ p. Stmt (behind (asked kind (temporaries e)) p))) (λ st. pure (of e st))
     (inner w sc n (scoped-later n (omega (arith, l, r .ahead)) h) f)
     (λ st m z k p. rw (k .is) (gives (of e st) m _ (g e st m (condition-is l r k)))) (λ j p. refl)))
     (λ j p. refl)
 
 abbrev choices : Counting Pairs
-unfolding pairNeed pairProcesses firstDeepPairs firstClashPairs usagePairs
+unfolding pairNeed pairProcesses firstClashPairs usagePairs
 choices =
     record {
       empty = noPair;
       needs = pairNeed;
       lives = pairProcesses;
-      deeps = firstDeepPairs;
       clashes = firstClashPairs;
       usages = usagePairs;
       no-needs = refl;
       no-lives = refl;
-      no-deeps = refl;
       no-clashes = refl;
       no-usages = refl;
     }
 
 choice-part : (s : List ℕ) (d : ℕ) (w : Names) (sc : Scope) (place : ℕ) (inner : Inner) → Bytes s → Scoped w sc place → Fits w d
     → InnerIs s d
-    → inner .expr ≡ readWhole d sc → inner .stmt ≡ readStmt d → (at : ℕ) → place ≤ at
+    → inner .expr ≡ readExpr d sc → inner .stmt ≡ readStmt d → (at : ℕ) → place ≤ at
     → Same s (λ a n x. PartIs choices s d sc 9 place at (applied a) n x) NoStmt (partAt 9 d w (λ i. stmtAt d w s i) s at)
     (readPair sc inner at (drop at s))
-unfolding partAt headAt headUsed readPair pairNeed pairProcesses firstDeepPairs firstClashPairs usagePairs
+unfolding partAt headAt headUsed readPair asked pairNeed pairProcesses firstClashPairs usagePairs
 choice-part s d w sc place inner b h f i ee es at l =
     rw (ee, es) (
-    condition-same (λ a n x. PartIs choices s d sc 9 place at (applied a) n x) s d w sc place at (λ e st. pair e st) b l h f i
+    condition-same (λ a n x. PartIs choices s d sc 9 place at (applied a) n x) s 9 d w sc place at (λ e st. pair e st) b l h f i
     (λ e st n k.
     record {
-      words = need st;
+      words = max (temporaries e + 2) (need st);
       processes = processes st;
-      deep = firstOf (noted e) (first (firstDeep st));
       clash = first (firstClash st);
       use-of = reading e ⊕ usage st;
       is = refl;
       ahead = k .ahead;
-      needs = λ ps. refl;
+      needs = λ ps. omega arith;
       lives = λ ps. refl;
-      deeps = λ ps. deeper e (firstDeep st) (firstDeepPairs ps);
       clashes = λ ps. first-orElse (firstClash st) (firstClashPairs ps);
       usages = λ ps. sym (plus-assoc (reading e) (usage st) (usagePairs ps));
       uses = k .uses;
@@ -258,14 +238,14 @@ choice-part s d w sc place inner b h f i ee es at l =
     }))
 
 pub choice-same : (s : List ℕ) (d : ℕ) (w : Names) (sc : Scope) (place at : ℕ) (inner : Inner) → Bytes s → place ≤ at → Scoped w sc place
-    → Fits w d → InnerIs s d → inner .expr ≡ readWhole d sc → inner .stmt ≡ readStmt d
+    → Fits w d → InnerIs s d → inner .expr ≡ readExpr d sc → inner .stmt ≡ readStmt d
     → Same s (RestIs s sc place at (countedWay 9 d)) NoStmt
     (withItem NoStmt (betweenAt 0 32 s at) (λ c m. gathered 9 (mostFrom c 9 d w (λ i. stmtAt d w s i) s (no-part m))))
     (stmtOf place sc inner isIf at (drop at s))
-unfolding stmtOf need processes firstDeep firstClash usage
+unfolding stmtOf need processes firstClash usage
 choice-same s d w sc place at inner b l h f i ee es =
     counted-same choices applied (readPair sc inner) (λ ps. M.IF ps) s d w sc (λ i. stmtAt d w s i) 9 place at b l
-    (record { counts = λ ps t a c x y. rw (a, c, x, y) refl; same-usage = λ ps. refl }) (choice-part s d w sc place inner b h f i ee es)
+    (record { counts = λ ps t a c x. rw (a, c, x) refl; same-usage = λ ps. refl }) (choice-part s d w sc place inner b h f i ee es)
 
 -- a statement is at least one process
 live-some : (st : M.Stmt) → 1 ≤ processes st
@@ -284,20 +264,24 @@ live-some (M.WHILE e st) = live-some st
 live-some (M.ALT gs) = omega arith
 
 pub loop-same : (s : List ℕ) (d : ℕ) (w : Names) (sc : Scope) (place at : ℕ) (inner : Inner) → Bytes s → place ≤ at → Scoped w sc place
-    → Fits w d → InnerIs s d → inner .expr ≡ readWhole d sc → inner .stmt ≡ readStmt d
+    → Fits w d → InnerIs s d → inner .expr ≡ readExpr d sc → inner .stmt ≡ readStmt d
     → Same s (RestIs s sc place at (manyWay 1 10 d)) NoStmt
     (gathered 10 (mostFrom 1 10 d w (λ i. stmtAt d w s i) s (no-part at))) (stmtOf place sc inner isWhile at (drop at s))
-unfolding stmtOf partAt headAt headUsed mostFrom repeated need processes firstDeep firstClash usage
+unfolding stmtOf partAt headAt headUsed mostFrom repeated asked need processes firstClash usage
 loop-same s d w sc place at inner b l h f i ee es =
     rw (ee, es) (
     mapped (λ x. gathered 10 (withStmt NoSum x (λ p. Total (added (no-part at) p))))
-    (condition-same Turn s d w sc place at (λ e st. M.WHILE e st) b l h f i (λ e st n k. (e, st, refl, refl, k)))
+    (condition-same Turn s 10 d w sc place at (λ e st. M.WHILE e st) b l h f i (λ e st n k. (e, st, refl, refl, k)))
     (λ a n y t. one a n y t)
     (λ j p. refl))
   where
     Turn : M.Stmt → ℕ → StmtRead → Type 0
     Turn a n x =
-        (e : Whole) × (st : M.Stmt) × (a ≡ M.WHILE e st) × (x ≡ Stmt (behind (noted e) (partOf st n))) × ConditionIs s d sc place at e st n
+        (e : M.Expr)
+        × (st : M.Stmt)
+        × (a ≡ M.WHILE e st)
+        × (x ≡ Stmt (behind (temporaries e + 2) (partOf st n)))
+        × ConditionIs s d sc place at e st n
 
     one : (a : M.Stmt) (n : ℕ) (y : StmtRead) → Turn a n y
         → RestIs s sc place at (manyWay 1 10 d) a n (gathered 10 (withStmt NoSum y (λ p. Total (added (no-part at) p))))
@@ -305,11 +289,12 @@ loop-same s d w sc place at inner b l h f i ee es =
         let e = t .0 in
         let st = t .1 in
         let k = t .4 in
-        let words : max 2 (max 0 (need st)) ≡ max 2 (need st) = omega arith in
+        let asks = temporaries e + 2 in
+        let words : max 2 (max 0 (max asks (need st))) ≡ max asks (need st) = omega arith in
         let live : max 1 (max 0 (processes st)) ≡ processes st = omega (arith, live-some st) in
         rw (t .2, t .3)
         (record {
-          is = rw (words, live, noted-first e (firstDeep st)) refl;
+          is = rw (words, live) refl;
           ahead = k .ahead;
           uses = k .uses;
           within = k .within;

@@ -1,9 +1,9 @@
 -- What is counted of statements and how they use names, against the model; statements without statements inside.
-use Prim.Native.Nat.{ℕ, zero, suc, _+_, _-_, _≤_, _<_}
+use Prim.Native.Nat.{ℕ, zero, suc, _+_, _-_, _≤_, _<_, max}
 use native.Mathlib.Omega.{arith}
 use mathlib.Core.Path.{_≡_, refl, sym, _∙_}
 use mathlib.Core.Logic.{_⊎_, inl, inr, ⊎-elim}
-use mathlib.Core.Bool.{true, false, cond, _||_}
+use mathlib.Core.Bool.{true, false, _||_}
 use mathlib.Core.List.{List, [], _∷_, _++_}
 use mathlib.Core.Option.{Option, none, some, Option·some-injective}
 use lib.ListN.{length, drop, getElem?, length-append}
@@ -12,13 +12,13 @@ use lib.Dec.{ltb, leb, eqb}
 use borrow.Author.Tests.{eq-eqb, ne-eqb, eqb-true, eqb-false}
 use Rattle.model.proofs.Points.{getElem-inside as inside}
 use Rattle.model.proofs.Cases.{by-bool, never}
-use Rattle.model.specs.Syntax.{Site, inputOf, outputOf, declared, Whole}
+use Rattle.model.specs.Syntax.{Site, inputOf, outputOf, declared}
 use Rattle.model.specs.Syntax as M
-use Rattle.model.specs.Reader.{parsed, Reader, onward, pure, Scope, numbered, names, readName, anySite, canInput, canOutput, readWhole}
+use Rattle.model.specs.Reader.{parsed, Reader, onward, pure, Scope, numbered, names, readName, anySite, canInput, canOutput, readExpr}
 use Rattle.model.specs.Reader.{Inner, stmtOf, isAssign, isInput, isOutput}
 use Rattle.model.specs.Usage.{Usage, nothing, _⊕_, reading, changing, inputting, same, isIn, reads, usage, firstClash}
-use Rattle.model.specs.Counts.{registers, firstDeep, processes, need}
-use Rattle.table.specs.Stmts.{wholeAt, variableAt, inputAt, outputAt, leaf, valueAt, takenAt, withHead}
+use Rattle.model.specs.Counts.{temporaries, processes, need}
+use Rattle.table.specs.Stmts.{asked, wholeAt, variableAt, inputAt, outputAt, leaf, valueAt, takenAt, withHead}
 use Rattle.table.specs.Stmts.{simpleAt}
 use Rattle.table.specs.Uses.{Used, thenUsed, nameUsed, variableUsed, exprUsed, simpleUsed, stmtUsed}
 use Rattle.numbers.specs.declared.Item.{Item}
@@ -31,7 +31,7 @@ use Rattle.table.specs.declared.stmt.StmtRead.{StmtRead}
 use Rattle.table.specs.declared.stmt.StmtRead.the-variants.{Stmt, Refused as NoStmt}
 use Rattle.table.specs.declared.stmt.HeadRead.{HeadRead}
 use Rattle.table.specs.declared.stmt.HeadRead.the-variants.{Head, Refused as NoHead}
-use Rattle.table.proofs.SameItems.{Bytes, Same, gives, onwards, Listed, name-same}
+use Rattle.table.proofs.SameItems.{Bytes, Same, gives, onwards, mapped, Listed, name-same}
 use Rattle.table.proofs.Marks.{Field, changed, used-there, inputs-of, outputs-of, field, names-of, only, Fresh, UsedAs, Stretch}
 use Rattle.table.proofs.Marks.{marked-nothing, marked-both, later, name-used, variable-used, isIn-append, field-both, field-nothing}
 use Rattle.table.proofs.Marks.{field-only, fields, InScope, or-cases, in-one}
@@ -46,7 +46,7 @@ first (some p) = At p
 -- what is counted of a statement that ends at a place
 abbrev pub partOf : M.Stmt → ℕ → Part
 partOf st n =
-    record { next = n; words = need st; processes = processes st; deep = first (firstDeep st); clash = first (firstClash st) }
+    record { next = n; words = need st; processes = processes st; clash = first (firstClash st) }
 
 -- declared at a place from lo up to hi
 abbrev pub DeclaredIn : (lo hi : ℕ) → Site → Type 0
@@ -90,17 +90,14 @@ UsesFrom s sc place at n u way =
     (vs cs : List Site) (from to : ℕ) (l : List ℕ) → Outer sc place vs cs → Stretch s vs cs at n from to l
     → UsedAs vs cs l u n from (way vs cs (slice from to s) (at - from) l)
 
--- an expression that stands in no other
-abbrev pub noted : Whole → First
-noted e = cond (leb (registers (e .expr)) 3) Nowhere (At (e .place))
-
-pub record WholeIs (s : List ℕ) (d : ℕ) (sc : Scope) (at : ℕ) (e : Whole) (n : ℕ) (x : HeadRead) : Type 0 where
-  pub is : x ≡ Head n (noted e)
+-- an expression of a statement that stands in no other
+pub record WholeIs (s : List ℕ) (kind d : ℕ) (sc : Scope) (at : ℕ) (e : M.Expr) (n : ℕ) (x : HeadRead) : Type 0 where
+  pub is : x ≡ Head n (asked kind (temporaries e))
   pub ahead : at < n
   pub uses : UsesAs s sc at n (reading e) (exprWay d)
   pub within : (lo hi : ℕ) → Within sc lo hi (reading e)
 
-within-reads : (sc : Scope) (e : Whole) (lo hi : ℕ) → ((x : Site) → isIn x (reads (e .expr)) ≡ true → InScope (sc .variables) x)
+within-reads : (sc : Scope) (e : M.Expr) (lo hi : ℕ) → ((x : Site) → isIn x (reads e) ≡ true → InScope (sc .variables) x)
     → Within sc lo hi (reading e)
 unfolding isIn
 within-reads sc e lo hi h = record { each-in = λ f x i. in-field f x i }
@@ -112,24 +109,14 @@ within-reads sc e lo hi h = record { each-in = λ f x i. in-field f x i }
     in-field inputs-of x i = never (cc)
     in-field outputs-of x i = never (cc)
 
-pub whole-same : (d : ℕ) (sc : Scope) (s : List ℕ) (at : ℕ) → Bytes s
-    → Same s (WholeIs s d sc at) NoHead (wholeAt d (length (sc .variables)) s at) (readWhole d sc at (drop at s))
-unfolding wholeAt readWhole
-whole-same d sc s at b =
-    onwards (λ x. withExpr NoHead x (λ n r. Head n (cond (leb r 3) Nowhere (At at)))) (λ e. pure (record { place = at; expr = e }))
-    (expr-same d sc s at b)
-    (λ e n y k q. rw (k .is) (gives (record { place = at; expr = e }) n _
-    (record {
-      is = refl;
-      ahead = k .ahead;
-      uses = k .uses;
-      within = λ lo hi. within-reads sc (record { place = at; expr = e }) lo hi
-          (k .within);
-    })))
+pub whole-same : (kind d : ℕ) (sc : Scope) (s : List ℕ) (at : ℕ) → Bytes s
+    → Same s (WholeIs s kind d sc at) NoHead (wholeAt kind d (length (sc .variables)) s at) (readExpr d sc at (drop at s))
+unfolding wholeAt
+whole-same kind d sc s at b =
+    mapped (λ x. withExpr NoHead x (λ e. Head (e .next) (asked kind (e .stored)))) (expr-same d sc s at b)
+    (λ e n y k. rw (k .is)
+    (record { is = refl; ahead = k .ahead; uses = k .uses; within = λ lo hi. within-reads sc e lo hi (k .within) }))
     (λ j p. refl)
-
-pub first-noted : (e : Whole) → first (cond (leb (registers (e .expr)) 3) none (some (e .place))) ≡ noted e
-first-noted e = by-bool (leb (registers (e .expr)) 3) (λ q. rw q refl) (λ q. rw q refl)
 
 -- what follows a statement's kind
 pub record RestIs (s : List ℕ) (sc : Scope) (place at : ℕ) (way : Way)
@@ -178,12 +165,12 @@ within-changing sc lo hi k x e = within-both (within-only changed sc lo hi k x e
 
 -- SKIP and STOP
 pub idle-same : (d : ℕ) (sc : Scope) (s : List ℕ) (place at k : ℕ) (st : M.Stmt) → ltb k 2 ≡ true → usage st ≡ nothing
-    → partOf st at ≡ record { next = at; words = 2; processes = 1; deep = Nowhere; clash = Nowhere }
-    → Same s (RestIs s sc place at (λ vs cs part i l. simpleUsed k d (length vs) (length cs) part i l)) NoStmt (leaf at 2 Nowhere)
+    → partOf st at ≡ record { next = at; words = 2; processes = 1; clash = Nowhere }
+    → Same s (RestIs s sc place at (λ vs cs part i l. simpleUsed k d (length vs) (length cs) part i l)) NoStmt (leaf at 2)
     (parsed st at (drop at s))
 unfolding simpleUsed
 idle-same d sc s place at k st small none-used is =
-    gives st at (leaf at 2 Nowhere)
+    gives st at (leaf at 2)
     (record {
       is = rw is refl;
       ahead = omega arith;
@@ -192,13 +179,13 @@ idle-same d sc s place at k st small none-used is =
     })
 
 -- an expression at the end of a statement without statements inside
-value-same : (words d : ℕ) (sc : Scope) (s : List ℕ) (at : ℕ) (of : Whole → M.Stmt) (R : M.Stmt → ℕ → StmtRead → Type 0) → Bytes s
-    → ((e : Whole) (n : ℕ) (x : HeadRead) → WholeIs s d sc at e n x → R (of e) n (leaf n words (noted e)))
-    → Same s R NoStmt (valueAt words d (length (sc .variables)) s at) (onward (readWhole d sc at (drop at s)) (λ e. pure (of e)))
+value-same : (kind least d : ℕ) (sc : Scope) (s : List ℕ) (at : ℕ) (of : M.Expr → M.Stmt) (R : M.Stmt → ℕ → StmtRead → Type 0) → Bytes s
+    → ((e : M.Expr) (n : ℕ) (x : HeadRead) → WholeIs s kind d sc at e n x → R (of e) n (leaf n (max least (asked kind (temporaries e)))))
+    → Same s R NoStmt (valueAt kind least d (length (sc .variables)) s at) (onward (readExpr d sc at (drop at s)) (λ e. pure (of e)))
 unfolding valueAt
-value-same words d sc s at of R b h =
-    onwards (λ x. withHead NoStmt x (λ m e. leaf m words e)) (λ e. pure (of e)) (whole-same d sc s at b)
-    (λ e n y k q. rw (k .is) (gives (of e) n (leaf n words (noted e)) (h e n y k))) (λ j p. refl)
+value-same kind least d sc s at of R b h =
+    onwards (λ x. withHead NoStmt x (λ m a. leaf m (max least a))) (λ e. pure (of e)) (whole-same kind d sc s at b)
+    (λ e n y k q. rw (k .is) (gives (of e) n (leaf n (max least (asked kind (temporaries e)))) (h e n y k))) (λ j p. refl)
 
 input-same : (w : Names) (sc : Scope) (place : ℕ) (s : List ℕ) (at : ℕ) → Bytes s → Scoped w sc place
     → Same s (Listed s at (sc .channels)) Refused (inputAt w s at) (readName canInput (sc .channels) at (drop at s))
@@ -218,15 +205,15 @@ simpleWay k d vs cs part i l = simpleUsed k d (length vs) (length cs) part i l
 
 pub assign-same : (d : ℕ) (w : Names) (sc : Scope) (s : List ℕ) (place at : ℕ) (stmts : Scope → Reader M.Stmt) → Bytes s → Scoped w sc place
     → Same s (RestIs s sc place at (simpleWay 2 d)) NoStmt (simpleAt 2 d w s at)
-    (stmtOf place sc (record { expr = readWhole d sc; stmt = stmts }) isAssign at (drop at s))
-unfolding simpleAt stmtOf simpleUsed need processes firstDeep firstClash usage
+    (stmtOf place sc (record { expr = readExpr d sc; stmt = stmts }) isAssign at (drop at s))
+unfolding simpleAt stmtOf simpleUsed asked need processes firstClash usage
 assign-same d w sc s place at stmts b h =
     rw (h .variables) (
-    onwards (λ i. withItem NoStmt i (λ x n. valueAt 2 d (length (sc .variables)) s n)) _ (variable-same (sc .variables) s at b)
+    onwards (λ i. withItem NoStmt i (λ x n. valueAt 2 2 d (length (sc .variables)) s n)) _ (variable-same (sc .variables) s at b)
     (λ x n y k q. rw (k .found) (
-    value-same 2 d sc s n (λ e. M.assign x e) (RestIs s sc place at (simpleWay 2 d)) b (λ e m z r.
+    value-same 2 2 d sc s n (λ e. M.assign x e) (RestIs s sc place at (simpleWay 2 d)) b (λ e m z r.
     record {
-      is = rw (first-noted e) refl;
+      is = let words : max 2 (temporaries e + 2) ≡ temporaries e + 2 = omega arith in rw words refl;
       ahead = omega (arith, k .there .ahead, r .ahead);
       uses = λ vs cs from to l o st.
           let here : Stretch s vs cs at n from to l = later st (omega arith) (omega (arith, r .ahead)) refl in
@@ -240,19 +227,20 @@ assign-same d w sc s place at stmts b h =
     (λ j p. refl))
 
 -- a channel to input from and a variable, and what follows them
-pub taken-onward : {B Y : Type 0} {Q : B → ℕ → Y → Type 0} {g : ℕ → ℕ → Y} (w : Names) (sc : Scope) (s : List ℕ) (place at : ℕ) (e : First)
+pub taken-onward : {B Y : Type 0} {Q : B → ℕ → Y → Type 0} {g : ℕ → ℕ → Y} (w : Names) (sc : Scope) (s : List ℕ) (place at words : ℕ)
     (c : HeadRead → Y) (k : Site → Site → Reader B) → Bytes s → Scoped w sc place
     → ((ch x : Site) (n m : ℕ) (i j : Item) → Listed s at (sc .channels) ch n i → Listed s n (sc .variables) x m j
-    → Same s Q g (c (Head m e)) (k ch x m (drop m s)))
+    → Same s Q g (c (Head m words)) (k ch x m (drop m s)))
     → ((j p : ℕ) → c (NoHead j p) ≡ g j p)
-    → Same s Q g (c (takenAt w s at e))
+    → Same s Q g (c (takenAt w s at words))
     (onward (readName canInput (sc .channels) at (drop at s))
     (λ ch. λ i bytes. onward (readName anySite (sc .variables) i bytes) (λ x. k ch x)))
 unfolding takenAt
-taken-onward w sc s place at e c k b h f r =
-    onwards (λ i. c (withItem NoHead i (λ ch n. withItem NoHead (variableAt w s n) (λ x m. Head m e)))) _ (input-same w sc place s at b h)
+taken-onward w sc s place at words c k b h f r =
+    onwards (λ i. c (withItem NoHead i (λ ch n. withItem NoHead (variableAt w s n) (λ x m. Head m words)))) _
+    (input-same w sc place s at b h)
     (λ ch n y kc q. rw (kc .found, h .variables) (
-    onwards (λ i. c (withItem NoHead i (λ x m. Head m e))) (λ x. k ch x) (variable-same (sc .variables) s n b)
+    onwards (λ i. c (withItem NoHead i (λ x m. Head m words))) (λ x. k ch x) (variable-same (sc .variables) s n b)
     (λ x m z kx p. rw (kx .found) (f ch x n m y z kc kx)) r))
     r
 
@@ -276,10 +264,10 @@ within-input {sc = sc} {ch} {x} lo hi kc kx =
 
 pub input-stmt-same : (d : ℕ) (w : Names) (sc : Scope) (s : List ℕ) (place at : ℕ) (inner : Inner) → Bytes s → Scoped w sc place
     → Same s (RestIs s sc place at (simpleWay 3 d)) NoStmt (simpleAt 3 d w s at) (stmtOf place sc inner isInput at (drop at s))
-unfolding simpleAt stmtOf simpleUsed need processes firstDeep firstClash usage
+unfolding simpleAt stmtOf simpleUsed need processes firstClash usage
 input-stmt-same d w sc s place at inner b h =
-    taken-onward w sc s place at Nowhere (λ x. withHead NoStmt x (λ m e. leaf m 3 e)) (λ c x. pure (M.input c x)) b h
-    (λ ch x n m i j kc kx. gives (M.input ch x) m (leaf m 3 Nowhere)
+    taken-onward w sc s place at 3 (λ x. withHead NoStmt x (λ m a. leaf m a)) (λ c x. pure (M.input c x)) b h
+    (λ ch x n m i j kc kx. gives (M.input ch x) m (leaf m 3)
     (record {
       is = refl;
       ahead = omega (arith, kc .there .ahead, kx .there .ahead);
@@ -291,15 +279,15 @@ input-stmt-same d w sc s place at inner b h =
 pub output-stmt-same : (d : ℕ) (w : Names) (sc : Scope) (s : List ℕ) (place at : ℕ) (stmts : Scope → Reader M.Stmt) → Bytes s
     → Scoped w sc place
     → Same s (RestIs s sc place at (simpleWay 4 d)) NoStmt (simpleAt 4 d w s at)
-    (stmtOf place sc (record { expr = readWhole d sc; stmt = stmts }) isOutput at (drop at s))
-unfolding simpleAt stmtOf simpleUsed need processes firstDeep firstClash usage
+    (stmtOf place sc (record { expr = readExpr d sc; stmt = stmts }) isOutput at (drop at s))
+unfolding simpleAt stmtOf simpleUsed asked need processes firstClash usage
 output-stmt-same d w sc s place at stmts b h =
     rw (h .variables) (
-    onwards (λ i. withItem NoStmt i (λ x n. valueAt 4 d (length (sc .variables)) s n)) _ (output-same w sc place s at b h)
+    onwards (λ i. withItem NoStmt i (λ x n. valueAt 4 4 d (length (sc .variables)) s n)) _ (output-same w sc place s at b h)
     (λ ch n y k q. rw (k .found) (
-    value-same 4 d sc s n (λ e. M.output ch e) (RestIs s sc place at (simpleWay 4 d)) b (λ e m z r.
+    value-same 4 4 d sc s n (λ e. M.output ch e) (RestIs s sc place at (simpleWay 4 d)) b (λ e m z r.
     record {
-      is = rw (first-noted e) refl;
+      is = refl;
       ahead = omega (arith, k .there .ahead, r .ahead);
       uses = λ vs cs from to l o st.
           let here : Stretch s vs cs at n from to l = later st (omega arith) (omega (arith, r .ahead)) refl in

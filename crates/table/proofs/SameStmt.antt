@@ -8,13 +8,12 @@ use lib.ListN.{length, drop}
 use lib.Dec.{ltb, eqb}
 use Rattle.model.specs.Syntax.{stmt}
 use Rattle.model.specs.Syntax as M
-use Rattle.model.specs.Reader.{Parsed, Scope, readWhole, Inner, stmtOf, isSkip, isStop, readStmt, stmtKinds}
+use Rattle.model.specs.Reader.{Parsed, Scope, readExpr, Inner, stmtOf, isSkip, isStop, readStmt, stmtKinds}
 use Rattle.model.specs.Usage.{usage, firstClash}
-use Rattle.model.specs.Counts.{firstDeep, processes, need}
+use Rattle.model.specs.Counts.{processes, need}
 use Rattle.table.specs.Stmts.{leaf, simpleAt, Fits, stmtAt, insideAt}
 use Rattle.table.specs.Uses.{simpleUsed, stmtUsed}
 use Rattle.table.specs.declared.stmt.Names.{Names}
-use Rattle.table.specs.declared.stmt.First.the-variants.{Nowhere}
 use Rattle.table.specs.declared.stmt.StmtRead.{StmtRead}
 use Rattle.table.specs.declared.stmt.StmtRead.the-variants.{Stmt, Refused as NoStmt}
 use Rattle.table.proofs.SameItems.{Bytes, NumberAt, Same, gives, turns, onwards, one-same, deep-same, each}
@@ -37,22 +36,22 @@ kindWay k d vs cs part n l =
 
 skip-same : (d : ℕ) (w : Names) (sc : Scope) (s : List ℕ) (place at : ℕ) (inner : Inner)
     → Same s (RestIs s sc place at (simpleWay 0 d)) NoStmt (simpleAt 0 d w s at) (stmtOf place sc inner isSkip at (drop at s))
-unfolding simpleAt stmtOf need processes firstDeep firstClash usage
+unfolding simpleAt stmtOf need processes firstClash usage
 skip-same d w sc s place at inner = idle-same d sc s place at 0 M.SKIP refl refl refl
 
 stop-same : (d : ℕ) (w : Names) (sc : Scope) (s : List ℕ) (place at : ℕ) (inner : Inner)
     → Same s (RestIs s sc place at (simpleWay 1 d)) NoStmt (simpleAt 1 d w s at) (stmtOf place sc inner isStop at (drop at s))
-unfolding simpleAt stmtOf need processes firstDeep firstClash usage
+unfolding simpleAt stmtOf need processes firstClash usage
 stop-same d w sc s place at inner = idle-same d sc s place at 1 M.STOP refl refl refl
 
 pub stmt-same : (d : ℕ) (s : List ℕ) → Bytes s → InnerIs s d
 unfolding stmtAt readStmt stmtUsed
 stmt-same zero s b w sc at h f =
-    deep-same (StmtIs s zero sc at) NoStmt (λ i. withItem NoStmt i (λ v n. leaf n 2 Nowhere)) s at b (λ j p. refl)
+    deep-same (StmtIs s zero sc at) NoStmt (λ i. withItem NoStmt i (λ v n. leaf n 2)) s at b (λ j p. refl)
 stmt-same (suc d) s b w sc at h f =
     let down : InnerIs s d = stmt-same d s b in
     let fits : Fits w d = (omega (arith, f .0), omega (arith, f .1), omega (arith, f .2), f .3, f .4) in
-    let inner : Inner = record { expr = readWhole d sc; stmt = readStmt d } in
+    let inner : Inner = record { expr = readExpr d sc; stmt = readStmt d } in
     onwards (λ x. withItem NoStmt x (λ k n. kinds k n)) (λ k. stmtOf at sc inner k) (one-same stmtKinds 11 s at b refl)
     (λ kind n y k q. rw (k .found) (with-kind (k .value) n _ _ (k .there) (
     let l : at < n = k .there .ahead in

@@ -14,7 +14,7 @@ use Rattle.model.proofs.Cases.{by-bool, by-option, by-parsed, never}
 use Rattle.model.specs.Syntax.{Site, inputOf, outputOf, declared, Program}
 use Rattle.model.specs.Reader.{Parsed, parsed, fails, Scope, numbered, canInput, canOutput, readProgram, readTable, Read, refused}
 use Rattle.model.specs.Usage.{same, firstClash}
-use Rattle.model.specs.Counts.{firstDeep, processes}
+use Rattle.model.specs.Counts.{processes}
 use Rattle.model.specs.Accept.{accept, answerOf, checks}
 use Rattle.model.specs.declared.Reading.{Reading}
 use Rattle.model.specs.declared.Reading.the-variants.{Refused}
@@ -125,16 +125,14 @@ program-same s b =
     (λ a c. refl)))
     (λ a c. refl)
 
--- refusals 7 to 9, lowest first
+-- refusals 7 and 9, lowest first
 checks-same : (p : Program) (n len : ℕ) → len ≤ n
     → finished (p .inputs) (p .outputs) len (partOf (p .body) n) ≡ answerOf (checks p)
 unfolding finished checks
 checks-same p n len l =
     rw (le-ltb n len l) (
     by-option (firstClash (p .body))
-    (λ e. by-option (firstDeep (p .body))
-    (λ f. by-bool (leb (processes (p .body)) 64) (λ g. rw (e, f, g) refl) (λ g. rw (e, f, g) refl))
-    (λ q f. rw (e, f) refl))
+    (λ e. by-bool (leb (processes (p .body)) 64) (λ g. rw (e, g) refl) (λ g. rw (e, g) refl))
     (λ q e. rw e refl))
 
 -- what a reading is answered with: 6 at a byte behind the program, else the other tests

@@ -9,8 +9,9 @@ use lib.Dec.{ltb, leb, eqb}
 use borrow.Author.Tests.{leb-false, ltb-false}
 use Rattle.model.proofs.Cases.{by-bool, of-cond}
 use Rattle.numbers.specs.Items.{groupsAt, betweenAt, nameAt, deepAt, withNumber, withItem}
+use Rattle.model.specs.Counts.{Order, leftFirst, rightFirst, rightStored, sidesNeed, orderOf, sidesHold, guardWords}
 use Rattle.table.specs.Exprs.{withExpr, leafAt, sides, exprAt}
-use Rattle.table.specs.Stmts.{wholeAt, variableAt, inputAt, withHead, withStmt}
+use Rattle.table.specs.Stmts.{asked, wholeAt, variableAt, inputAt, withHead, withStmt}
 use Rattle.table.specs.Stmts.{outputAt, leaf, valueAt, takenAt, simpleAt, guardAt, headAt, nothing, added, partAt, mostFrom}
 use Rattle.table.specs.Stmts.{gathered, Branches, joinedBy, branchesFrom, noBranches, moreNames, declaring, insideAt, stmtAt}
 use Rattle.table.specs.Stmts.{partIn}
@@ -18,11 +19,10 @@ use Rattle.numbers.specs.declared.NumberRead.{NumberRead}
 use Rattle.numbers.specs.declared.NumberRead.the-variants.{Number, Bad}
 use Rattle.numbers.specs.declared.Item.{Item}
 use Rattle.numbers.specs.declared.Item.the-variants.{Item as Found, Refused}
+use Rattle.table.specs.declared.expr.Term.{Term}
 use Rattle.table.specs.declared.expr.ExprRead.{ExprRead}
 use Rattle.table.specs.declared.expr.ExprRead.the-variants.{Expr, Refused as NoExpr}
 use Rattle.table.specs.declared.stmt.Names.{Names}
-use Rattle.table.specs.declared.stmt.First.{First}
-use Rattle.table.specs.declared.stmt.First.the-variants.{Nowhere}
 use Rattle.table.specs.declared.stmt.Part.{Part}
 use Rattle.table.specs.declared.stmt.StmtRead.{StmtRead}
 use Rattle.table.specs.declared.stmt.StmtRead.the-variants.{Stmt, Refused as NoStmt}
@@ -41,18 +41,19 @@ abbrev InItem : (at len : ℕ) → Item → Type 0
 InItem at len (Found v n) = (at < n) × (n ≤ len)
 InItem at len (Refused k p) = Unit {0}
 
+-- an expression stores fewer values than it has bytes
 abbrev InExpr : (at len : ℕ) → ExprRead → Type 0
-InExpr at len (Expr n r) = (at < n) × (n ≤ len)
+InExpr at len (Expr e) = (at < e .next) × (e .next ≤ len) × (e .stored < e .next - at)
 InExpr at len (NoExpr k p) = Unit {0}
 
 abbrev Most : ℕ → Item → Type 0
 Most hi (Found v n) = v ≤ hi
 Most hi (Refused k p) = Unit {0}
 
--- a head may be empty
-abbrev InHead : (from len : ℕ) → HeadRead → Type 0
-InHead from len (Head n d) = (from ≤ n) × (n ≤ len)
-InHead from len (NoHead k p) = Unit {0}
+-- a head may be empty; it ends from `from` on, and the words that it asks for are bounded by its bytes from base on
+abbrev InHead : (base from len : ℕ) → HeadRead → Type 0
+InHead base from len (Head n a) = (from ≤ n) × (n ≤ len) × (a ≤ 40 * (n - base))
+InHead base from len (NoHead k p) = Unit {0}
 
 -- what follows a number, an item, an expression, a head or a statement is as P says, where a refusal is
 of-number : {R : Type 0} {bad : R} (P : R → Type 0) (Q : NumberRead → Type 0) → P bad → (x : NumberRead) {f : ℕ → ℕ → R} → Q x
@@ -66,13 +67,13 @@ of-item P Q r (Found v n) h g = g v n h
 of-item P Q r (Refused k p) h g = r k p
 
 of-expr : {R : Type 0} {refuse : ℕ → ℕ → R} (P : R → Type 0) (Q : ExprRead → Type 0) → ((k p : ℕ) → P (refuse k p)) → (x : ExprRead)
-    {f : ℕ → ℕ → R} → Q x → ((n r : ℕ) → Q (Expr n r) → P (f n r)) → P (withExpr refuse x f)
-of-expr P Q r (Expr n i) h g = g n i h
+    {f : Term → R} → Q x → ((e : Term) → Q (Expr e) → P (f e)) → P (withExpr refuse x f)
+of-expr P Q r (Expr e) h g = g e h
 of-expr P Q r (NoExpr k p) h g = r k p
 
 of-head : {R : Type 0} {refuse : ℕ → ℕ → R} (P : R → Type 0) (Q : HeadRead → Type 0) → ((k p : ℕ) → P (refuse k p)) → (x : HeadRead)
-    {f : ℕ → First → R} → Q x → ((n : ℕ) (d : First) → Q (Head n d) → P (f n d)) → P (withHead refuse x f)
-of-head P Q r (Head n d) h g = g n d h
+    {f : ℕ → ℕ → R} → Q x → ((n a : ℕ) → Q (Head n a) → P (f n a)) → P (withHead refuse x f)
+of-head P Q r (Head n a) h g = g n a h
 of-head P Q r (NoHead k p) h g = r k p
 
 of-stmt : {R : Type 0} {refuse : ℕ → ℕ → R} (P : R → Type 0) (Q : StmtRead → Type 0) → ((k p : ℕ) → P (refuse k p)) → (x : StmtRead)
@@ -124,7 +125,7 @@ unfolding deepAt
 deep-refused s at = of-number IsRefused (λ x. Unit {0}) tt (groupsAt 5 s at) tt (λ v n h. tt)
 
 earlier-expr : (x : ExprRead) (from at len : ℕ) → from < at → InExpr at len x → InExpr from len x
-earlier-expr (Expr n r) from at len l h = omega (arith, l, h .0, h .1)
+earlier-expr (Expr e) from at len l h = (omega (arith, l, h .0), h .1, omega (arith, l, h .0, h .2))
 earlier-expr (NoExpr j p) from at len l h = tt
 
 leaf-in : (k vs : ℕ) (s : List ℕ) (at : ℕ) → InExpr at (length s) (leafAt k vs s at)
@@ -132,12 +133,28 @@ unfolding leafAt
 leaf-in k vs s at =
     of-item (InExpr at (length s)) (InItem at (length s)) (λ j p. tt)
     (cond (eqb k 0) (betweenAt 0 4294967295 s at) (nameAt vs 0 0 s at))
-    (of-cond (InItem at (length s)) (eqb k 0) (between-in 0 4294967295 s at) (name-in vs 0 0 s at)) (λ v n h. h)
+    (of-cond (InItem at (length s)) (eqb k 0) (between-in 0 4294967295 s at) (name-in vs 0 0 s at)) (λ v n h.
+    (h .0, h .1, omega (arith, h .0)))
+
+-- an operator needs at most 3 registers, and its left side holds at most one value beside its own
+pub need-most : (l r : ℕ) → sidesNeed l r ≤ 3
+unfolding sidesNeed
+need-most l r = omega arith
+
+pub hold-most : (o : Order) (l r : ℕ) → sidesHold o l r ≤ max (l + 1) r
+unfolding sidesHold
+hold-most leftFirst l r = omega arith
+hold-most rightFirst l r = omega arith
+hold-most rightStored l r = omega arith
 
 sides-in : (inner : ℕ → ExprRead) (at len : ℕ) → ((i : ℕ) → InExpr i len (inner i)) → InExpr at len (sides inner at)
 sides-in inner at len h =
-    of-expr (InExpr at len) (InExpr at len) (λ k p. tt) (inner at) (h at) (λ n l a.
-    of-expr (InExpr at len) (InExpr n len) (λ k p. tt) (inner n) (h n) (λ m r b. (omega (arith, a .0, b .0), b .1)))
+    of-expr (InExpr at len) (InExpr at len) (λ k p. tt) (inner at) (h at) (λ l a.
+    of-expr (InExpr at len) (InExpr (l .next) len) (λ k p. tt) (inner (l .next)) (h (l .next)) (λ r b. (
+      omega (arith, a .0, b .0),
+      b .1,
+      omega (arith, a .0, a .2, b .0, b .2, hold-most (orderOf (l .registers) (r .registers)) (l .stored) (r .stored)),
+    )))
 
 expr-in : (d vs : ℕ) (s : List ℕ) (at : ℕ) → InExpr at (length s) (exprAt d vs s at)
 unfolding exprAt
@@ -159,69 +176,82 @@ later-stmt : (x : StmtRead) (base from from2 len : ℕ) → from ≤ from2 → I
 later-stmt (Stmt p) base from from2 len l h = (omega (arith, l, h .0), h .1, h .2, h .3)
 later-stmt (NoStmt k p) base from from2 len l h = tt
 
-leaf-small : (n words base from len : ℕ) (d : First) → base < from → from ≤ n → n ≤ len → words ≤ 4 → In base from len (leaf n words d)
-leaf-small n words base from len d l m u w = (m, u, omega (arith, l, m, w), omega (arith, l, m))
+leaf-small : (n words base from len : ℕ) → base < from → from ≤ n → n ≤ len → words ≤ 40 * (n - base) → In base from len (leaf n words)
+leaf-small n words base from len l m u w = (m, u, w, omega (arith, l, m))
 
-earlier-head : (x : HeadRead) (from at len : ℕ) → from ≤ at → InHead at len x → InHead from len x
-earlier-head (Head n d) from at len l h = (omega (arith, l, h .0), h .1)
-earlier-head (NoHead k p) from at len l h = tt
+earlier-head : (x : HeadRead) (base from at len : ℕ) → from ≤ at → InHead base at len x → InHead base from len x
+earlier-head (Head n a) base from at len l h = (omega (arith, l, h .0), h .1, h .2)
+earlier-head (NoHead k p) base from at len l h = tt
 
-whole-in : (d vs : ℕ) (s : List ℕ) (at : ℕ) → InHead at (length s) (wholeAt d vs s at)
+asked-most : (k t : ℕ) → asked k t ≤ t + 8
+unfolding asked guardWords
+asked-most k t =
+    of-cond (λ n. n ≤ t + 8) (eqb k 4) (omega arith) (of-cond (λ n. n ≤ t + 8) (ltb k 11) (omega arith) (guard t))
+  where
+    guard : (t : ℕ) → guardWords t ≤ t + 8
+    guard zero = omega arith
+    guard (suc t) = omega arith
+
+whole-in : (k d vs : ℕ) (s : List ℕ) (at : ℕ) → InHead at at (length s) (wholeAt k d vs s at)
 unfolding wholeAt
-whole-in d vs s at =
-    of-expr (InHead at (length s)) (InExpr at (length s)) (λ k p. tt) (exprAt d vs s at) (expr-in d vs s at) (λ n r h.
-    (omega (arith, h .0), h .1))
+whole-in k d vs s at =
+    of-expr (InHead at at (length s)) (InExpr at (length s)) (λ j p. tt) (exprAt d vs s at) (expr-in d vs s at) (λ e h.
+    (omega (arith, h .0), h .1, omega (arith, h .0, h .2, asked-most k (e .stored))))
 
-value-in : (words d vs : ℕ) (s : List ℕ) (base from at : ℕ) → base < from → from ≤ at → words ≤ 4
-    → In base from (length s) (valueAt words d vs s at)
+value-in : (k least d vs : ℕ) (s : List ℕ) (base from at : ℕ) → base < from → from ≤ at → least ≤ 4
+    → In base from (length s) (valueAt k least d vs s at)
 unfolding valueAt
-value-in words d vs s base from at l m w =
-    of-head (In base from (length s)) (InHead at (length s)) (λ k p. tt) (wholeAt d vs s at) (whole-in d vs s at) (λ n e h.
-    leaf-small n words base from (length s) e l (omega (arith, m, h .0)) (h .1) w)
+value-in k least d vs s base from at l m w =
+    of-head (In base from (length s)) (InHead at at (length s)) (λ j p. tt) (wholeAt k d vs s at) (whole-in k d vs s at) (λ n a h.
+    leaf-small n (max least a) base from (length s) l (omega (arith, m, h .0)) (h .1) (omega (arith, l, m, w, h .0, h .2)))
 
-taken-in : (w : Names) (s : List ℕ) (at : ℕ) (e : First) → InHead at (length s) (takenAt w s at e)
+-- a channel and a variable, behind what asks for so many words from base on
+taken-in : (w : Names) (s : List ℕ) (base at a : ℕ) → base ≤ at → a ≤ 40 * (at - base) → InHead base at (length s) (takenAt w s at a)
 unfolding takenAt
-taken-in w s at e =
-    of-item (InHead at (length s)) (InItem at (length s)) (λ k p. tt) (inputAt w s at) (name-in _ _ _ s at) (λ c n h.
-    of-item (InHead at (length s)) (InItem n (length s)) (λ k p. tt) (variableAt w s n) (name-in _ _ _ s n) (λ x m g.
-    (omega (arith, h .0, g .0), g .1)))
+taken-in w s base at a l u =
+    of-item (InHead base at (length s)) (InItem at (length s)) (λ k p. tt) (inputAt w s at) (name-in _ _ _ s at) (λ c n h.
+    of-item (InHead base at (length s)) (InItem n (length s)) (λ k p. tt) (variableAt w s n) (name-in _ _ _ s n) (λ x m g.
+    (omega (arith, h .0, g .0), g .1, omega (arith, l, u, h .0, g .0))))
 
 simple-in : (k d : ℕ) (w : Names) (s : List ℕ) (base at : ℕ) → base < at → at ≤ length s → In base at (length s) (simpleAt k d w s at)
 unfolding simpleAt
 simple-in k d w s base at l u =
-    of-cond (In base at (length s)) (ltb k 2) (leaf-small at 2 base at (length s) Nowhere l (omega arith) u (omega arith)) (
+    of-cond (In base at (length s)) (ltb k 2) (leaf-small at 2 base at (length s) l (omega arith) u (omega (arith, l))) (
     of-cond (In base at (length s)) (eqb k 2)
     (of-item (In base at (length s)) (InItem at (length s)) (λ j p. tt) (variableAt w s at) (name-in _ _ _ s at) (λ x n h.
-    value-in 2 d (w .variables) s base at n l (omega (arith, h .0)) (omega arith))) (
+    value-in 2 2 d (w .variables) s base at n l (omega (arith, h .0)) (omega arith))) (
     of-cond (In base at (length s)) (eqb k 3)
-    (of-head (In base at (length s)) (InHead at (length s)) (λ j p. tt) (takenAt w s at Nowhere) (taken-in w s at Nowhere) (λ m e h.
-    leaf-small m 3 base at (length s) e l (h .0) (h .1) (omega arith)))
+    (of-head (In base at (length s)) (InHead base at (length s)) (λ j p. tt) (takenAt w s at 3)
+    (taken-in w s base at 3 (omega (arith, l)) (omega (arith, l))) (λ m a h.
+    leaf-small m a base at (length s) l (h .0) (h .1) (h .2)))
     (of-item (In base at (length s)) (InItem at (length s)) (λ j p. tt) (outputAt w s at) (name-in _ _ _ s at) (λ x n h.
-    value-in 4 d (w .variables) s base at n l (omega (arith, h .0)) (omega arith)))))
+    value-in 4 4 d (w .variables) s base at n l (omega (arith, h .0)) (omega arith)))))
 
-guard-in : (d : ℕ) (w : Names) (s : List ℕ) (at : ℕ) → InHead at (length s) (guardAt d w s at)
+guard-in : (d : ℕ) (w : Names) (s : List ℕ) (at : ℕ) → InHead at at (length s) (guardAt d w s at)
 unfolding guardAt
 guard-in d w s at =
-    of-item (InHead at (length s)) (InItem at (length s)) (λ k p. tt) (betweenAt 0 1 s at) (between-in 0 1 s at) (λ g n a.
-    of-head (InHead at (length s)) (InHead n (length s)) (λ k p. tt) (wholeAt d (w .variables) s n) (whole-in d (w .variables) s n)
-    (λ m e b.
-    of-cond (InHead at (length s)) (eqb g 0)
-    (earlier-head (takenAt w s m e) at m (length s) (omega (arith, a .0, b .0)) (taken-in w s m e)) (omega (arith, a .0, b .0), b .1)))
+    of-item (InHead at at (length s)) (InItem at (length s)) (λ k p. tt) (betweenAt 0 1 s at) (between-in 0 1 s at) (λ g n b.
+    of-head (InHead at at (length s)) (InHead n n (length s)) (λ k p. tt) (wholeAt 11 d (w .variables) s n)
+    (whole-in 11 d (w .variables) s n) (λ m a h.
+    let l : at ≤ m = omega (arith, b .0, h .0) in
+    let asks : a ≤ 40 * (m - at) = omega (arith, b .0, h .2) in
+    of-cond (InHead at at (length s)) (eqb g 0) (earlier-head (takenAt w s m a) at at m (length s) l (taken-in w s at m a l asks))
+    (l, h .1, asks)))
 
 -- the head of a part; an empty one ends where it begins
 abbrev After : ℕ → HeadRead → Type 0
-After from (Head n d) = from ≤ n
+After from (Head n a) = (from ≤ n) × (a ≤ 40 * (n - from))
 After from (NoHead k p) = Unit {0}
 
 head-after : (k d : ℕ) (w : Names) (s : List ℕ) (at : ℕ) → After at (headAt k d w s at)
 unfolding headAt
 head-after k d w s at =
-    of-cond (After at) (ltb k 9) (omega arith)
-    (of-cond (After at) (ltb k 11) (of (wholeAt d (w .variables) s at) (whole-in d (w .variables) s at))
+    of-cond (After at) (ltb k 9) (omega arith, omega arith)
+    (of-cond (After at) (ltb k 11) (of (wholeAt k d (w .variables) s at) (whole-in k d (w .variables) s at))
     (of (guardAt d w s at) (guard-in d w s at)))
   where
-    of : (x : HeadRead) → InHead at (length s) x → After at x
-    of (Head n e) h = h .0
+    of : (x : HeadRead) → InHead at at (length s) x → After at x
+    of (Head n a) h = (h .0, h .2)
     of (NoHead j p) h = tt
 
 -- a statement ends behind its place and in the table, and its words and processes are bounded by its bytes
@@ -232,9 +262,9 @@ part-in : (k d : ℕ) (w : Names) (inner : ℕ → StmtRead) (s : List ℕ) (at 
     → Small at (length s) (partAt k d w inner s at)
 unfolding partAt
 part-in k d w inner s at h =
-    of-head (Small at (length s)) (After at) (λ j p. tt) (headAt k d w s at) (head-after k d w s at) (λ n e l.
+    of-head (Small at (length s)) (After at) (λ j p. tt) (headAt k d w s at) (head-after k d w s at) (λ n a l.
     of-stmt (Small at (length s)) (Small n (length s)) (λ j p. tt) (inner n) (h n) (λ p g.
-    (omega (arith, l, g .0), g .1, omega (arith, l, g .2), omega (arith, l, g .3))))
+    (omega (arith, l .0, g .0), g .1, omega (arith, l .0, l .1, g .0, g .2), omega (arith, l .0, g .3))))
 
 -- what is counted over parts from base on
 record SumIn (base from len : ℕ) (t : Sum) : Type 0 where

@@ -1,32 +1,44 @@
 -- Expressions as the reader answers them, by places of the table.
-use Prim.Native.Nat.{ℕ, zero, suc, _+_, _-_, _≤_, max}
+use Prim.Native.Nat.{ℕ, zero, suc, _-_, _≤_, _<_}
 use mathlib.Core.Bool.{cond}
 use mathlib.Core.List.{List}
 use lib.Dec.{ltb, eqb}
+use Rattle.model.specs.Counts.{sidesNeed, orderOf, sidesHold}
 use Rattle.numbers.specs.Items.{betweenAt, nameAt, deepAt, withItem}
+use Rattle.table.specs.declared.expr.Term.{Term}
 use Rattle.table.specs.declared.expr.ExprRead.{ExprRead}
 use Rattle.table.specs.declared.expr.ExprRead.the-variants.{Expr, Refused as NoExpr}
 use Rattle.numbers.specs.Kinds.{constantKind, notKind, lastExpression, lastOperator}
 
 -- what follows an expression; `refuse` answers a refusal
-abbrev pub withExpr : {R : Type 0} → (refuse : ℕ → ℕ → R) → ExprRead → (ℕ → ℕ → R) → R
-withExpr refuse (Expr n r) f = f n r
+abbrev pub withExpr : {R : Type 0} → (refuse : ℕ → ℕ → R) → ExprRead → (Term → R) → R
+withExpr refuse (Expr e) f = f e
 withExpr refuse (NoExpr k p) f = refuse k p
+
+-- a constant or a variable that ends at a place: 1 register, nothing stored
+abbrev pub single : (next : ℕ) → ExprRead
+single n = Expr (record { next = n; registers = 1; stored = 0 })
 
 unfoldable pub leafAt : (kind variables : ℕ) → List ℕ → (at : ℕ) → ExprRead
 leafAt kind vs s at =
-    withItem NoExpr (cond (eqb kind constantKind) (betweenAt 0 4294967295 s at) (nameAt vs 0 0 s at)) (λ v n. Expr n 1)
+    withItem NoExpr (cond (eqb kind constantKind) (betweenAt 0 4294967295 s at) (nameAt vs 0 0 s at)) (λ v n. single n)
 
--- the larger of left and 1 + right
-abbrev pub joined : (left right : ℕ) → ℕ
-joined l r = max l (1 + r)
+-- an operator by its sides
+abbrev pub joined : (left right : Term) → ExprRead
+joined l r =
+    Expr
+    (record {
+      next = r .next;
+      registers = sidesNeed (l .registers) (r .registers);
+      stored = sidesHold (orderOf (l .registers) (r .registers)) (l .stored) (r .stored);
+    })
 
 -- after an operator's number: left, right
 abbrev pub sides : (ℕ → ExprRead) → ℕ → ExprRead
-sides inner at = withExpr NoExpr (inner at) (λ n l. withExpr NoExpr (inner n) (λ m r. Expr m (joined l r)))
+sides inner at = withExpr NoExpr (inner at) (λ l. withExpr NoExpr (inner (l .next)) (λ r. joined l r))
 
 unfoldable pub exprAt : (depth variables : ℕ) → List ℕ → (at : ℕ) → ExprRead
-exprAt zero vs s at = withItem NoExpr (deepAt s at) (λ v n. Expr n 1)
+exprAt zero vs s at = withItem NoExpr (deepAt s at) (λ v n. single n)
 exprAt (suc d) vs s at =
     withItem NoExpr (betweenAt 0 lastExpression s at) (λ k n.
     cond (ltb k notKind) (leafAt k vs s n)
@@ -35,7 +47,7 @@ exprAt (suc d) vs s at =
 unfoldable pub sidesAt : (depth variables : ℕ) → List ℕ → (at : ℕ) → ExprRead
 sidesAt d vs s at = sides (λ i. exprAt (d - 1) vs s i) at
 
--- the registers are at most the depth left
+-- the registers are at most 3, and the stored values fewer than the depth left
 abbrev pub Within : ExprRead → ℕ → Type 0
-Within (Expr n r) d = r ≤ d
+Within (Expr e) d = (e .registers ≤ 3) × (e .stored < d)
 Within (NoExpr k p) d = Unit {0}

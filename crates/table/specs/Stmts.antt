@@ -4,7 +4,7 @@ use mathlib.Core.Bool.{Bool, false, cond}
 use mathlib.Core.List.{List}
 use lib.ListN.{replicate}
 use lib.Seq.{slice}
-use lib.Dec.{ltb, leb, eqb}
+use lib.Dec.{ltb, eqb}
 use Rattle.numbers.specs.Items.{betweenAt, nameAt, deepAt, withItem}
 use Rattle.table.specs.Exprs.{exprAt, withExpr}
 use Rattle.table.specs.Uses.{checkedAt}
@@ -20,8 +20,9 @@ use Rattle.table.specs.declared.stmt.HeadRead.the-variants.{Head, Refuse
 use Rattle.table.specs.declared.stmt.Sum.{Sum}
 use Rattle.table.specs.declared.stmt.SumRead.{SumRead}
 use Rattle.table.specs.declared.stmt.SumRead.the-variants.{Sum as Total, Refused as NoSum}
-use Rattle.model.specs.Limits.{registerLimit, nameLimit, partLimit, branchLimit}
-use Rattle.numbers.specs.Kinds.{assignKind, inputKind, varKind, seqKind, parKind, ifKind, whileKind, altKind, lastStatement}
+use Rattle.model.specs.Counts.{guardWords}
+use Rattle.model.specs.Limits.{nameLimit, partLimit, branchLimit}
+use Rattle.numbers.specs.Kinds.{assignKind, inputKind, outputKind, varKind, seqKind, parKind, ifKind, whileKind, altKind, lastStatement}
 use Rattle.numbers.specs.Kinds.{inputGuardKind, lastGuard}
 
 abbrev pub firstOf : First → First → First
@@ -29,17 +30,21 @@ firstOf Nowhere o = o
 firstOf (At p) o = At p
 
 -- what follows a head, and what follows a statement; `refuse` answers a refusal
-abbrev pub withHead : {R : Type 0} → (refuse : ℕ → ℕ → R) → HeadRead → (ℕ → First → R) → R
-withHead refuse (Head n d) f = f n d
+abbrev pub withHead : {R : Type 0} → (refuse : ℕ → ℕ → R) → HeadRead → (ℕ → ℕ → R) → R
+withHead refuse (Head n a) f = f n a
 withHead refuse (NoHead k p) f = refuse k p
 
 abbrev pub withStmt : {R : Type 0} → (refuse : ℕ → ℕ → R) → StmtRead → (Part → R) → R
 withStmt refuse (Stmt p) f = f p
 withStmt refuse (NoStmt k p) f = refuse k p
 
--- an expression that stands in no other: over 3 registers it is noted
-unfoldable pub wholeAt : (depth variables : ℕ) → List ℕ → (at : ℕ) → HeadRead
-wholeAt d vs s at = withExpr NoHead (exprAt d vs s at) (λ n r. Head n (cond (leb r registerLimit) Nowhere (At at)))
+-- 02, order 2: the words that a statement asks for, by the stored values of an expression in it
+unfoldable pub asked : (kind stored : ℕ) → ℕ
+asked k t = cond (eqb k outputKind) (t + 3) (cond (ltb k altKind) (t + 2) (guardWords t))
+
+-- an expression of a statement that stands in no other
+unfoldable pub wholeAt : (kind depth variables : ℕ) → List ℕ → (at : ℕ) → HeadRead
+wholeAt k d vs s at = withExpr NoHead (exprAt d vs s at) (λ e. Head (e .next) (asked k (e .stored)))
 
 abbrev pub variableAt : Names → List ℕ → ℕ → Item
 variableAt w s at = nameAt (w .variables) 0 0 s at
@@ -50,40 +55,41 @@ inputAt w s at = nameAt (w .channels) (w .inputs) (w .inputs + w .outputs) s at
 abbrev pub outputAt : Names → List ℕ → ℕ → Item
 outputAt w s at = nameAt (w .channels) 0 (w .inputs) s at
 
-abbrev pub leaf : (next words : ℕ) → First → StmtRead
-leaf n words d = Stmt (record { next = n; words = words; processes = 1; deep = d; clash = Nowhere })
+abbrev pub leaf : (next words : ℕ) → StmtRead
+leaf n words = Stmt (record { next = n; words = words; processes = 1; clash = Nowhere })
 
--- an expression as the end of a statement without statements inside
-unfoldable pub valueAt : (words depth variables : ℕ) → List ℕ → (at : ℕ) → StmtRead
-valueAt words d vs s at = withHead NoStmt (wholeAt d vs s at) (λ m e. leaf m words e)
+-- an expression as the end of a statement without statements inside, which needs at least so many words
+unfoldable pub valueAt : (kind least depth variables : ℕ) → List ℕ → (at : ℕ) → StmtRead
+valueAt k least d vs s at = withHead NoStmt (wholeAt k d vs s at) (λ m a. leaf m (max least a))
 
 -- a channel to input from and a variable, behind what has been read
-unfoldable pub takenAt : Names → List ℕ → (at : ℕ) → First → HeadRead
-takenAt w s at e = withItem NoHead (inputAt w s at) (λ c n. withItem NoHead (variableAt w s n) (λ x m. Head m e))
+unfoldable pub takenAt : Names → List ℕ → (at words : ℕ) → HeadRead
+takenAt w s at a = withItem NoHead (inputAt w s at) (λ c n. withItem NoHead (variableAt w s n) (λ x m. Head m a))
 
 -- the kinds before VAR, whose expressions have `depth` left
 unfoldable pub simpleAt : (kind depth : ℕ) → Names → List ℕ → (at : ℕ) → StmtRead
 simpleAt k d w s at =
-    cond (ltb k assignKind) (leaf at 2 Nowhere)
-    (cond (eqb k assignKind) (withItem NoStmt (variableAt w s at) (λ x n. valueAt 2 d (w .variables) s n))
-    (cond (eqb k inputKind) (withHead NoStmt (takenAt w s at Nowhere) (λ m e. leaf m 3 e))
-    (withItem NoStmt (outputAt w s at) (λ c n. valueAt 4 d (w .variables) s n))))
+    cond (ltb k assignKind) (leaf at 2)
+    (cond (eqb k assignKind) (withItem NoStmt (variableAt w s at) (λ x n. valueAt assignKind 2 d (w .variables) s n))
+    (cond (eqb k inputKind) (withHead NoStmt (takenAt w s at 3) (λ m a. leaf m a))
+    (withItem NoStmt (outputAt w s at) (λ c n. valueAt outputKind 4 d (w .variables) s n))))
 
 -- a guard: its kind, its condition, and if it waits for input its channel and its variable
 unfoldable pub guardAt : (depth : ℕ) → Names → List ℕ → (at : ℕ) → HeadRead
 guardAt d w s at =
     withItem NoHead (betweenAt 0 lastGuard s at) (λ g n.
-    withHead NoHead (wholeAt d (w .variables) s n) (λ m e. cond (eqb g inputGuardKind) (takenAt w s m e) (Head m e)))
+    withHead NoHead (wholeAt altKind d (w .variables) s n) (λ m a. cond (eqb g inputGuardKind) (takenAt w s m a) (Head m a)))
 
 -- what stands before the statement of a part: nothing in SEQ and PAR, a condition in IF and WHILE, a guard in ALT
 unfoldable pub headAt : (kind depth : ℕ) → Names → List ℕ → (at : ℕ) → HeadRead
-headAt k d w s at = cond (ltb k ifKind) (Head at Nowhere) (cond (ltb k altKind) (wholeAt d (w .variables) s at) (guardAt d w s at))
+headAt k d w s at = cond (ltb k ifKind) (Head at 0) (cond (ltb k altKind) (wholeAt k d (w .variables) s at) (guardAt d w s at))
 
-abbrev pub behind : First → Part → Part
-behind d p = record { next = p .next; words = p .words; processes = p .processes; deep = firstOf d (p .deep); clash = p .clash }
+-- a statement behind a head that asks for so many words
+abbrev pub behind : (words : ℕ) → Part → Part
+behind a p = record { next = p .next; words = max a (p .words); processes = p .processes; clash = p .clash }
 
 abbrev pub nothing : ℕ → Sum
-nothing at = record { next = at; most = 0; sum = 0; live = 0; all = 0; deep = Nowhere; clash = Nowhere }
+nothing at = record { next = at; most = 0; sum = 0; live = 0; all = 0; clash = Nowhere }
 
 abbrev pub added : Sum → Part → Sum
 added t p =
@@ -93,13 +99,12 @@ added t p =
       sum = t .sum + p .words;
       live = max (t .live) (p .processes);
       all = t .all + p .processes;
-      deep = firstOf (t .deep) (p .deep);
       clash = firstOf (t .clash) (p .clash);
     }
 
 -- one part: its head, then its statement
 unfoldable pub partAt : (kind depth : ℕ) → Names → (ℕ → StmtRead) → List ℕ → (at : ℕ) → StmtRead
-partAt k d w inner s at = withHead NoStmt (headAt k d w s at) (λ n e. withStmt NoStmt (inner n) (λ p. Stmt (behind e p)))
+partAt k d w inner s at = withHead NoStmt (headAt k d w s at) (λ n a. withStmt NoStmt (inner n) (λ p. Stmt (behind a p)))
 
 -- so many parts, after some
 unfoldable pub mostFrom : (left kind depth : ℕ) → Names → (ℕ → StmtRead) → List ℕ → Sum → SumRead
@@ -114,7 +119,6 @@ gathered k (Total t) =
       next = t .next;
       words = max (cond (eqb k altKind) 4 2) (t .most);
       processes = max 1 (t .live);
-      deep = t .deep;
       clash = t .clash;
     })
 gathered k (NoSum j p) = NoStmt j p
@@ -139,7 +143,6 @@ parOf at t bad =
       next = t .next;
       words = 2 + t .sum;
       processes = max 1 (t .all);
-      deep = t .deep;
       clash = cond bad (At at) (t .clash);
     })
 
@@ -166,7 +169,7 @@ moreNames k n w =
 abbrev pub declaring : ℕ → StmtRead → StmtRead
 declaring n r =
     withStmt NoStmt r (λ p.
-    Stmt (record { next = p .next; words = n + p .words; processes = p .processes; deep = p .deep; clash = p .clash }))
+    Stmt (record { next = p .next; words = n + p .words; processes = p .processes; clash = p .clash }))
 
 -- what follows a kind from VAR on, with a reader of the statements inside, which have `depth` left
 abbrev pub insideAt : (place kind depth : ℕ) → Names → (Names → ℕ → StmtRead) → List ℕ → (at : ℕ) → StmtRead
@@ -178,7 +181,7 @@ insideAt place k d w inner s n =
     (gathered k (mostFrom c k d w (inner w) s (nothing m))))))
 
 unfoldable pub stmtAt : (depth : ℕ) → Names → List ℕ → (at : ℕ) → StmtRead
-stmtAt zero w s at = withItem NoStmt (deepAt s at) (λ v n. leaf n 2 Nowhere)
+stmtAt zero w s at = withItem NoStmt (deepAt s at) (λ v n. leaf n 2)
 stmtAt (suc d) w s at =
     withItem NoStmt (betweenAt 0 lastStatement s at) (λ k n.
     cond (ltb k varKind) (simpleAt k d w s n) (insideAt at k d w (λ v i. stmtAt d v s i) s n))

@@ -14,20 +14,19 @@ use Rattle.table.specs.declared.stmt.Part.{Part}
 use Rattle.model.specs.Limits.{tableLimit, depthLimit, channelLimit}
 use Rattle.model.specs.Accept.{limit}
 
--- a refusal at the place found, if one was; else what is tested next
-abbrev pub firstR : ℕ → First → Reading → Reading
-firstR k Nowhere r = r
-firstR k (At p) r = Refused k p
+-- 7 at the place found, if one was; else what is tested next
+abbrev pub clashOr : First → Reading → Reading
+clashOr Nowhere r = r
+clashOr (At p) r = Refused 7 p
 
--- the answer for a statement that was read: refusals 6 to 9, lowest first, then the facts
+-- the answer for a statement that was read: refusals 6, 7 and 9, lowest first, then the facts
 unfoldable pub finished : (ins outs len : ℕ) → Part → Reading
 finished ins outs len p =
     cond (ltb (p .next) len) (Refused 6 (p .next))
-    (firstR 7 (p .clash)
-    (firstR 8 (p .deep)
+    (clashOr (p .clash)
     (cond (leb (p .processes) limit)
     (Accepted (record { words = p .words + ins + outs; inputs = ins; outputs = outs; processes = p .processes }))
-    (Refused 9 0))))
+    (Refused 9 0)))
 
 -- the statement behind the channel counts, and nothing behind it
 unfoldable pub bodyAt : (ins outs : ℕ) → List ℕ → (at : ℕ) → Reading

@@ -1,14 +1,27 @@
 // Expressions.
 ghost use mathlib.Core.Path.{_≡_};
-ghost use Prim.Native.Nat.{_+_, _<_, _≤_};
-ghost use Rattle.table.specs.Exprs.{leafAt, exprAt, sidesAt, joined, Within};
-ghost use Rattle.table.specs.declared.expr.ExprRead.the-variants.{Expr, Refused as NoExpr};
+ghost use Prim.Native.Nat.{_<_, _≤_, max};
+ghost use Rattle.model.specs.Counts.{sidesNeed, orderOf, sidesHold};
+ghost use Rattle.table.specs.Exprs.{single, joined, leafAt, exprAt, sidesAt, Within};
+ghost use Rattle.table.specs.declared.expr.ExprRead.the-variants.{Refused as NoExpr};
 ghost use Rattle.numbers.specs.Items.{withItem};
 
-// The place after an expression and the registers that it needs; or a refusal's number and place.
+// What is counted of an expression: the place after it, the registers that it needs and the values that it stores (document 02, order 2).
+pub struct Term {
+    pub next: usize,
+    pub registers: u64,
+    pub stored: u64,
+}
+
 pub enum ExprRead {
-    Expr(usize, u64),
+    Expr(Term),
     Refused(u32, usize),
+}
+
+pub fn larger(a: u64, b: u64) -> u64
+    ensures { λ r. ⌜ r ≡ max a b ⌝ }
+{
+    if a < b { b } else { a }
 }
 
 // A constant or a variable.
@@ -23,20 +36,59 @@ fn read_leaf(table: &[u8], at: usize, kind: u64, variables: u64) -> ExprRead
 
 // A refusal for the whole expression.
 fn no_expr(item: numbers::Item) -> ExprRead
-    ensures { λ r. ⌜ r ≡ withItem NoExpr item (λ v n. Expr n 1) ⌝ }
+    ensures { λ r. ⌜ r ≡ withItem NoExpr item (λ v n. single n) ⌝ }
 {
     match item {
-        numbers::Item::Item(v, next) => ExprRead::Expr(next, 1),
+        numbers::Item::Item(v, next) => ExprRead::Expr(Term {
+            next: next,
+            registers: 1,
+            stored: 0,
+        }),
         numbers::Item::Refused(n, p) => ExprRead::Refused(n, p),
     }
 }
 
-// The larger of left and 1 + right.
-fn join(left: u64, right: u64) -> u64
-    requires { ⌜ right ≤ 32 ⌝ }
+// The registers of an operator, by what its sides need: one more where both need the same, but never over 3.
+fn join_registers(left: u64, right: u64) -> u64
+    requires { ⌜ (left ≤ 3) × (right ≤ 3) ⌝ }
+    ensures { λ r. ⌜ r ≡ sidesNeed left right ⌝ }
+{
+    if left < right {
+        return right;
+    }
+    if right < left {
+        return left;
+    }
+    if left < model::limits::REGISTERS {
+        left + 1
+    } else {
+        left
+    }
+}
+
+// The values that two sides hold together at most: where both need 3 registers, left holds the right value beside its own.
+fn join_stored(left: Term, right: Term) -> u64
+    requires { ⌜ left .stored ≤ 32 ⌝ }
+    ensures { λ r. ⌜ r ≡ sidesHold (orderOf (left .registers) (right .registers)) (left .stored) (right .stored) ⌝ }
+{
+    if left.registers == model::limits::REGISTERS && right.registers == model::limits::REGISTERS {
+        return larger(left.stored + 1, right.stored);
+    }
+    larger(left.stored, right.stored)
+}
+
+// An operator by its sides.
+fn join(left: Term, right: Term) -> ExprRead
+    requires { ⌜ (left .registers ≤ 3) × (right .registers ≤ 3) × (left .stored ≤ 32) ⌝ }
     ensures { λ r. ⌜ r ≡ joined left right ⌝ }
 {
-    if left < right + 1 { right + 1 } else { left }
+    let registers = join_registers(left.registers, right.registers);
+    let stored = join_stored(left, right);
+    ExprRead::Expr(Term {
+        next: right.next,
+        registers: registers,
+        stored: stored,
+    })
 }
 
 // Left and right of an operator.
@@ -46,8 +98,8 @@ fn read_sides(table: &[u8], at: usize, depth: u64, variables: u64) -> ExprRead
     ensures within { λ r. ⌜ Within r depth ⌝ }
 {
     match read_expr(table, at, depth - 1, variables) {
-        ExprRead::Expr(next, left) => match read_expr(table, next, depth - 1, variables) {
-            ExprRead::Expr(last, right) => ExprRead::Expr(last, join(left, right)),
+        ExprRead::Expr(left) => match read_expr(table, left.next, depth - 1, variables) {
+            ExprRead::Expr(right) => join(left, right),
             ExprRead::Refused(n, p) => ExprRead::Refused(n, p),
         },
         ExprRead::Refused(n, p) => ExprRead::Refused(n, p),

@@ -3,6 +3,8 @@ pub const ASSIGN: u64 = numbers::kinds::ASSIGN as u64;
 
 pub const INPUT: u64 = numbers::kinds::INPUT as u64;
 
+pub const OUTPUT: u64 = numbers::kinds::OUTPUT as u64;
+
 pub const VAR: u64 = numbers::kinds::VAR as u64;
 
 pub const SEQ: u64 = numbers::kinds::SEQ as u64;

@@ -1,13 +1,12 @@
 // Statements: what one reading counts.
 ghost use mathlib.Core.Path.{_≡_};
-ghost use Prim.Native.Nat.{_+_, _<_, _≤_, max};
+ghost use Prim.Native.Nat.{_+_, _<_, _≤_};
 ghost use lib.ListN.{length};
-ghost use Rattle.table.specs.Stmts.{firstOf, leaf, wholeAt, valueAt, takenAt, simpleAt, guardAt, headAt, behind, withStmt};
+ghost use Rattle.table.specs.Stmts.{firstOf, leaf, asked, wholeAt, valueAt, takenAt, simpleAt, guardAt, headAt, behind, withStmt};
 ghost use Rattle.table.specs.Stmts.{added, gathered, parOf, declaring, SmallWords, Fits};
 ghost use Rattle.table.specs.Stmts.{partIn, mostAt, parAt, declaredAt, partsAt, stmtAt};
 ghost use Rattle.table.specs.declared.stmt.StmtRead.the-variants.{Stmt, Refused as NoStmt};
 ghost use Rattle.table.specs.declared.stmt.SumRead.the-variants.{Sum as Total};
-ghost use Rattle.table.specs.declared.stmt.First.the-variants.{Nowhere};
 ghost use Rattle.numbers.specs.Items.{withItem};
 
 // How many names are in scope: variables, channels with the outside ones, outside inputs and outputs.
@@ -24,13 +23,11 @@ pub enum First {
     At(usize),
 }
 
-// What is counted of a statement: the place after it, words needed, live processes, the first expression over 3 registers and the
-// first PAR with a clash.
+// What is counted of a statement: the place after it, words needed, live processes and the first PAR with a clash.
 pub struct Part {
     pub next: usize,
     pub words: u64,
     pub processes: u64,
-    pub deep: First,
     pub clash: First,
 }
 
@@ -39,9 +36,9 @@ pub enum StmtRead {
     Refused(u32, usize),
 }
 
-// What stands before a part's statement: the place after it, and the first expression over 3 registers.
+// What stands before a part's statement: the place after it, and the words that it asks for.
 pub enum HeadRead {
-    Head(usize, First),
+    Head(usize, u64),
     Refused(u32, usize),
 }
 
@@ -52,7 +49,6 @@ pub struct Sum {
     pub sum: u64,
     pub live: u64,
     pub all: u64,
-    pub deep: First,
     pub clash: First,
 }
 
@@ -70,57 +66,65 @@ fn earlier(a: First, b: First) -> First
     }
 }
 
-fn larger(a: u64, b: u64) -> u64
-    ensures { λ r. ⌜ r ≡ max a b ⌝ }
-{
-    if a < b { b } else { a }
-}
-
 // A statement without statements inside.
-fn leaf_part(next: usize, words: u64, deep: First) -> StmtRead
-    ensures { λ r. ⌜ r ≡ leaf next words deep ⌝ }
+fn leaf_part(next: usize, words: u64) -> StmtRead
+    ensures { λ r. ⌜ r ≡ leaf next words ⌝ }
 {
     StmtRead::Stmt(Part {
         next: next,
         words: words,
         processes: 1,
-        deep: deep,
         clash: First::Nowhere,
     })
 }
 
-// An expression that stands in no other: over 3 registers its place is noted.
-fn read_whole(table: &[u8], at: usize, depth: u64, variables: u64) -> HeadRead
+// The words that a statement asks for, by the stored values of an expression in it (document 02, order 2).
+fn ask(kind: u64, stored: u64) -> u64
+    requires { ⌜ stored ≤ 32 ⌝ }
+    ensures { λ r. ⌜ r ≡ asked kind stored ⌝ }
+{
+    if kind == crate::kinds::OUTPUT {
+        return stored + 3;
+    }
+    if kind < crate::kinds::ALT {
+        return stored + 2;
+    }
+    if stored == 0 { 0 } else { stored + 8 }
+}
+
+// An expression of a statement that stands in no other.
+fn read_whole(table: &[u8], at: usize, kind: u64, depth: u64, variables: u64) -> HeadRead
     requires { ⌜ depth ≤ 32 ⌝ }
-    ensures { λ r. ⌜ r ≡ wholeAt depth variables (now (table .entry)) at ⌝ }
+    ensures { λ r. ⌜ r ≡ wholeAt kind depth variables (now (table .entry)) at ⌝ }
 {
     match crate::expr::read_expr(table, at, depth, variables) {
-        crate::expr::ExprRead::Expr(next, registers) => {
-            if registers <= model::limits::REGISTERS {
-                HeadRead::Head(next, First::Nowhere)
-            } else {
-                HeadRead::Head(next, First::At(at))
-            }
-        }
+        crate::expr::ExprRead::Expr(e) => HeadRead::Head(e.next, ask(kind, e.stored)),
         crate::expr::ExprRead::Refused(n, p) => HeadRead::Refused(n, p),
     }
 }
 
-// An expression as the end of a statement without statements inside.
-fn read_value(table: &[u8], at: usize, depth: u64, variables: u64, words: u64) -> StmtRead
+// An expression as the end of a statement without statements inside, which needs at least so many words.
+fn read_value(
+    table: &[u8],
+    at: usize,
+    kind: u64,
+    least: u64,
+    depth: u64,
+    variables: u64,
+) -> StmtRead
     requires { ⌜ depth ≤ 32 ⌝ }
-    ensures { λ r. ⌜ r ≡ valueAt words depth variables (now (table .entry)) at ⌝ }
+    ensures { λ r. ⌜ r ≡ valueAt kind least depth variables (now (table .entry)) at ⌝ }
 {
-    match read_whole(table, at, depth, variables) {
-        HeadRead::Head(next, deep) => leaf_part(next, words, deep),
+    match read_whole(table, at, kind, depth, variables) {
+        HeadRead::Head(next, words) => leaf_part(next, crate::expr::larger(least, words)),
         HeadRead::Refused(n, p) => StmtRead::Refused(n, p),
     }
 }
 
 // A channel to input from and a variable, behind what has been read.
-fn read_input(table: &[u8], at: usize, names: Names, deep: First) -> HeadRead
+fn read_input(table: &[u8], at: usize, names: Names, words: u64) -> HeadRead
     requires { ⌜ (names .inputs ≤ 8) × (names .outputs ≤ 8) ⌝ }
-    ensures { λ r. ⌜ r ≡ takenAt names (now (table .entry)) at deep ⌝ }
+    ensures { λ r. ⌜ r ≡ takenAt names (now (table .entry)) at words ⌝ }
 {
     match numbers::read_name(
         table,
@@ -136,7 +140,7 @@ fn read_input(table: &[u8], at: usize, names: Names, deep: First) -> HeadRead
             0,
             0,
         ) {
-            numbers::Item::Item(variable, last) => HeadRead::Head(last, deep),
+            numbers::Item::Item(variable, last) => HeadRead::Head(last, words),
             numbers::Item::Refused(n, p) => HeadRead::Refused(n, p),
         },
         numbers::Item::Refused(n, p) => HeadRead::Refused(n, p),
@@ -149,28 +153,36 @@ fn read_simple(table: &[u8], at: usize, kind: u64, depth: u64, names: Names) -> 
     ensures { λ r. ⌜ r ≡ simpleAt kind depth names (now (table .entry)) at ⌝ }
 {
     if kind < crate::kinds::ASSIGN {
-        return leaf_part(at, 2, First::Nowhere);
+        return leaf_part(at, 2);
     }
     if kind == crate::kinds::ASSIGN {
         return match numbers::read_name(table, at, names.variables, 0, 0) {
             numbers::Item::Item(variable, next) => read_value(
                 table,
                 next,
+                crate::kinds::ASSIGN,
+                2,
                 depth,
                 names.variables,
-                2,
             ),
             numbers::Item::Refused(n, p) => StmtRead::Refused(n, p),
         };
     }
     if kind == crate::kinds::INPUT {
-        return match read_input(table, at, names, First::Nowhere) {
-            HeadRead::Head(next, deep) => leaf_part(next, 3, deep),
+        return match read_input(table, at, names, 3) {
+            HeadRead::Head(next, words) => leaf_part(next, words),
             HeadRead::Refused(n, p) => StmtRead::Refused(n, p),
         };
     }
     match numbers::read_name(table, at, names.channels, 0, names.inputs) {
-        numbers::Item::Item(channel, next) => read_value(table, next, depth, names.variables, 4),
+        numbers::Item::Item(channel, next) => read_value(
+            table,
+            next,
+            crate::kinds::OUTPUT,
+            4,
+            depth,
+            names.variables,
+        ),
         numbers::Item::Refused(n, p) => StmtRead::Refused(n, p),
     }
 }
@@ -181,12 +193,18 @@ fn read_guard(table: &[u8], at: usize, depth: u64, names: Names) -> HeadRead
     ensures { λ r. ⌜ r ≡ guardAt depth names (now (table .entry)) at ⌝ }
 {
     match numbers::read_between(table, at, 0, crate::kinds::LAST_GUARD) {
-        numbers::Item::Item(kind, next) => match read_whole(table, next, depth, names.variables) {
-            HeadRead::Head(last, deep) => {
+        numbers::Item::Item(kind, next) => match read_whole(
+            table,
+            next,
+            crate::kinds::ALT,
+            depth,
+            names.variables,
+        ) {
+            HeadRead::Head(last, words) => {
                 if kind == crate::kinds::INPUT_GUARD {
-                    read_input(table, last, names, deep)
+                    read_input(table, last, names, words)
                 } else {
-                    HeadRead::Head(last, deep)
+                    HeadRead::Head(last, words)
                 }
             }
             HeadRead::Refused(n, p) => HeadRead::Refused(n, p),
@@ -201,20 +219,20 @@ fn read_head(table: &[u8], at: usize, kind: u64, depth: u64, names: Names) -> He
     ensures { λ r. ⌜ r ≡ headAt kind depth names (now (table .entry)) at ⌝ }
 {
     if kind < crate::kinds::IF {
-        return HeadRead::Head(at, First::Nowhere);
+        return HeadRead::Head(at, 0);
     }
     if kind < crate::kinds::ALT {
-        return read_whole(table, at, depth, names.variables);
+        return read_whole(table, at, kind, depth, names.variables);
     }
     read_guard(table, at, depth, names)
 }
 
 // A refusal for the whole statement.
 fn no_stmt(item: numbers::Item) -> StmtRead
-    ensures { λ r. ⌜ r ≡ withItem NoStmt item (λ v n. leaf n 2 Nowhere) ⌝ }
+    ensures { λ r. ⌜ r ≡ withItem NoStmt item (λ v n. leaf n 2) ⌝ }
 {
     match item {
-        numbers::Item::Item(v, next) => leaf_part(next, 2, First::Nowhere),
+        numbers::Item::Item(v, next) => leaf_part(next, 2),
         numbers::Item::Refused(n, p) => StmtRead::Refused(n, p),
     }
 }
@@ -224,11 +242,8 @@ fn add(sum: Sum, part: Part) -> Sum
     requires { ⌜ (sum .sum ≤ 32000000) × (sum .all ≤ 32000000) × (part .words ≤ 1000000) × (part .processes ≤ 1000000) ⌝ }
     ensures { λ r. ⌜ r ≡ added sum part ⌝ }
 {
-    let most = larger(sum.most, part.words);
-    let live = larger(sum.live, part.processes);
-    let deep_before = sum.deep;
-    let deep_here = part.deep;
-    let deep = earlier(deep_before, deep_here);
+    let most = crate::expr::larger(sum.most, part.words);
+    let live = crate::expr::larger(sum.live, part.processes);
     let clash_before = sum.clash;
     let clash_here = part.clash;
     let clash = earlier(clash_before, clash_here);
@@ -238,7 +253,6 @@ fn add(sum: Sum, part: Part) -> Sum
         sum: sum.sum + part.words,
         live: live,
         all: sum.all + part.processes,
-        deep: deep,
         clash: clash,
     }
 }
@@ -248,15 +262,13 @@ fn gather(kind: u64, sum: Sum) -> StmtRead
     ensures { λ r. ⌜ r ≡ gathered kind (Total sum) ⌝ }
 {
     let least = if kind == crate::kinds::ALT { 4 } else { 2 };
-    let words = larger(least, sum.most);
-    let processes = larger(1, sum.live);
-    let deep = sum.deep;
+    let words = crate::expr::larger(least, sum.most);
+    let processes = crate::expr::larger(1, sum.live);
     let clash = sum.clash;
     StmtRead::Stmt(Part {
         next: sum.next,
         words: words,
         processes: processes,
-        deep: deep,
         clash: clash,
     })
 }
@@ -270,31 +282,27 @@ fn close_par(place: usize, sum: Sum, bad: bool) -> StmtRead
     if bad {
         clash = First::At(place);
     }
-    let processes = larger(1, sum.all);
-    let deep = sum.deep;
+    let processes = crate::expr::larger(1, sum.all);
     StmtRead::Stmt(Part {
         next: sum.next,
         words: 2 + sum.sum,
         processes: processes,
-        deep: deep,
         clash: clash,
     })
 }
 
 // A statement behind a head.
-fn behind_head(deep: First, read: StmtRead) -> StmtRead
-    ensures { λ r. ⌜ r ≡ withStmt NoStmt read (λ p. Stmt (behind deep p)) ⌝ }
+fn behind_head(asked: u64, read: StmtRead) -> StmtRead
+    ensures { λ r. ⌜ r ≡ withStmt NoStmt read (λ p. Stmt (behind asked p)) ⌝ }
 {
     match read {
         StmtRead::Stmt(p) => {
-            let inner = p.deep;
-            let first = earlier(deep, inner);
+            let words = crate::expr::larger(asked, p.words);
             let clash = p.clash;
             StmtRead::Stmt(Part {
                 next: p.next,
-                words: p.words,
+                words: words,
                 processes: p.processes,
-                deep: first,
                 clash: clash,
             })
         }
@@ -309,13 +317,11 @@ fn in_scope(count: u64, read: StmtRead) -> StmtRead
 {
     match read {
         StmtRead::Stmt(p) => {
-            let deep = p.deep;
             let clash = p.clash;
             StmtRead::Stmt(Part {
                 next: p.next,
                 words: count + p.words,
                 processes: p.processes,
-                deep: deep,
                 clash: clash,
             })
         }
@@ -329,7 +335,7 @@ fn read_part(table: &[u8], at: usize, kind: u64, depth: u64, names: Names) -> St
     ensures { λ r. ⌜ r ≡ partIn kind depth names (now (table .entry)) at ⌝ }
 {
     match read_head(table, at, kind, depth, names) {
-        HeadRead::Head(next, deep) => behind_head(deep, read_stmt(table, next, depth, names)),
+        HeadRead::Head(next, words) => behind_head(words, read_stmt(table, next, depth, names)),
         HeadRead::Refused(n, p) => StmtRead::Refused(n, p),
     }
 }
@@ -345,7 +351,6 @@ fn read_most(table: &[u8], at: usize, kind: u64, count: u64, depth: u64, names: 
         sum: 0,
         live: 0,
         all: 0,
-        deep: First::Nowhere,
         clash: First::Nowhere,
     };
     let mut i: u64 = 0;
@@ -375,7 +380,6 @@ fn read_par(table: &[u8], place: usize, at: usize, count: u64, depth: u64, names
         sum: 0,
         live: 0,
         all: 0,
-        deep: First::Nowhere,
         clash: First::Nowhere,
     };
     let mut before: [u8; 4096] = [0; 4096];

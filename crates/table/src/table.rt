@@ -4,7 +4,7 @@ ghost use Prim.Native.Nat.{_≤_};
 ghost use lib.ListN.{length};
 ghost use Rattle.table.specs.Tables.{finished, bodyAt, tableAt};
 
-// The answer for a statement that was read: refusals 6 to 9, lowest first, then the facts.
+// The answer for a statement that was read: refusals 6, 7 and 9, lowest first, then the facts.
 fn finish(ins: u64, outs: u64, length: usize, part: crate::stmt::Part) -> model::Reading
     requires { ⌜ (ins ≤ 8) × (outs ≤ 8) × (part .words ≤ 655360) ⌝ }
     ensures { λ r. ⌜ r ≡ finished ins outs length part ⌝ }
@@ -13,24 +13,20 @@ fn finish(ins: u64, outs: u64, length: usize, part: crate::stmt::Part) -> model:
         return model::Reading::Refused(6, part.next);
     }
     let clash = part.clash;
-    let deep = part.deep;
     match clash {
         crate::stmt::First::At(p) => model::Reading::Refused(7, p),
-        crate::stmt::First::Nowhere => match deep {
-            crate::stmt::First::At(p) => model::Reading::Refused(8, p),
-            crate::stmt::First::Nowhere => {
-                if part.processes <= model::limits::PROCESSES {
-                    model::Reading::Accepted(model::Facts {
-                        words: (part.words + ins + outs) as u32,
-                        inputs: ins as u32,
-                        outputs: outs as u32,
-                        processes: part.processes as u32,
-                    })
-                } else {
-                    model::Reading::Refused(9, 0)
-                }
+        crate::stmt::First::Nowhere => {
+            if part.processes <= model::limits::PROCESSES {
+                model::Reading::Accepted(model::Facts {
+                    words: (part.words + ins + outs) as u32,
+                    inputs: ins as u32,
+                    outputs: outs as u32,
+                    processes: part.processes as u32,
+                })
+            } else {
+                model::Reading::Refused(9, 0)
             }
-        },
+        }
     }
 }
 

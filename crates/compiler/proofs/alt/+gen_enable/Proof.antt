@@ -24,34 +24,34 @@ use Rattle.emitter.specs.Emits.{Code, at, operationInto}
 use Rattle.emitter.specs.Extents.{extentAt}
 use Rattle.compiler.specs.Alts.{Guarded, guardInto, behindGuard, Enabling, enabling, enableInto}
 
-none : (n d w : ℕ) (vs cs s : List ℕ) (i k : ℕ) (c : Code) → n ≡ 0
-    → enableInto n d w vs cs s i k c ≡ enabling (record { next = i; here = c .here; disabling = k }) (c .out)
+none : (n d w : ℕ) (vs cs plan s : List ℕ) (i k : ℕ) (c : Code) → n ≡ 0
+    → enableInto n d w vs cs plan s i k c ≡ enabling (record { next = i; here = c .here; disabling = k }) (c .out)
 unfolding enableInto
-none n d w vs cs s i k c e = rw e
+none n d w vs cs plan s i k c e = rw e
 
 -- what follows a guard, and `enableInto` unrolled once where one is left
-abbrev behindOne : (n d w : ℕ) → (vs cs s : List ℕ) → (k here : ℕ) → Guarded → Enabling
-behindOne n d w vs cs s k h g =
-    enableInto (n - 1) d w vs cs s (extentAt d s (behindGuard s (g .guard)) .next)
+abbrev behindOne : (n d w : ℕ) → (vs cs plan s : List ℕ) → (k here : ℕ) → Guarded → Enabling
+behindOne n d w vs cs plan s k h g =
+    enableInto (n - 1) d w vs cs plan s (extentAt d plan s (behindGuard s (g .guard)) .next)
     (low (k + low (less (g .guard .here) h + 6)))
     (operationInto (cond (g .guard .waits) 72 73) (at (g .guard .here) (g .out)))
 
-turn : (n d w : ℕ) (vs cs s : List ℕ) (i k : ℕ) (c : Code) → (n ≡ 0 → ⊥)
-    → enableInto n d w vs cs s i k c ≡ behindOne n d w vs cs s k (c .here) (guardInto d w vs cs s i c)
+turn : (n d w : ℕ) (vs cs plan s : List ℕ) (i k : ℕ) (c : Code) → (n ≡ 0 → ⊥)
+    → enableInto n d w vs cs plan s i k c ≡ behindOne n d w vs cs plan s k (c .here) (guardInto d w vs cs plan s i c)
 unfolding enableInto
-turn zero d w vs cs s i k c p = absurd (p refl)
-turn (suc n) d w vs cs s i k c p = let e : suc n - 1 ≡ n = omega arith in rw e
+turn zero d w vs cs plan s i k c p = absurd (p refl)
+turn (suc n) d w vs cs plan s i k c p = let e : suc n - 1 ≡ n = omega arith in rw e
 
-abbrev μ-gen-enable : Measures 4 gen-enable-kinds.ps ℕ
-μ-gen-enable κs a = a .1 .1 .0
+abbrev μ-gen-enable : Measures 5 gen-enable-kinds.ps ℕ
+μ-gen-enable κs a = a .1 .1 .1 .0
 
-abbrev gen-enable-at : ℕ → In 4 gen-enable-kinds.ps
+abbrev gen-enable-at : ℕ → In 5 gen-enable-kinds.ps
 gen-enable-at t =
-    and 4 gen-enable-kinds.ps (is 4 gen-enable-kinds.ps μ-gen-enable t) gen-enable.Pre
+    and 5 gen-enable-kinds.ps (is 5 gen-enable-kinds.ps μ-gen-enable t) gen-enable.Pre
 
-abbrev gen-enable-below : ℕ → In 4 gen-enable-kinds.ps
+abbrev gen-enable-below : ℕ → In 5 gen-enable-kinds.ps
 gen-enable-below t =
-    and 4 gen-enable-kinds.ps (falls 4 gen-enable-kinds.ps _<_ μ-gen-enable t) gen-enable.Pre
+    and 5 gen-enable-kinds.ps (falls 5 gen-enable-kinds.ps _<_ μ-gen-enable t) gen-enable.Pre
 
 abbrev gen-enable-claims : ℕ → gen-enable-lts.Claims
 gen-enable-claims t = (
@@ -74,7 +74,7 @@ gen-enable-claims t = (
 )
 
 gen-enable-returns : (t : ℕ) → gen-enable-lts.Need-returns (gen-enable-claims t) (gen-enable-at t) gen-enable.Post
-gen-enable-returns t c = sym (none _ _ _ _ _ _ _ _ _ (c .if1 .taken))
+gen-enable-returns t c = sym (none _ _ _ _ _ _ _ _ _ _ (c .if1 .taken))
 
 gen-enable-gen-enable-requires : (t : ℕ)
     → gen-enable-lts.Need-gen-enable-requires (gen-enable-claims t) (gen-enable-at t) gen-enable.Post
@@ -94,7 +94,7 @@ gen-enable-returns-2 t c =
     let g = e .before .before .before in
     let i = g .before .before in
     rw (
-      turn _ _ _ _ _ _ _ _ _ (i .if1 .left),
+      turn _ _ _ _ _ _ _ _ _ _ (i .if1 .left),
       ← g .gen-guard .ensures,
       ← e .either .ensures,
       ← o .operation .ensures,

@@ -14,7 +14,7 @@ returns c =
     let e = v .before .before .before .before in
     rw (
       ← e .before .before .before .value-at .ensures,
-      ← e .before .gen-expr .ensures,
+      ← e .before .gen-whole .ensures,
       eq-eqb _ _ (v .before .if1 .taken),
       ← v .value-at2 .ensures,
       ← p .before .before .local .ensures,
@@ -28,7 +28,7 @@ returns-2 c =
     let e = c .before .before .before .before in
     rw (
       ← e .before .before .value-at .ensures,
-      ← e .gen-expr .ensures,
+      ← e .gen-whole .ensures,
       ne-eqb _ _ (c .if1 .left),
     )
 

@@ -56,7 +56,7 @@ use Rattle.emitter.proofs.distance.Reads as distance-reads
 use Rattle.emitter.proofs.minus.Reads as minus-reads
 use Rattle.emitter.proofs.operation.Reads as operation-reads
 use Rattle.emitter.proofs.plain.Reads as plain-reads
-use Rattle.emitter.proofs.gen_expr.Reads as gen-expr-reads
+use Rattle.emitter.proofs.gen_whole.Reads as gen-whole-reads
 use Rattle.emitter.proofs.measure.Reads as measure-reads
 use Rattle.emitter.proofs.gen_input.Reads as gen-input-reads
 use Rattle.emitter.proofs.gen_simple.Reads as gen-simple-reads
@@ -74,128 +74,128 @@ use Rattle.compiler.proofs.Turns.{choice-skips, choices-none, choices-m
 use Rattle.compiler.proofs.Turns.{inside-seq, inside-par, inside-if, inside-alt, if-none, if-more, par-none, par-more, while-is}
 use Rattle.compiler.proofs.Turns.{seq-none, seq-more, stmt-none, stmt-simple, stmt-inside}
 
-abbrev μ-alt : Measures 4 alt-kinds.ps ℕ
-μ-alt κs a = 8589934592 * a .1 .1 .1 .0 + 8589934590
+abbrev μ-alt : Measures 5 alt-kinds.ps ℕ
+μ-alt κs a = 8589934592 * a .1 .1 .1 .1 .0 + 8589934590
 
-abbrev μ-body : Measures 4 body-kinds.ps ℕ
-μ-body κs a = 8589934592 * a .1 .1 .1 .1 .0 + 1
+abbrev μ-body : Measures 5 body-kinds.ps ℕ
+μ-body κs a = 8589934592 * a .1 .1 .1 .1 .1 .0 + 1
 
-abbrev μ-branch : Measures 4 branch-kinds.ps ℕ
-μ-branch κs a = 8589934592 * a .1 .1 .1 .0 + 1
+abbrev μ-branch : Measures 5 branch-kinds.ps ℕ
+μ-branch κs a = 8589934592 * a .1 .1 .1 .1 .0 + 1
 
-abbrev μ-branches : Measures 4 branches-kinds.ps ℕ
-μ-branches κs a = 8589934592 * a .1 .1 .1 .0 + 2 + a .1 .1 .0
+abbrev μ-branches : Measures 5 branches-kinds.ps ℕ
+μ-branches κs a = 8589934592 * a .1 .1 .1 .1 .0 + 2 + a .1 .1 .1 .0
 
-abbrev μ-choice : Measures 4 choice-kinds.ps ℕ
-μ-choice κs a = 8589934592 * a .1 .1 .0 + 1
+abbrev μ-choice : Measures 5 choice-kinds.ps ℕ
+μ-choice κs a = 8589934592 * a .1 .1 .1 .0 + 1
 
-abbrev μ-choices : Measures 4 choices-kinds.ps ℕ
-μ-choices κs a = 8589934592 * a .1 .1 .1 .0 + 2 + a .1 .1 .0
+abbrev μ-choices : Measures 5 choices-kinds.ps ℕ
+μ-choices κs a = 8589934592 * a .1 .1 .1 .1 .0 + 2 + a .1 .1 .1 .0
 
-abbrev μ-declaration : Measures 4 declaration-kinds.ps ℕ
-μ-declaration κs a = 8589934592 * a .1 .1 .1 .0 + 8589934590
+abbrev μ-declaration : Measures 5 declaration-kinds.ps ℕ
+μ-declaration κs a = 8589934592 * a .1 .1 .1 .1 .0 + 8589934590
 
-abbrev μ-inside : Measures 4 inside-kinds.ps ℕ
-μ-inside κs a = 8589934592 * a .1 .1 .1 .0 + 8589934591
+abbrev μ-inside : Measures 5 inside-kinds.ps ℕ
+μ-inside κs a = 8589934592 * a .1 .1 .1 .1 .0 + 8589934591
 
-abbrev μ-pairs : Measures 4 pairs-kinds.ps ℕ
-μ-pairs κs a = 8589934592 * a .1 .1 .1 .0 + 2 + a .1 .1 .0
+abbrev μ-pairs : Measures 5 pairs-kinds.ps ℕ
+μ-pairs κs a = 8589934592 * a .1 .1 .1 .1 .0 + 2 + a .1 .1 .1 .0
 
-abbrev μ-par : Measures 4 par-kinds.ps ℕ
-μ-par κs a = 8589934592 * a .1 .1 .1 .0 + 8589934590
+abbrev μ-par : Measures 5 par-kinds.ps ℕ
+μ-par κs a = 8589934592 * a .1 .1 .1 .1 .0 + 8589934590
 
-abbrev μ-repetition : Measures 4 repetition-kinds.ps ℕ
-μ-repetition κs a = 8589934592 * a .1 .1 .0 + 8589934590
+abbrev μ-repetition : Measures 5 repetition-kinds.ps ℕ
+μ-repetition κs a = 8589934592 * a .1 .1 .1 .0 + 8589934590
 
-abbrev μ-seq : Measures 4 seq-kinds.ps ℕ
-μ-seq κs a = 8589934592 * a .1 .1 .1 .0 + 2 + a .1 .1 .0
+abbrev μ-seq : Measures 5 seq-kinds.ps ℕ
+μ-seq κs a = 8589934592 * a .1 .1 .1 .1 .0 + 2 + a .1 .1 .1 .0
 
-abbrev μ-statement : Measures 4 statement-kinds.ps ℕ
-μ-statement κs a = 8589934592 * a .1 .1 .0
+abbrev μ-statement : Measures 5 statement-kinds.ps ℕ
+μ-statement κs a = 8589934592 * a .1 .1 .1 .0
 
-abbrev alt-at : ℕ → In 4 alt-kinds.ps
-alt-at t = and 4 alt-kinds.ps (is 4 alt-kinds.ps μ-alt t) alt.Pre
+abbrev alt-at : ℕ → In 5 alt-kinds.ps
+alt-at t = and 5 alt-kinds.ps (is 5 alt-kinds.ps μ-alt t) alt.Pre
 
-abbrev alt-below : ℕ → In 4 alt-kinds.ps
-alt-below t = and 4 alt-kinds.ps (falls 4 alt-kinds.ps _<_ μ-alt t) alt.Pre
+abbrev alt-below : ℕ → In 5 alt-kinds.ps
+alt-below t = and 5 alt-kinds.ps (falls 5 alt-kinds.ps _<_ μ-alt t) alt.Pre
 
-abbrev body-at : ℕ → In 4 body-kinds.ps
-body-at t = and 4 body-kinds.ps (is 4 body-kinds.ps μ-body t) body.Pre
+abbrev body-at : ℕ → In 5 body-kinds.ps
+body-at t = and 5 body-kinds.ps (is 5 body-kinds.ps μ-body t) body.Pre
 
-abbrev body-below : ℕ → In 4 body-kinds.ps
-body-below t = and 4 body-kinds.ps (falls 4 body-kinds.ps _<_ μ-body t) body.Pre
+abbrev body-below : ℕ → In 5 body-kinds.ps
+body-below t = and 5 body-kinds.ps (falls 5 body-kinds.ps _<_ μ-body t) body.Pre
 
-abbrev branch-at : ℕ → In 4 branch-kinds.ps
-branch-at t = and 4 branch-kinds.ps (is 4 branch-kinds.ps μ-branch t) branch.Pre
+abbrev branch-at : ℕ → In 5 branch-kinds.ps
+branch-at t = and 5 branch-kinds.ps (is 5 branch-kinds.ps μ-branch t) branch.Pre
 
-abbrev branch-below : ℕ → In 4 branch-kinds.ps
-branch-below t = and 4 branch-kinds.ps (falls 4 branch-kinds.ps _<_ μ-branch t) branch.Pre
+abbrev branch-below : ℕ → In 5 branch-kinds.ps
+branch-below t = and 5 branch-kinds.ps (falls 5 branch-kinds.ps _<_ μ-branch t) branch.Pre
 
-abbrev branches-at : ℕ → In 4 branches-kinds.ps
-branches-at t = and 4 branches-kinds.ps (is 4 branches-kinds.ps μ-branches t) branches.Pre
+abbrev branches-at : ℕ → In 5 branches-kinds.ps
+branches-at t = and 5 branches-kinds.ps (is 5 branches-kinds.ps μ-branches t) branches.Pre
 
-abbrev branches-below : ℕ → In 4 branches-kinds.ps
+abbrev branches-below : ℕ → In 5 branches-kinds.ps
 branches-below t =
-    and 4 branches-kinds.ps (falls 4 branches-kinds.ps _<_ μ-branches t) branches.Pre
+    and 5 branches-kinds.ps (falls 5 branches-kinds.ps _<_ μ-branches t) branches.Pre
 
-abbrev choice-at : ℕ → In 4 choice-kinds.ps
-choice-at t = and 4 choice-kinds.ps (is 4 choice-kinds.ps μ-choice t) choice.Pre
+abbrev choice-at : ℕ → In 5 choice-kinds.ps
+choice-at t = and 5 choice-kinds.ps (is 5 choice-kinds.ps μ-choice t) choice.Pre
 
-abbrev choice-below : ℕ → In 4 choice-kinds.ps
-choice-below t = and 4 choice-kinds.ps (falls 4 choice-kinds.ps _<_ μ-choice t) choice.Pre
+abbrev choice-below : ℕ → In 5 choice-kinds.ps
+choice-below t = and 5 choice-kinds.ps (falls 5 choice-kinds.ps _<_ μ-choice t) choice.Pre
 
-abbrev choices-at : ℕ → In 4 choices-kinds.ps
-choices-at t = and 4 choices-kinds.ps (is 4 choices-kinds.ps μ-choices t) choices.Pre
+abbrev choices-at : ℕ → In 5 choices-kinds.ps
+choices-at t = and 5 choices-kinds.ps (is 5 choices-kinds.ps μ-choices t) choices.Pre
 
-abbrev choices-below : ℕ → In 4 choices-kinds.ps
-choices-below t = and 4 choices-kinds.ps (falls 4 choices-kinds.ps _<_ μ-choices t) choices.Pre
+abbrev choices-below : ℕ → In 5 choices-kinds.ps
+choices-below t = and 5 choices-kinds.ps (falls 5 choices-kinds.ps _<_ μ-choices t) choices.Pre
 
-abbrev declaration-at : ℕ → In 4 declaration-kinds.ps
+abbrev declaration-at : ℕ → In 5 declaration-kinds.ps
 declaration-at t =
-    and 4 declaration-kinds.ps (is 4 declaration-kinds.ps μ-declaration t) declaration.Pre
+    and 5 declaration-kinds.ps (is 5 declaration-kinds.ps μ-declaration t) declaration.Pre
 
-abbrev declaration-below : ℕ → In 4 declaration-kinds.ps
+abbrev declaration-below : ℕ → In 5 declaration-kinds.ps
 declaration-below t =
-    and 4 declaration-kinds.ps (falls 4 declaration-kinds.ps _<_ μ-declaration t) declaration.Pre
+    and 5 declaration-kinds.ps (falls 5 declaration-kinds.ps _<_ μ-declaration t) declaration.Pre
 
-abbrev inside-at : ℕ → In 4 inside-kinds.ps
-inside-at t = and 4 inside-kinds.ps (is 4 inside-kinds.ps μ-inside t) inside.Pre
+abbrev inside-at : ℕ → In 5 inside-kinds.ps
+inside-at t = and 5 inside-kinds.ps (is 5 inside-kinds.ps μ-inside t) inside.Pre
 
-abbrev inside-below : ℕ → In 4 inside-kinds.ps
-inside-below t = and 4 inside-kinds.ps (falls 4 inside-kinds.ps _<_ μ-inside t) inside.Pre
+abbrev inside-below : ℕ → In 5 inside-kinds.ps
+inside-below t = and 5 inside-kinds.ps (falls 5 inside-kinds.ps _<_ μ-inside t) inside.Pre
 
-abbrev pairs-at : ℕ → In 4 pairs-kinds.ps
-pairs-at t = and 4 pairs-kinds.ps (is 4 pairs-kinds.ps μ-pairs t) pairs.Pre
+abbrev pairs-at : ℕ → In 5 pairs-kinds.ps
+pairs-at t = and 5 pairs-kinds.ps (is 5 pairs-kinds.ps μ-pairs t) pairs.Pre
 
-abbrev pairs-below : ℕ → In 4 pairs-kinds.ps
-pairs-below t = and 4 pairs-kinds.ps (falls 4 pairs-kinds.ps _<_ μ-pairs t) pairs.Pre
+abbrev pairs-below : ℕ → In 5 pairs-kinds.ps
+pairs-below t = and 5 pairs-kinds.ps (falls 5 pairs-kinds.ps _<_ μ-pairs t) pairs.Pre
 
-abbrev par-at : ℕ → In 4 par-kinds.ps
-par-at t = and 4 par-kinds.ps (is 4 par-kinds.ps μ-par t) par.Pre
+abbrev par-at : ℕ → In 5 par-kinds.ps
+par-at t = and 5 par-kinds.ps (is 5 par-kinds.ps μ-par t) par.Pre
 
-abbrev par-below : ℕ → In 4 par-kinds.ps
-par-below t = and 4 par-kinds.ps (falls 4 par-kinds.ps _<_ μ-par t) par.Pre
+abbrev par-below : ℕ → In 5 par-kinds.ps
+par-below t = and 5 par-kinds.ps (falls 5 par-kinds.ps _<_ μ-par t) par.Pre
 
-abbrev repetition-at : ℕ → In 4 repetition-kinds.ps
+abbrev repetition-at : ℕ → In 5 repetition-kinds.ps
 repetition-at t =
-    and 4 repetition-kinds.ps (is 4 repetition-kinds.ps μ-repetition t) repetition.Pre
+    and 5 repetition-kinds.ps (is 5 repetition-kinds.ps μ-repetition t) repetition.Pre
 
-abbrev repetition-below : ℕ → In 4 repetition-kinds.ps
+abbrev repetition-below : ℕ → In 5 repetition-kinds.ps
 repetition-below t =
-    and 4 repetition-kinds.ps (falls 4 repetition-kinds.ps _<_ μ-repetition t) repetition.Pre
+    and 5 repetition-kinds.ps (falls 5 repetition-kinds.ps _<_ μ-repetition t) repetition.Pre
 
-abbrev seq-at : ℕ → In 4 seq-kinds.ps
-seq-at t = and 4 seq-kinds.ps (is 4 seq-kinds.ps μ-seq t) seq.Pre
+abbrev seq-at : ℕ → In 5 seq-kinds.ps
+seq-at t = and 5 seq-kinds.ps (is 5 seq-kinds.ps μ-seq t) seq.Pre
 
-abbrev seq-below : ℕ → In 4 seq-kinds.ps
-seq-below t = and 4 seq-kinds.ps (falls 4 seq-kinds.ps _<_ μ-seq t) seq.Pre
+abbrev seq-below : ℕ → In 5 seq-kinds.ps
+seq-below t = and 5 seq-kinds.ps (falls 5 seq-kinds.ps _<_ μ-seq t) seq.Pre
 
-abbrev statement-at : ℕ → In 4 statement-kinds.ps
-statement-at t = and 4 statement-kinds.ps (is 4 statement-kinds.ps μ-statement t) statement′.Pre
+abbrev statement-at : ℕ → In 5 statement-kinds.ps
+statement-at t = and 5 statement-kinds.ps (is 5 statement-kinds.ps μ-statement t) statement′.Pre
 
-abbrev statement-below : ℕ → In 4 statement-kinds.ps
+abbrev statement-below : ℕ → In 5 statement-kinds.ps
 statement-below t =
-    and 4 statement-kinds.ps (falls 4 statement-kinds.ps _<_ μ-statement t) statement′.Pre
+    and 5 statement-kinds.ps (falls 5 statement-kinds.ps _<_ μ-statement t) statement′.Pre
 
 abbrev alt-claims : ℕ → alt-lts.Claims
 alt-claims t = (
@@ -317,8 +317,8 @@ abbrev pairs-claims : ℕ → pairs-lts.Claims
 pairs-claims t = (
   operation-reads.Asked,
   operation-reads.Learnt,
-  gen-expr-reads.Asked,
-  gen-expr-reads.Learnt,
+  gen-whole-reads.Asked,
+  gen-whole-reads.Learnt,
   plus-reads.Asked,
   plus-reads.Learnt,
   statement-below t,
@@ -357,8 +357,8 @@ par-claims t = (
 
 abbrev repetition-claims : ℕ → repetition-lts.Claims
 repetition-claims t = (
-  gen-expr-reads.Asked,
-  gen-expr-reads.Learnt,
+  gen-whole-reads.Asked,
+  gen-whole-reads.Learnt,
   plus-reads.Asked,
   plus-reads.Learnt,
   statement-below t,
@@ -394,8 +394,8 @@ alt-same-length t c =
     let e = l .before .before .before .before in
     let b = e .before .before .before .before .before in
     let a = b .before .before .before .before in
-    r .choices .kept .1 .1 .1 .1 .1 .1 .1 .0 ∙ z .operation3 .kept .0 ∙ l .operation2 .kept .0
-    ∙ e .gen-enable .kept .1 .1 .1 .1 .1 .1 .1 .0 ∙ b .operation .kept .0 ∙ a .plain .kept .0
+    r .choices .kept .1 .1 .1 .1 .1 .1 .1 .1 .0 ∙ z .operation3 .kept .0 ∙ l .operation2 .kept .0
+    ∙ e .gen-enable .kept .1 .1 .1 .1 .1 .1 .1 .1 .0 ∙ b .operation .kept .0 ∙ a .plain .kept .0
 
 alt-returns : (t : ℕ) → alt-lts.Need-returns (alt-claims t) (alt-at t) alt.Post
 alt-returns t c =
@@ -408,7 +408,7 @@ alt-returns t c =
     let b = w .before .before .before in
     let a = b .before .before .before .before in
     let m = a .before in
-    alt-is _ _ _ _ _ _ _ _ (m .minus .ensures) (a .plain .ensures) (b .operation .ensures) (w .below .ensures)
+    alt-is _ _ _ _ _ _ _ _ _ (m .minus .ensures) (a .plain .ensures) (b .operation .ensures) (w .below .ensures)
     (e .gen-enable .ensures) (l .operation2 .ensures) (o .plus .ensures) (z .operation3 .ensures) (r .choices .ensures)
 
 body-returns : (t : ℕ) → body-lts.Need-returns (body-claims t) (body-at t) body.Post
@@ -418,7 +418,7 @@ body-returns t c =
     let n = v .before in
     let i = n .before in
     let w = i .before in
-    body-variables _ _ _ _ _ _ _ _ _ (w .below .ensures) (i .if1 .taken) (n .declared .ensures) (v .plus .ensures)
+    body-variables _ _ _ _ _ _ _ _ _ _ (w .below .ensures) (i .if1 .taken) (n .declared .ensures) (v .plus .ensures)
     (r .statement .ensures)
 
 body-returns-2 : (t : ℕ) → body-lts.Need-returns-2 (body-claims t) (body-at t) body.Post
@@ -428,7 +428,7 @@ body-returns-2 t c =
     let n = v .before in
     let i = n .before in
     let w = i .before in
-    body-channels _ _ _ _ _ _ _ _ _ (w .below .ensures) (i .if1 .left) (n .declared2 .ensures) (v .plus2 .ensures)
+    body-channels _ _ _ _ _ _ _ _ _ _ (w .below .ensures) (i .if1 .left) (n .declared2 .ensures) (v .plus2 .ensures)
     (r .statement2 .ensures)
 
 branch-returns : (t : ℕ) → branch-lts.Need-returns (branch-claims t) (branch-at t) branch.Post
@@ -437,10 +437,10 @@ branch-returns t c =
     let l = e .before .before .before .before in
     let r = l .before .before .before .before in
     let w = r .before .before in
-    branch-is _ _ _ _ _ _ _ _ (w .below .ensures) (r .statement .ensures) (l .plain .ensures) (e .operation .ensures)
+    branch-is _ _ _ _ _ _ _ _ _ (w .below .ensures) (r .statement .ensures) (l .plain .ensures) (e .operation .ensures)
 
 branches-returns : (t : ℕ) → branches-lts.Need-returns (branches-claims t) (branches-at t) branches.Post
-branches-returns t c = branches-none _ _ _ _ _ _ _ _ _ _ (c .if1 .taken)
+branches-returns t c = branches-none _ _ _ _ _ _ _ _ _ _ _ (c .if1 .taken)
 
 branches-returns-2 : (t : ℕ) → branches-lts.Need-returns-2 (branches-claims t) (branches-at t) branches.Post
 branches-returns-2 t c =
@@ -450,7 +450,7 @@ branches-returns-2 t c =
     let b = m .before .before .before in
     let s = b .before .before .before .before in
     let i = s .before .before in
-    branches-more _ _ _ _ _ _ _ _ _ _ (i .if1 .left) (s .put-start .ensures) (b .branch .ensures) (m .measure .ensures)
+    branches-more _ _ _ _ _ _ _ _ _ _ _ (i .if1 .left) (s .put-start .ensures) (b .branch .ensures) (m .measure .ensures)
     (l .plus .ensures) (r .branches .ensures)
 
 choice-returns : (t : ℕ) → choice-lts.Need-returns (choice-claims t) (choice-at t) choice.Post
@@ -459,17 +459,17 @@ choice-returns t c =
     let g = r .before .before .before .before in
     let i = g .before .before in
     let a = i .before .before .before in
-    choice-waits _ _ _ _ _ _ _ (a .plain .ensures) (i .if1 .taken) (g .gen-input .ensures) (r .statement .ensures)
+    choice-waits _ _ _ _ _ _ _ _ (a .plain .ensures) (i .if1 .taken) (g .gen-input .ensures) (r .statement .ensures)
 
 choice-returns-2 : (t : ℕ) → choice-lts.Need-returns-2 (choice-claims t) (choice-at t) choice.Post
 choice-returns-2 t c =
     let r = c .before .before in
     let i = r .before .before in
     let a = i .before .before .before in
-    choice-skips _ _ _ _ _ _ _ (a .plain .ensures) (i .if1 .left) (r .statement2 .ensures)
+    choice-skips _ _ _ _ _ _ _ _ (a .plain .ensures) (i .if1 .left) (r .statement2 .ensures)
 
 choices-returns : (t : ℕ) → choices-lts.Need-returns (choices-claims t) (choices-at t) choices.Post
-choices-returns t c = choices-none _ _ _ _ _ _ _ _ _ _ (c .if1 .taken)
+choices-returns t c = choices-none _ _ _ _ _ _ _ _ _ _ _ (c .if1 .taken)
 
 choices-returns-2 : (t : ℕ) → choices-lts.Need-returns-2 (choices-claims t) (choices-at t) choices.Post
 choices-returns-2 t c =
@@ -481,7 +481,7 @@ choices-returns-2 t c =
     let g = f .before .before .before .before in
     let w = g .before .before in
     let i = w .before in
-    choices-more _ _ _ _ _ _ _ _ _ _ (i .if1 .left) (w .below .ensures) (g .gen-guard .ensures) (f .put-disable .ensures)
+    choices-more _ _ _ _ _ _ _ _ _ _ _ (i .if1 .left) (w .below .ensures) (g .gen-guard .ensures) (f .put-disable .ensures)
     (b .choice .ensures) (n .plus .ensures) (r .choices .ensures) (j .distance .ensures)
 
 declaration-returns : (t : ℕ) → declaration-lts.Need-returns (declaration-claims t) (declaration-at t) declaration.Post
@@ -492,21 +492,21 @@ declaration-returns t c =
     let a = s .before .before .before .before in
     let m = a .before in
     let n = m .before .before in
-    declaration-is _ _ _ _ _ _ _ _ (n .value-at .ensures) (m .minus .ensures) (a .plain .ensures) (s .put-initial .ensures)
+    declaration-is _ _ _ _ _ _ _ _ _ (n .value-at .ensures) (m .minus .ensures) (a .plain .ensures) (s .put-initial .ensures)
     (b .body .ensures) (e .plain2 .ensures)
 
 inside-returns : (t : ℕ) → inside-lts.Need-returns (inside-claims t) (inside-at t) inside.Post
 inside-returns t c =
     let r = c .before .before in
     let i = r .before .before in
-    inside-declaration _ _ _ _ _ _ _ _ (i .if1 .taken) (r .declaration .ensures)
+    inside-declaration _ _ _ _ _ _ _ _ _ (i .if1 .taken) (r .declaration .ensures)
 
 inside-returns-2 : (t : ℕ) → inside-lts.Need-returns-2 (inside-claims t) (inside-at t) inside.Post
 inside-returns-2 t c =
     let r = c .before .before in
     let j = r .before .before in
     let i = j .before in
-    inside-while _ _ _ _ _ _ _ _ (i .if1 .left) (j .if2 .taken) (r .repetition .ensures)
+    inside-while _ _ _ _ _ _ _ _ _ (i .if1 .left) (j .if2 .taken) (r .repetition .ensures)
 
 inside-returns-3 : (t : ℕ) → inside-lts.Need-returns-3 (inside-claims t) (inside-at t) inside.Post
 inside-returns-3 t c =
@@ -515,7 +515,7 @@ inside-returns-3 t c =
     let n = k .before in
     let j = n .before in
     let i = j .before in
-    inside-seq _ _ _ _ _ _ _ _ (i .if1 .left) (j .if2 .left) (n .value-at .ensures) (k .if3 .taken) (r .seq .ensures)
+    inside-seq _ _ _ _ _ _ _ _ _ (i .if1 .left) (j .if2 .left) (n .value-at .ensures) (k .if3 .taken) (r .seq .ensures)
 
 inside-returns-4 : (t : ℕ) → inside-lts.Need-returns-4 (inside-claims t) (inside-at t) inside.Post
 inside-returns-4 t c =
@@ -525,7 +525,7 @@ inside-returns-4 t c =
     let n = k .before in
     let j = n .before in
     let i = j .before in
-    inside-par _ _ _ _ _ _ _ _ (i .if1 .left) (j .if2 .left) (n .value-at .ensures) (k .if3 .left) (l .if4 .taken) (r .par .ensures)
+    inside-par _ _ _ _ _ _ _ _ _ (i .if1 .left) (j .if2 .left) (n .value-at .ensures) (k .if3 .left) (l .if4 .taken) (r .par .ensures)
 
 inside-returns-5 : (t : ℕ) → inside-lts.Need-returns-5 (inside-claims t) (inside-at t) inside.Post
 inside-returns-5 t c =
@@ -536,7 +536,7 @@ inside-returns-5 t c =
     let n = k .before in
     let j = n .before in
     let i = j .before in
-    inside-if _ _ _ _ _ _ _ _ (i .if1 .left) (j .if2 .left) (n .value-at .ensures) (k .if3 .left) (l .if4 .left) (m .if5 .taken)
+    inside-if _ _ _ _ _ _ _ _ _ (i .if1 .left) (j .if2 .left) (n .value-at .ensures) (k .if3 .left) (l .if4 .left) (m .if5 .taken)
     (r .pairs .ensures)
 
 inside-returns-6 : (t : ℕ) → inside-lts.Need-returns-6 (inside-claims t) (inside-at t) inside.Post
@@ -548,11 +548,11 @@ inside-returns-6 t c =
     let n = k .before in
     let j = n .before in
     let i = j .before in
-    inside-alt _ _ _ _ _ _ _ _ (i .if1 .left) (j .if2 .left) (n .value-at .ensures) (k .if3 .left) (l .if4 .left) (m .if5 .left)
+    inside-alt _ _ _ _ _ _ _ _ _ (i .if1 .left) (j .if2 .left) (n .value-at .ensures) (k .if3 .left) (l .if4 .left) (m .if5 .left)
     (r .alt .ensures)
 
 pairs-returns : (t : ℕ) → pairs-lts.Need-returns (pairs-claims t) (pairs-at t) pairs.Post
-pairs-returns t c = let e = c .before .before in if-none _ _ _ _ _ _ _ _ (e .before .before .if1 .taken) (e .operation .ensures)
+pairs-returns t c = let e = c .before .before in if-none _ _ _ _ _ _ _ _ _ (e .before .before .if1 .taken) (e .operation .ensures)
 
 pairs-returns-2 : (t : ℕ) → pairs-lts.Need-returns-2 (pairs-claims t) (pairs-at t) pairs.Post
 pairs-returns-2 t c =
@@ -564,11 +564,11 @@ pairs-returns-2 t c =
     let s = b .before .before in
     let e = s .before .before .before in
     let i = e .before .before in
-    if-more _ _ _ _ _ _ _ _ (i .if1 .left) (e .gen-expr .ensures) (s .plus .ensures) (b .statement .ensures) (n .plus2 .ensures)
+    if-more _ _ _ _ _ _ _ _ _ (i .if1 .left) (e .gen-whole .ensures) (s .plus .ensures) (b .statement .ensures) (n .plus2 .ensures)
     (r .pairs .ensures) (j .distance .ensures) (k .distance2 .ensures)
 
 par-returns : (t : ℕ) → par-lts.Need-returns (par-claims t) (par-at t) par.Post
-par-returns t c = par-none _ _ _ _ _ _ _ _ (c .if1 .taken)
+par-returns t c = par-none _ _ _ _ _ _ _ _ _ (c .if1 .taken)
 
 par-sub-branches : (t : ℕ) → par-lts.Need-sub-branches (par-claims t) (par-at t) par.Post
 par-sub-branches t c =
@@ -591,7 +591,7 @@ par-same-length t c =
     let h = b .before .before .before .before .before .before .before in
     let u = h .before .before .before .before in
     let a = u .before .before .before .before .before in
-    z .plain2 .kept .0 ∙ l .distance .kept .0 ∙ r .branches .kept .1 .1 .1 .1 .1 .1 .1 .0 ∙ b .branch .kept .1 .1 .1 .1 .1 .1 .1 .0
+    z .plain2 .kept .0 ∙ l .distance .kept .0 ∙ r .branches .kept .1 .1 .1 .1 .1 .1 .1 .1 .0 ∙ b .branch .kept .1 .1 .1 .1 .1 .1 .1 .1 .0
     ∙ h .put-header .kept .0 ∙ u .operation .kept .0 ∙ a .plain .kept .0
 
 par-returns-2 : (t : ℕ) → par-lts.Need-returns-2 (par-claims t) (par-at t) par.Post
@@ -609,7 +609,7 @@ par-returns-2 t c =
     let a = o .before .before .before .before in
     let m = a .before in
     let i = m .before .before in
-    par-more _ _ _ _ _ _ _ _ (i .if1 .left) (m .minus .ensures) (a .plain .ensures) (o .plus .ensures) (u .operation .ensures)
+    par-more _ _ _ _ _ _ _ _ _ (i .if1 .left) (m .minus .ensures) (a .plain .ensures) (o .plus .ensures) (u .operation .ensures)
     (h .put-header .ensures) (e .measure .ensures) (s .starts-end .ensures) (w .below .ensures) (b .branch .ensures)
     (r .branches .ensures) (l .distance .ensures) (z .plain2 .ensures)
 
@@ -621,21 +621,21 @@ repetition-returns t c =
     let b = n .before .before .before in
     let s = b .before .before in
     let e = s .before .before .before in
-    while-is _ _ _ _ _ _ _ (e .gen-expr .ensures) (s .plus .ensures) (b .statement .ensures) (n .plus2 .ensures)
+    while-is _ _ _ _ _ _ _ _ (e .gen-whole .ensures) (s .plus .ensures) (b .statement .ensures) (n .plus2 .ensures)
     (j .distance .ensures) (k .distance2 .ensures)
 
 seq-returns : (t : ℕ) → seq-lts.Need-returns (seq-claims t) (seq-at t) seq.Post
-seq-returns t c = seq-none _ _ _ _ _ _ _ _ (c .if1 .taken)
+seq-returns t c = seq-none _ _ _ _ _ _ _ _ _ (c .if1 .taken)
 
 seq-returns-2 : (t : ℕ) → seq-lts.Need-returns-2 (seq-claims t) (seq-at t) seq.Post
 seq-returns-2 t c =
     let r = c .before .before in
     let p = r .before .before .before .before in
     let i = p .before .before in
-    seq-more _ _ _ _ _ _ _ _ (i .if1 .left) (p .statement .ensures) (r .seq .ensures)
+    seq-more _ _ _ _ _ _ _ _ _ (i .if1 .left) (p .statement .ensures) (r .seq .ensures)
 
 statement-returns : (t : ℕ) → statement-lts.Need-returns (statement-claims t) (statement-at t) statement′.Post
-statement-returns t c = stmt-none _ _ _ _ _ _ _ (c .if1 .taken)
+statement-returns t c = stmt-none _ _ _ _ _ _ _ _ (c .if1 .taken)
 
 statement-returns-2 : (t : ℕ) → statement-lts.Need-returns-2 (statement-claims t) (statement-at t) statement′.Post
 statement-returns-2 t c =
@@ -643,7 +643,7 @@ statement-returns-2 t c =
     let j = r .before .before in
     let k = j .before .before in
     let i = k .before in
-    stmt-simple _ _ _ _ _ _ _ (i .if1 .left) (k .value-at .ensures) (j .if2 .taken) (r .gen-simple .ensures)
+    stmt-simple _ _ _ _ _ _ _ _ (i .if1 .left) (k .value-at .ensures) (j .if2 .taken) (r .gen-simple .ensures)
 
 statement-returns-3 : (t : ℕ) → statement-lts.Need-returns-3 (statement-claims t) (statement-at t) statement′.Post
 statement-returns-3 t c =
@@ -651,7 +651,7 @@ statement-returns-3 t c =
     let j = r .before .before in
     let k = j .before .before in
     let i = k .before in
-    stmt-inside _ _ _ _ _ _ _ (i .if1 .left) (k .value-at .ensures) (j .if2 .left) (r .inside .ensures)
+    stmt-inside _ _ _ _ _ _ _ _ (i .if1 .left) (k .value-at .ensures) (j .if2 .left) (r .inside .ensures)
 
 pub +alt+body+branch+branches+choice+choices+declaration+inside+pairs+par+repetition+seq+statement-spec : {M : Type 1} → statement M
 +alt+body+branch+branches+choice+choices+declaration+inside+pairs+par+repetition+seq+statement-spec =

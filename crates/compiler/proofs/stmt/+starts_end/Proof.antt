@@ -20,29 +20,29 @@ use Rattle.model.specs.Prefix.{fewest}
 use Rattle.emitter.specs.Extents.{extentAt}
 use Rattle.compiler.specs.Stmts.{startsEnd}
 
-none : (n dp : ℕ) (s : List ℕ) (i d h : ℕ) → n ≡ 0 → startsEnd n dp s i d h ≡ h
+none : (n dp : ℕ) (plan s : List ℕ) (i d h : ℕ) → n ≡ 0 → startsEnd n dp plan s i d h ≡ h
 unfolding startsEnd
-none n dp s i d h e = rw e
+none n dp plan s i d h e = rw e
 
 -- `startsEnd` unrolled once where a branch is left
-turn : (n dp : ℕ) (s : List ℕ) (i d h : ℕ) → (n ≡ 0 → ⊥)
-    → startsEnd n dp s i d h
-    ≡ (let e = extentAt dp s i in
-    startsEnd (n - 1) dp s (e .next) (low (d + e .need)) (low (h + (fewest (minus d) + 6))))
+turn : (n dp : ℕ) (plan s : List ℕ) (i d h : ℕ) → (n ≡ 0 → ⊥)
+    → startsEnd n dp plan s i d h
+    ≡ (let e = extentAt dp plan s i in
+    startsEnd (n - 1) dp plan s (e .next) (low (d + e .need)) (low (h + (fewest (minus d) + 6))))
 unfolding startsEnd
-turn zero dp s i d h p = absurd (p refl)
-turn (suc n) dp s i d h p = let e : suc n - 1 ≡ n = omega arith in rw e
+turn zero dp plan s i d h p = absurd (p refl)
+turn (suc n) dp plan s i d h p = let e : suc n - 1 ≡ n = omega arith in rw e
 
-abbrev μ-starts-end : Measures 1 starts-end-kinds.ps ℕ
-μ-starts-end κs a = a .1 .1 .0
+abbrev μ-starts-end : Measures 2 starts-end-kinds.ps ℕ
+μ-starts-end κs a = a .1 .1 .1 .0
 
-abbrev starts-end-at : ℕ → In 1 starts-end-kinds.ps
+abbrev starts-end-at : ℕ → In 2 starts-end-kinds.ps
 starts-end-at t =
-    and 1 starts-end-kinds.ps (is 1 starts-end-kinds.ps μ-starts-end t) starts-end.Pre
+    and 2 starts-end-kinds.ps (is 2 starts-end-kinds.ps μ-starts-end t) starts-end.Pre
 
-abbrev starts-end-below : ℕ → In 1 starts-end-kinds.ps
+abbrev starts-end-below : ℕ → In 2 starts-end-kinds.ps
 starts-end-below t =
-    and 1 starts-end-kinds.ps (falls 1 starts-end-kinds.ps _<_ μ-starts-end t) starts-end.Pre
+    and 2 starts-end-kinds.ps (falls 2 starts-end-kinds.ps _<_ μ-starts-end t) starts-end.Pre
 
 abbrev starts-end-claims : ℕ → starts-end-lts.Claims
 starts-end-claims t = (
@@ -59,7 +59,7 @@ starts-end-claims t = (
 )
 
 starts-end-returns : (t : ℕ) → starts-end-lts.Need-returns (starts-end-claims t) (starts-end-at t) starts-end.Post
-starts-end-returns t c = sym (none _ _ _ _ _ _ (c .if1 .taken))
+starts-end-returns t c = sym (none _ _ _ _ _ _ _ (c .if1 .taken))
 
 starts-end-starts-end-requires : (t : ℕ)
     → starts-end-lts.Need-starts-end-requires (starts-end-claims t) (starts-end-at t) starts-end.Post
@@ -73,7 +73,7 @@ starts-end-returns-2 t c =
     let f = a .before in
     let m = f .before .before in
     rw (
-      turn _ _ _ _ _ _ (m .before .if1 .left),
+      turn _ _ _ _ _ _ _ (m .before .if1 .left),
       ← m .measure .ensures,
       ← f .before .minus .ensures,
       ← f .fewest .ensures .0,

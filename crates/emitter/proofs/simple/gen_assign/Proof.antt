@@ -9,7 +9,7 @@ unfolding assignInto
 returns c =
     simp (
       ← c .before .before .before .before .before .before .before .before .before .value-at .ensures,
-      ← c .before .before .before .before .before .before .before .gen-expr .ensures,
+      ← c .before .before .before .before .before .before .before .gen-whole .ensures,
       ← c .before .before .before .before .local .ensures,
       ← c .before .before .plain .ensures,
     )

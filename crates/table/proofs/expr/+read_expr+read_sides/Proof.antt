@@ -24,15 +24,18 @@ use mathlib.Core.List.{List}
 use mathlib.Core.Path.{_≡_, refl, sym, _∙_}
 use lib.Dec.{ltb, eqb}
 use Rattle.numbers.specs.Items.{betweenAt, nameAt, deepAt, groupsAt, withNumber, withItem}
-use Rattle.table.specs.Exprs.{exprAt, leafAt, sidesAt, Within}
+use Rattle.table.specs.Exprs.{single, joined, exprAt, leafAt, sidesAt, Within}
 use Rattle.numbers.specs.declared.Item.{Item}
 use Rattle.numbers.specs.declared.Item.the-variants.{Item as Found, Refused}
 use Rattle.numbers.specs.declared.NumberRead.{NumberRead}
 use Rattle.numbers.specs.declared.NumberRead.the-variants.{Number, Bad}
+use Rattle.model.specs.Counts.{orderOf}
+use Rattle.table.proofs.Small.{need-most, hold-most}
+use Rattle.table.specs.declared.expr.Term.{Term}
 use Rattle.table.specs.declared.expr.ExprRead.{ExprRead}
 use Rattle.table.specs.declared.expr.ExprRead.the-variants.{Expr, Refused as NoExpr}
 
-none : (d vs : ℕ) (s : List ℕ) (at : ℕ) → d ≡ 0 → exprAt d vs s at ≡ withItem NoExpr (deepAt s at) (λ v n. Expr n 1)
+none : (d vs : ℕ) (s : List ℕ) (at : ℕ) → d ≡ 0 → exprAt d vs s at ≡ withItem NoExpr (deepAt s at) (λ v n. single n)
 unfolding exprAt
 none d vs s at e = rw e
 
@@ -48,13 +51,13 @@ unfolding exprAt sidesAt
 turn zero vs s at p = absurd (p refl)
 turn (suc d) vs s at p = let e : suc d - 1 ≡ d = omega arith in rw e
 
--- the registers of a refusal, a leaf and an expression one level in
-deep-within : (at d : ℕ) (x : NumberRead) → Within (withItem NoExpr (withNumber (Refused 2 at) x (λ v n. Refused 4 at)) (λ v n. Expr n 1)) d
+-- what is counted of a refusal, a leaf, an expression one level in and an operator
+deep-within : (at d : ℕ) (x : NumberRead) → Within (withItem NoExpr (withNumber (Refused 2 at) x (λ v n. Refused 4 at)) (λ v n. single n)) d
 deep-within at d (Number v n) = tt
 deep-within at d Bad = tt
 
-item-within : (d : ℕ) (i : Item) → (d ≡ 0 → ⊥) → Within (withItem NoExpr i (λ v n. Expr n 1)) d
-item-within d (Found v n) p = omega arith
+item-within : (d : ℕ) (i : Item) → (d ≡ 0 → ⊥) → Within (withItem NoExpr i (λ v n. single n)) d
+item-within d (Found v n) p = (omega arith, omega arith)
 item-within d (Refused k a) p = tt
 
 leaf-within : (d k vs : ℕ) (s : List ℕ) (at : ℕ) → (d ≡ 0 → ⊥) → Within (leafAt k vs s at) d
@@ -63,8 +66,13 @@ leaf-within d k vs s at p =
     item-within d (cond (eqb k 0) (betweenAt 0 4294967295 s at) (nameAt vs 0 0 s at)) p
 
 within-more : (d : ℕ) (x : ExprRead) → Within x (d - 1) → Within x d
-within-more d (Expr n r) p = omega arith
+within-more d (Expr e) p = (p .0, omega (arith, p .1))
 within-more d (NoExpr k a) p = tt
+
+joined-within : (d : ℕ) (l r : Term) → Within (Expr l) (d - 1) → Within (Expr r) (d - 1) → Within (joined l r) d
+joined-within d l r p q =
+    let o = orderOf (l .registers) (r .registers) in
+    (need-most (l .registers) (r .registers), omega (arith, p .1, q .1, hold-most o (l .stored) (r .stored)))
 
 abbrev μ-read-expr : Measures 1 read-expr-kinds.ps ℕ
 μ-read-expr κs a = 2 * a .1 .1 .0
@@ -176,17 +184,31 @@ read-sides-read-expr-requires t c κs = (omega (arith, c .before .pre .0), omega
 read-sides-read-expr-requires-2 : (t : ℕ) → read-sides-lts.Need-read-expr-requires-2 (read-sides-claims t) (read-sides-at t) read-sides.Post
 read-sides-read-expr-requires-2 t c κs = (omega (arith, c .before .before .before .before .before .pre .0), omega arith)
 
+-- what is counted of the left side
+left-within : {t : ℕ} (c : read-sides-lts.After-left (read-sides-claims t) (read-sides-at t) read-sides.Post)
+    → Within (Expr (c .left .given .0 .0)) (c .before .before .before .before .args .depth - 1)
+left-within c = rw (c .left .given .1) at (c .before .before .read-expr .ensures .1)
+
 read-sides-join-requires : (t : ℕ) → read-sides-lts.Need-join-requires (read-sides-claims t) (read-sides-at t) read-sides.Post
-read-sides-join-requires t c κs = omega (arith, rw (c .before .last .given .1) at (c .before .before .before .read-expr2 .ensures .1))
+read-sides-join-requires t c κs =
+    let l = left-within (c .before .before .before .before .before) in
+    let r = rw (c .before .right .given .1) at (c .before .before .before .read-expr2 .ensures .1) in (l .0, r .0, omega (arith, l .1))
 
 read-sides-returns : (t : ℕ) → read-sides-lts.Need-returns (read-sides-claims t) (read-sides-at t) read-sides.Post
 unfolding sidesAt
 read-sides-returns t c =
     let k = c .before .before .before .before .before .before in
-    let h = k .before .before .read-expr in
-    let j = c .before .before .before .before .read-expr2 in (
-      simp (sym (h .ensures .0) ∙ k .next .given .1, sym (j .ensures .0) ∙ c .before .before .last .given .1, c .join .ensures),
-      omega (arith, c .join .ensures, rw (k .next .given .1) at (h .ensures .1), rw (c .before .before .last .given .1) at (j .ensures .1)),
+    let j = c .before .before .before .before .read-expr2 in
+    let l = left-within k in
+    let r = rw (c .before .before .right .given .1) at (j .ensures .1) in (
+      simp (
+        ← k .before .before .read-expr .ensures .0,
+        k .left .given .1,
+        ← j .ensures .0,
+        c .before .before .right .given .1,
+        c .join .ensures,
+      ),
+      rw (c .join .ensures) (joined-within _ (k .left .given .0 .0) (c .before .before .right .given .0 .0) l r),
     )
 
 read-sides-returns-2 : (t : ℕ) → read-sides-lts.Need-returns-2 (read-sides-claims t) (read-sides-at t) read-sides.Post
@@ -194,8 +216,10 @@ unfolding sidesAt
 read-sides-returns-2 t c =
     let k = c .before .before .before .before .before in (
       simp (
-        sym (k .before .before .read-expr .ensures .0) ∙ k .next .given .1,
-        sym (c .before .before .before .read-expr2 .ensures .0) ∙ c .before .n .given .1,
+        ← k .before .before .read-expr .ensures .0,
+        k .left .given .1,
+        ← c .before .before .before .read-expr2 .ensures .0,
+        c .before .n .given .1,
       ),
       tt,
     )

@@ -52,7 +52,6 @@ use Rattle.table.specs.Stmts.{leaf, nothing, added, parOf, Branches, joi
 use Rattle.table.specs.Stmts.{Fits, SmallWords}
 use Rattle.numbers.specs.declared.Item.{Item}
 use Rattle.table.specs.declared.stmt.Names.{Names}
-use Rattle.table.specs.declared.stmt.First.the-variants.{Nowhere}
 use Rattle.table.specs.declared.stmt.Part.{Part}
 use Rattle.table.specs.declared.stmt.StmtRead.{StmtRead}
 use Rattle.table.specs.declared.stmt.StmtRead.the-variants.{Stmt, Refused as NoStmt}
@@ -94,7 +93,7 @@ joined-is : {t : Sum} {l : List ℕ} {r : Bool} (d : ℕ) (w : Names) (s : List 
 joined-is d w s b p e f = rw (e, stretch (b .total .next) (p .next) s, ← f)
 
 -- `stmtAt` at depth 0, and unrolled once where there is depth left
-none : (d : ℕ) (w : Names) (s : List ℕ) (at : ℕ) → d ≡ 0 → stmtAt d w s at ≡ withItem NoStmt (deepAt s at) (λ v n. leaf n 2 Nowhere)
+none : (d : ℕ) (w : Names) (s : List ℕ) (at : ℕ) → d ≡ 0 → stmtAt d w s at ≡ withItem NoStmt (deepAt s at) (λ v n. leaf n 2)
 unfolding stmtAt
 none d w s at e = rw e
 

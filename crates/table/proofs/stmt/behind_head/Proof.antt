@@ -4,7 +4,7 @@ use Rattle.table.proofs.stmt.behind_head.Statement.{statement}
 use Rattle.table.proofs.stmt.behind_head.Tie as tie
 
 returns : tie.Need-returns
-returns c = rw (c .before .before .read .given .1, c .earlier .ensures)
+returns c = rw (c .before .before .read .given .1, c .larger .ensures)
 
 returns-2 : tie.Need-returns-2
 returns-2 c = rw (c .before .read2 .given .1)

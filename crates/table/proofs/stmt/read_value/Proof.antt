@@ -7,7 +7,9 @@ use Rattle.table.specs.Stmts.{valueAt}
 
 returns : tie.Need-returns
 unfolding valueAt
-returns c = simp (c .leaf-part .ensures, sym (c .before .before .before .before .read-whole .ensures) ∙ c .before .before .next .given .1)
+returns c =
+    let k = c .before .before .before in
+    simp (c .leaf-part .ensures, c .before .larger .ensures, ← k .before .before .read-whole .ensures, k .next .given .1)
 
 returns-2 : tie.Need-returns-2
 unfolding valueAt
@@ -19,6 +21,7 @@ read-value-spec =
     (tie.spec
     (λ c κs. search needs)
     (λ c. search needs)
+    (λ c κs. search needs)
     (λ c κs. search needs)
     (λ c. search needs)
     returns

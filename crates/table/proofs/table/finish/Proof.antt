@@ -16,27 +16,14 @@ returns-2 c = simp (le-ltb _ _ (c .before .before .before .if1 .left), c .before
 returns-3 : tie.Need-returns-3
 unfolding finished
 returns-3 c =
-    let b = c .before .before .before in
-    simp (le-ltb _ _ (b .before .before .if1 .left), b .enum-told .given .1, c .before .deep .given .1)
+    let b = c .before .before .before .before in
+    simp (le-ltb _ _ (b .before .before .if1 .left), b .enum-told .given .1, le-leb _ _ (c .before .before .if2 .taken))
 
 returns-4 : tie.Need-returns-4
 unfolding finished
 returns-4 c =
-    let a = c .before .before .before .before in
-    let b = a .before .before in
-    simp (
-      le-ltb _ _ (b .before .before .if1 .left),
-      b .enum-told .given .1,
-      a .enum-told2 .given .1,
-      le-leb _ _ (c .before .before .if2 .taken),
-    )
-
-returns-5 : tie.Need-returns-5
-unfolding finished
-returns-5 c =
-    let a = c .before .before in
-    let b = a .before .before in
-    simp (le-ltb _ _ (b .before .before .if1 .left), b .enum-told .given .1, a .enum-told2 .given .1, lt-leb _ _ (c .if2 .left))
+    let b = c .before .before in
+    simp (le-ltb _ _ (b .before .before .if1 .left), b .enum-told .given .1, lt-leb _ _ (c .if2 .left))
 
 pub finish-spec : {M : Type 1} → statement M
 finish-spec =
@@ -51,9 +38,6 @@ finish-spec =
     (λ c. search needs)
     (λ c. search needs)
     (λ c. search needs)
-    (λ c. search needs)
-    (λ c. search needs)
     returns-2
     returns-3
-    returns-4
-    returns-5)
+    returns-4)

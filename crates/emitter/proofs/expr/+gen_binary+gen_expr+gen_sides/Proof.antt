@@ -1,0 +1,269 @@
+-- `emitter::expr::gen_binary`, `emitter::expr::gen_expr` and `emitter::expr::gen_sides` meet their contracts; the measure is three times
+-- the depth left, for `gen_sides` one more, for `gen_binary` two more. Assumes nothing.
+use Prim.Native.Nat.{ℕ, zero, suc, _+_, _-_, _*_, _<_}
+use borrow.Fn.Kinds.{In}
+use borrow.Fn.PlainCycle.{Measures, is, falls, and}
+use Rattle.emitter.proofs.expr.gen_binary.Reads as gen-binary
+use Rattle.emitter.proofs.expr.gen_binary.Kinds as gen-binary-kinds
+use Rattle.emitter.proofs.expr.+gen_binary+gen_expr+gen_sides.Lts-gen_binary as gen-binary-lts
+use Rattle.emitter.proofs.expr.gen_expr.Reads as gen-expr
+use Rattle.emitter.proofs.expr.gen_expr.Kinds as gen-expr-kinds
+use Rattle.emitter.proofs.expr.+gen_binary+gen_expr+gen_sides.Lts-gen_expr as gen-expr-lts
+use Rattle.emitter.proofs.expr.gen_sides.Reads as gen-sides
+use Rattle.emitter.proofs.expr.gen_sides.Kinds as gen-sides-kinds
+use Rattle.emitter.proofs.expr.+gen_binary+gen_expr+gen_sides.Lts-gen_sides as gen-sides-lts
+use Rattle.emitter.proofs.emit.plain.Reads as plain-reads
+use Rattle.emitter.proofs.expr.gen_leaf.Reads as gen-leaf-reads
+use Rattle.emitter.proofs.expr.gen_operator.Reads as gen-operator-reads
+use Rattle.emitter.proofs.sides.arrange.Reads as arrange-reads
+use Rattle.emitter.proofs.sides.put_behind.Reads as put-behind-reads
+use Rattle.emitter.proofs.sides.put_between.Reads as put-between-reads
+use Rattle.numbers.proofs.value_at.Reads as value-at-reads
+use Rattle.emitter.proofs.expr.+gen_binary+gen_expr+gen_sides.{statement}
+use Rattle.emitter.proofs.expr.+gen_binary+gen_expr+gen_sides.Tie.{close}
+use borrow.Author.Needs.{needs}
+use borrow.Author.Tests.{lt-ltb, le-ltb, eq-eqb, ne-eqb}
+use native.Mathlib.Omega.{arith}
+use mathlib.Core.List.{List}
+use mathlib.Core.Path.{_≡_, refl, sym, ap, _∙_}
+use mathlib.Core.Bool.{cond}
+use lib.Dec.{ltb, eqb}
+use Rattle.numbers.specs.Items.{valueAt}
+use Rattle.numbers.specs.declared.Value.{Value}
+use Rattle.emitter.specs.declared.sides.Sides.{Sides}
+use Rattle.emitter.specs.Emits.{Code, at}
+use Rattle.emitter.specs.Exprs.{Wrote, written, codeOf, notInto, leafInto, operatorInto, arranged, betweenInto, behindInto}
+use Rattle.emitter.specs.Exprs.{exprInto, sidesAt, binaryInto}
+
+module _ (d w : ℕ) (vs p s : List ℕ) (h i : ℕ) (c : Code) where
+  none : d ≡ 0 → exprInto d w vs p s h i c ≡ written i c
+  unfolding exprInto
+  none e = rw e
+
+  -- `binaryInto` over `sidesAt`, and by what each part wrote
+  sided : binaryInto d w vs p s h i c
+      ≡ (let o = valueAt s i in
+      let r = sidesAt d w vs p s h (o .next) c in
+      written (r .next) (operatorInto (o .value) (codeOf r)))
+  unfolding binaryInto sidesAt
+  sided = refl
+
+  operated : {o : Value} {r : Wrote} {e : Code} → o ≡ valueAt s i → r ≡ sidesAt d w vs p s h (o .next) c
+      → e ≡ operatorInto (o .value) (codeOf r) → written (r .next) e ≡ binaryInto d w vs p s h i c
+  operated f q e = simp (sided, ← f, ← q, ← e)
+
+-- what follows a kind, and `exprInto` unrolled once where there is depth left
+abbrev byKind : (d w : ℕ) → (vs plan s : List ℕ) → (h : ℕ) → Code → Value → Wrote
+byKind d w vs p s h c k =
+    cond (ltb (k .value) 2) (leafInto (k .value) w vs s (k .next) c)
+    (cond (eqb (k .value) 2) (notInto (exprInto (d - 1) w vs p s h (k .next) c)) (binaryInto (d - 1) w vs p s h (k .next) c))
+
+turn : (d w : ℕ) (vs p s : List ℕ) (h i : ℕ) (c : Code) → (d ≡ 0 → ⊥) → exprInto d w vs p s h i c ≡ byKind d w vs p s h c (valueAt s i)
+unfolding exprInto binaryInto
+turn zero w vs p s h i c z = absurd (z refl)
+turn (suc d) w vs p s h i c z = let e : suc d - 1 ≡ d = omega arith in rw e
+
+-- two sides, once it is known how they are brought in; and `sidesAt` by what each part wrote
+abbrev bySides : (d w : ℕ) → (vs plan s : List ℕ) → (h : ℕ) → Code → Sides → Wrote
+bySides d w vs p s h c a =
+    let one = exprInto d w vs p s h (a .first) c in
+    let two = exprInto d w vs p s (a .held) (a .second) (betweenInto (a .order) h (codeOf one)) in
+    written (a .next) (behindInto (a .order) h (codeOf two))
+
+brought : (d w : ℕ) (vs p s : List ℕ) (h i : ℕ) (c : Code) {a : Sides} {one two : Wrote} {b e : Code} → a ≡ arranged p h i
+    → one ≡ exprInto d w vs p s h (a .first) c → b ≡ betweenInto (a .order) h (codeOf one)
+    → two ≡ exprInto d w vs p s (a .held) (a .second) b → e ≡ behindInto (a .order) h (codeOf two)
+    → written (a .next) e ≡ sidesAt d w vs p s h i c
+unfolding sidesAt
+brought d w vs p s h i c {a} {one} {two} {b} {e} f q g r k =
+    let m : written (a .next) e ≡ bySides d w vs p s h c a = simp (← q, ← g, ← r, ← k) in
+    m ∙ ap (λ x. bySides d w vs p s h c x) f
+
+abbrev μ-gen-binary : Measures 4 gen-binary-kinds.ps ℕ
+μ-gen-binary κs a = 3 * a .1 .1 .1 .0 + 2
+
+abbrev μ-gen-expr : Measures 4 gen-expr-kinds.ps ℕ
+μ-gen-expr κs a = 3 * a .1 .1 .1 .0
+
+abbrev μ-gen-sides : Measures 4 gen-sides-kinds.ps ℕ
+μ-gen-sides κs a = 3 * a .1 .1 .1 .0 + 1
+
+abbrev gen-binary-at : ℕ → In 4 gen-binary-kinds.ps
+gen-binary-at t =
+    and 4 gen-binary-kinds.ps (is 4 gen-binary-kinds.ps μ-gen-binary t) gen-binary.Pre
+
+abbrev gen-binary-below : ℕ → In 4 gen-binary-kinds.ps
+gen-binary-below t =
+    and 4 gen-binary-kinds.ps (falls 4 gen-binary-kinds.ps _<_ μ-gen-binary t) gen-binary.Pre
+
+abbrev gen-expr-at : ℕ → In 4 gen-expr-kinds.ps
+gen-expr-at t = and 4 gen-expr-kinds.ps (is 4 gen-expr-kinds.ps μ-gen-expr t) gen-expr.Pre
+
+abbrev gen-expr-below : ℕ → In 4 gen-expr-kinds.ps
+gen-expr-below t =
+    and 4 gen-expr-kinds.ps (falls 4 gen-expr-kinds.ps _<_ μ-gen-expr t) gen-expr.Pre
+
+abbrev gen-sides-at : ℕ → In 4 gen-sides-kinds.ps
+gen-sides-at t = and 4 gen-sides-kinds.ps (is 4 gen-sides-kinds.ps μ-gen-sides t) gen-sides.Pre
+
+abbrev gen-sides-below : ℕ → In 4 gen-sides-kinds.ps
+gen-sides-below t =
+    and 4 gen-sides-kinds.ps (falls 4 gen-sides-kinds.ps _<_ μ-gen-sides t) gen-sides.Pre
+
+abbrev gen-binary-claims : ℕ → gen-binary-lts.Claims
+gen-binary-claims t = (
+  value-at-reads.Asked,
+  value-at-reads.Learnt,
+  gen-sides-below t,
+  gen-sides.Post,
+  gen-operator-reads.Asked,
+  gen-operator-reads.Learnt,
+)
+
+abbrev gen-expr-claims : ℕ → gen-expr-lts.Claims
+gen-expr-claims t = (
+  value-at-reads.Asked,
+  value-at-reads.Learnt,
+  gen-leaf-reads.Asked,
+  gen-leaf-reads.Learnt,
+  gen-expr-below t,
+  gen-expr.Post,
+  plain-reads.Asked,
+  plain-reads.Learnt,
+  gen-binary-below t,
+  gen-binary.Post,
+)
+
+abbrev gen-sides-claims : ℕ → gen-sides-lts.Claims
+gen-sides-claims t = (
+  arrange-reads.Asked,
+  arrange-reads.Learnt,
+  gen-expr-below t,
+  gen-expr.Post,
+  put-between-reads.Asked,
+  put-between-reads.Learnt,
+  put-behind-reads.Asked,
+  put-behind-reads.Learnt,
+)
+
+gen-binary-gen-sides-requires : (t : ℕ)
+    → gen-binary-lts.Need-gen-sides-requires (gen-binary-claims t) (gen-binary-at t) gen-binary.Post
+gen-binary-gen-sides-requires t c κs =
+    let p = c .before .before .before .before .pre in
+    (omega (arith, p .0), p .1)
+
+gen-binary-returns : (t : ℕ) → gen-binary-lts.Need-returns (gen-binary-claims t) (gen-binary-at t) gen-binary.Post
+gen-binary-returns t c =
+    let g = c .before .before in
+    let r = g .before .before .before .before in
+    operated _ _ _ _ _ _ _ _ (r .before .before .value-at .ensures) (r .gen-sides .ensures) (g .gen-operator .ensures)
+
+-- what is to be answered once the kind is read
+kinded : {t : ℕ} (c : gen-expr-lts.After-value-at (gen-expr-claims t) (gen-expr-at t) gen-expr.Post)
+    → let a = c .before .before .before .before .args in
+    exprInto (a .depth) (a .w) (a .variables .now) (a .plan .now) (a .table .now) (a .held) (a .at) (at (a .here) (a .out .now))
+    ≡ byKind (a .depth) (a .w) (a .variables .now) (a .plan .now) (a .table .now) (a .held) (at (a .here) (a .out .now))
+    (c .value-at .result)
+kinded c = turn _ _ _ _ _ _ _ _ (c .before .if1 .left) ∙ simp (← c .value-at .ensures)
+
+gen-expr-returns : (t : ℕ) → gen-expr-lts.Need-returns (gen-expr-claims t) (gen-expr-at t) gen-expr.Post
+gen-expr-returns t c = sym (none _ _ _ _ _ _ _ _ (c .if1 .taken))
+
+gen-expr-returns-2 : (t : ℕ) → gen-expr-lts.Need-returns-2 (gen-expr-claims t) (gen-expr-at t) gen-expr.Post
+gen-expr-returns-2 t c =
+    let g = c .before .before in
+    let i = g .before .before in
+    simp (kinded (i .before .before), lt-ltb _ _ (i .if2 .taken)) (g .gen-leaf .ensures)
+
+gen-expr-gen-expr-requires : (t : ℕ)
+    → gen-expr-lts.Need-gen-expr-requires (gen-expr-claims t) (gen-expr-at t) gen-expr.Post
+gen-expr-gen-expr-requires t c κs =
+    let p = c .before .before .before .before .before .before .before .before .before .pre in
+    (omega (arith, p .0), p .1)
+
+gen-expr-returns-3 : (t : ℕ) → gen-expr-lts.Need-returns-3 (gen-expr-claims t) (gen-expr-at t) gen-expr.Post
+gen-expr-returns-3 t c =
+    let p = c .before .before in
+    let e = p .before .before .before .before in
+    let i = e .before .before in
+    let k = i .before .before in
+    simp (
+      kinded (k .before .before),
+      le-ltb _ _ (k .if2 .left),
+      eq-eqb _ _ (i .if3 .taken),
+      ← e .gen-expr .ensures,
+      ← p .plain .ensures,
+    )
+
+gen-expr-gen-binary-requires : (t : ℕ)
+    → gen-expr-lts.Need-gen-binary-requires (gen-expr-claims t) (gen-expr-at t) gen-expr.Post
+gen-expr-gen-binary-requires t c κs =
+    let p = c .before .before .before .before .before .before .before .before .before .pre in
+    (omega (arith, p .0), p .1)
+
+gen-expr-returns-4 : (t : ℕ) → gen-expr-lts.Need-returns-4 (gen-expr-claims t) (gen-expr-at t) gen-expr.Post
+gen-expr-returns-4 t c =
+    let b = c .before .before in
+    let i = b .before .before in
+    let k = i .before .before in
+    simp (kinded (k .before .before), le-ltb _ _ (k .if2 .left), ne-eqb _ _ (i .if3 .left)) (b .gen-binary .ensures)
+
+gen-sides-gen-expr-requires : (t : ℕ)
+    → gen-sides-lts.Need-gen-expr-requires (gen-sides-claims t) (gen-sides-at t) gen-sides.Post
+gen-sides-gen-expr-requires t c κs =
+    let p = c .before .before .before .before .pre in
+    (omega (arith, p .0), p .1)
+
+gen-sides-gen-expr-requires-2 : (t : ℕ)
+    → gen-sides-lts.Need-gen-expr-requires-2 (gen-sides-claims t) (gen-sides-at t) gen-sides.Post
+gen-sides-gen-expr-requires-2 t c κs =
+    let p = c .before .before .before .before .before .before .before .before .before .before .before .before .pre in
+    (omega (arith, p .0), p .1)
+
+gen-sides-returns : (t : ℕ) → gen-sides-lts.Need-returns (gen-sides-claims t) (gen-sides-at t) gen-sides.Post
+gen-sides-returns t c =
+    let e = c .before .before in
+    let two = e .before .before .before .before in
+    let b = two .before .before .before .before in
+    let one = b .before .before .before .before in
+    let a = one .before .before .before .before .before .args in
+    brought _ _ _ _ _ _ _ (at (a .here) (a .out .now)) (one .before .before .arrange .ensures) (one .gen-expr .ensures)
+    (b .put-between .ensures) (two .gen-expr2 .ensures) (e .put-behind .ensures)
+
+pub +gen-binary+gen-expr+gen-sides-spec : {M : Type 1} → statement M
++gen-binary+gen-expr+gen-sides-spec =
+    close μ-gen-binary μ-gen-expr μ-gen-sides (λ t. gen-binary-lts.spec (gen-binary-claims t)
+    (gen-binary-at t)
+    gen-binary.Post
+    (λ c κs. search needs)
+    (gen-binary-gen-sides-requires t)
+    (λ c κs. search needs)
+    (λ c. search needs)
+    (gen-binary-returns t))
+    (λ t. gen-expr-lts.spec (gen-expr-claims t)
+    (gen-expr-at t)
+    gen-expr.Post
+    (gen-expr-returns t)
+    (λ c κs. search needs)
+    (λ c κs. search needs)
+    (λ c. search needs)
+    (gen-expr-returns-2 t)
+    (λ c. search needs)
+    (gen-expr-gen-expr-requires t)
+    (λ c κs. search needs)
+    (λ c. search needs)
+    (gen-expr-returns-3 t)
+    (λ c. search needs)
+    (gen-expr-gen-binary-requires t)
+    (λ c. search needs)
+    (gen-expr-returns-4 t))
+    λ t. gen-sides-lts.spec (gen-sides-claims t)
+    (gen-sides-at t)
+    gen-sides.Post
+    (λ c κs. search needs)
+    (gen-sides-gen-expr-requires t)
+    (λ c κs. search needs)
+    (gen-sides-gen-expr-requires-2 t)
+    (λ c κs. search needs)
+    (λ c. search needs)
+    (gen-sides-returns t)

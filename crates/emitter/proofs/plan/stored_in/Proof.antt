@@ -1,0 +1,15 @@
+-- `emitter::plan::stored_in` meets its contract. Assumes nothing.
+use mathlib.Core.Path.{refl}
+use Rattle.emitter.specs.Plans.{storedIn}
+use Rattle.emitter.proofs.plan.stored_in.Statement.{statement}
+use Rattle.emitter.proofs.plan.stored_in.Tie as tie
+
+returns : tie.Need-returns
+unfolding storedIn
+returns c = refl
+
+pub stored-in-spec : {M : Type 1} → statement M
+stored-in-spec =
+    tie.close
+    (tie.spec
+    returns)
