@@ -1,5 +1,6 @@
--- The proved examples: each holds by computation, so this opens every definition that they go through.
+-- The proved examples: each holds by computation, and one by a sum, so this opens every definition that they go through.
 use mathlib.Core.Path.{refl}
+use native.Mathlib.Omega.{arith}
 use Rattle.model.specs.Word as Word
 use Rattle.model.specs.Number as Number
 use Rattle.model.specs.Reader as Reader
@@ -44,7 +45,7 @@ examples =
       j-5-below = (refl, refl);
       plus = refl;
       bits = refl;
-      words = λ p n c d x. refl;
+      words = λ p c d x e h. omega arith;
       no-code = refl;
       stop = refl;
       loop = refl;

@@ -135,6 +135,11 @@ unfolding lowered
 guard-room b w zero h k = omega arith
 guard-room b w (suc t) h k = omega arith
 
+-- an ALT's marks stay where the words of the channels in scope do
+pub marked-same : (S : Setting) (a : Part) (st : State) (vars chans : List Site) (hs : Guards) (μ ν : Mem) (w : ℕ)
+    → ((d : Site) → List·Memᴰ d chans → ν (S .word d) ≡ μ (S .word d)) → Marked S a st vars chans hs μ w → Marked S a st vars chans hs ν w
+marked-same S a st vars chans hs μ ν w same h d m o = let g = h d m (subst (Own a) (same d m) o) in (same d m ∙ g .0, g .1)
+
 -- the rest of fine guards is fine
 module _ (word : Site → ℕ) (a : Part) (vars chans : List Site) (w : ℕ) where
   pub rest-fine : {gs hs : Guards} {b c : ℕ} → Rest gs b hs c → FineGuards word a vars chans w gs → FineGuards word a vars chans w hs
@@ -210,9 +215,6 @@ module _ (S : Setting) (a : Part) (st : State) where
       state-kept : ν (stateWord w) ≡ μ (stateWord w)
       state-kept = same (stateWord w) (omega (arith, c .fine .0, alt-wide))
 
-      marked-kept : {hs : Guards} → Marked S a st vars chans hs μ w → Marked S a st vars chans hs ν w
-      marked-kept h d m o = let e = chan-kept d m in let g = h d m (subst (Own a) e o) in (e ∙ g .0, g .1)
-
       noticed-kept : {fs hs : Guards} → FineGuards (S .word) a vars chans (w + 1) fs → Noticed st (S .word) μ w fs hs
           → Noticed st (S .word) ν w fs hs
       noticed-kept f n-none = n-none
@@ -223,16 +225,16 @@ module _ (S : Setting) (a : Part) (st : State) where
       enabling-kept n =
           record {
             rest = n .rest;
-            marks = marked-kept (n .marks);
+            marks = marked-same S a st vars chans gs μ ν w chan-kept (n .marks);
             state = ⊎-elim (λ e. inl (state-kept ∙ e .0, noticed-kept (c .fine .1) (e .1))) (λ e. inr (state-kept ∙ e .0, e .1)) (n .state);
           }
 
       disabling-kept : {hs : Guards} → Disabling S a st vars chans k gs hs (c .choice) μ w
           → Disabling S a st vars chans k gs hs (c .choice) ν w
-      disabling-kept d =
+      disabling-kept {hs} d =
           let base : ν w ≡ μ w = same w (omega arith) in
           record {
-            marks = marked-kept (d .marks);
+            marks = marked-same S a st vars chans hs μ ν w chan-kept (d .marks);
             state = state-kept ∙ d .state;
             chosen = ⊎-elim (λ x. let (t, p, h, z) = x in inl (t, p, h, base ∙ z)) (λ x. inr (base ∙ x .0, x .1)) (d .chosen);
           }

@@ -60,7 +60,7 @@ module _ (S : Setting) where
     way-end z (falls at i a e v) = absurd (omega (arith, inside S at))
 
     -- what holds at every significant instruction and at the end holds on the path
-    pub way-kind : (K : Type 0) → ((h : ℕ) (μ : Mem) (i : ℕ) (r : Regs) → P h μ i r → K) → (E → K) → {hi : ℕ} {μ : Mem} {i : ℕ} {r : Regs}
+    way-kind : (K : Type 0) → ((h : ℕ) (μ : Mem) (i : ℕ) (r : Regs) → P h μ i r → K) → (E → K) → {hi : ℕ} {μ : Mem} {i : ℕ} {r : Regs}
         → Way (S .xs) (S .off) (S .word) P E σ R Spare C hi μ i r → K
     way-kind K f g (arrived p b) = f _ _ _ _ p
     way-kind K f g (through e b h) = g h

@@ -14,7 +14,7 @@ use Rattle.model.proofs.Ways.{upd-other, upd, Regs, Mem, way-stable}
 use Rattle.model.proofs.Conts.{Placed, cont-low, cont-placed}
 use Rattle.model.proofs.Parts.{Part}
 use Rattle.model.proofs.Marks.{Own, AltCode, Marked, Enabling, Disabling, AltPoint, pt-enable, pt-wait, pt-disable, pt-choose}
-use Rattle.model.proofs.Onwards.{AltSpare, AltWay, rest-fine, guarded-ready}
+use Rattle.model.proofs.Onwards.{AltSpare, AltWay, marked-same, rest-fine, guarded-ready}
 use Rattle.model.proofs.Trees.{Info}
 use Rattle.model.proofs.Kernel.{Loaded, S}
 use Rattle.model.proofs.Writes.{changed}
@@ -111,11 +111,10 @@ module _ (L : Loaded) (b : Part) (i : Info) (st : State) where
             base-kept = told .others w (λ z. absurd (omega (arith, state-low, same-w)))
 
             marks-kept : {hs : Guards} → Marked (S L) b st (i .vars) (i .chans) hs μ w → Marked (S L) b st₂ (i .vars) (i .chans) hs η w
-            marks-kept h y x z =
-                let f = told .others (S L .word y)
-                (chan-above L (cont-placed (S L) b (a .after)) (stateWord p) (omega (arith, state-low, same-w)) y x) in
-                let g = h y x (subst (Own b) f z) in
-                (f ∙ g .0, g .1)
+            marks-kept {hs} h =
+                marked-same (S L) b st₂ (i .vars) (i .chans) hs μ η w
+                (λ y x. told .others (S L .word y)
+                (chan-above L (cont-placed (S L) b (a .after)) (stateWord p) (omega (arith, state-low, same-w)) y x)) h
 
             enabling-told : {hs : Guards} → Enabling (S L) b st (i .vars) (i .chans) gs hs μ w
                 → Enabling (S L) b st₂ (i .vars) (i .chans) gs hs η w

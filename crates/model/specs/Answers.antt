@@ -93,7 +93,7 @@ refusedTake (TakeShort n) = refusal 11 (n ∷ [])
 refusedTake (TakeFault k) = refusedFault k
 refusedTake TakeNoChannel = refusal 13 []
 
--- a reading: rows 1 to 9, with the place
+-- a reading: rows 1 to 7 and 9, with the place
 abbrev pub refusedReading : Reading → Option Refusal
 refusedReading (Accepted f) = none
 refusedReading (Unread n p) = refusal n (p ∷ [])

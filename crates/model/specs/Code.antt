@@ -72,7 +72,7 @@ fitting room p code =
     (cond (leb (length code) room) (compiled p code) (refused 11 (length code)))
     (refused 10 0)
 
--- 10 and 11 are tested only where 1 to 9 pass
+-- 10 and 11 are tested only where the reader's refusals pass
 abbrev ofRead : (room : ℕ) → Read → Compilation
 ofRead room (program p) = fitting room p (codeOf p)
 ofRead room (unread n at) = refused n at

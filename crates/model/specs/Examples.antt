@@ -1,7 +1,7 @@
 -- The proved examples of 01 as one statement about the definitions. proofs/Examples.antt proves each part by computation.
 -- Bytes are hexadecimal, the rest decimal. Beside 01's list stand depth 33 and the depths of NOTs and, from GT on, operators by Occam's
 -- rules and, as a program that outputs what they give, in the machine; names of two scopes; and stored values (02, order 2).
-use Prim.Native.Nat.{ℕ, zero, suc}
+use Prim.Native.Nat.{ℕ, zero, suc, _≤_}
 use Prim.Native.String.{String, _++_}
 use mathlib.Core.Path.{_≡_}
 use mathlib.Core.List.{List, [], _∷_}
@@ -11,7 +11,7 @@ use Rattle.model.specs.Word.{minus, signed}
 use Rattle.model.specs.Syntax.{Site, PLUS, MINUS, TIMES, GT, AND, XOR, Expr, NOT, constant, binary, SKIP, assign, input, output, PAR}
 use Rattle.model.specs.Syntax.{ALT, noStmt, stmt, noGuard, skipGuard}
 use Rattle.model.specs.Reader.{refused}
-use Rattle.model.specs.Counts.{need}
+use Rattle.model.specs.Counts.{temporaries, need}
 use Rattle.model.specs.Accept.{accept}
 use Rattle.model.specs.Instruction.{Function, j, ldc, ajw, functionCode}
 use Rattle.model.specs.Prefix.{withPrefixes, fewest, distancePrefixes, decode}
@@ -90,8 +90,8 @@ pub record Examples : Type 0 where
   -- 2147483647 PLUS 1 is -2147483648. 1 AND 2 is 0
   pub plus : signed (operate PLUS 2147483647 1) ≡ negℤ (pos 2147483648)
   pub bits : operate AND 1 2 ≡ 0
-  -- PAR of an output and an input needs 9 words
-  pub words : (p n : ℕ) (c d x : Site) → need (PAR p (stmt (output c (constant n)) (stmt (input d x) noStmt))) ≡ 9
+  -- PAR of an output and an input needs 9 words, where the output's expression holds at most one stored value (02, order 2)
+  pub words : (p : ℕ) (c d x : Site) (e : Expr) → temporaries e ≤ 1 → need (PAR p (stmt (output c e) (stmt (input d x) noStmt))) ≡ 9
   -- 00 00 07 00 has no code and ends after 0
   pub no-code : Prints (0x00 ∷ 0x00 ∷ 0x07 ∷ 0x00 ∷ []) "bytes 0\nwords 2\ncode\nended 0\n"
   -- 00 00 01 is 21 F5 and waits
