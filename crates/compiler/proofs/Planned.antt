@@ -1,5 +1,5 @@
 -- What a table's plan tells of each expression that the table spells: the place after it, its registers and its stored values.
-use Prim.Native.Nat.{ℕ, zero, suc, _^_, _≤_, _<_, min, max}
+use Prim.Native.Nat.{ℕ, zero, suc, _^_, _≤_, _<_, min}
 use native.Mathlib.Omega.{arith}
 use native.Mathlib.Decide.{decLe}
 use mathlib.Core.Path.{_≡_, ap, _∙_}
@@ -7,8 +7,9 @@ use mathlib.Core.List.{List}
 use lib.ListN.{length, length-set, length-replicate, set, replicate}
 use lib.Seq.{getD-set-same, getD-set-other}
 use borrow.Author.Tests.{lt-ltb}
-use Rattle.model.specs.Syntax.{Site, Expr, constant, variable, NOT, binary}
-use Rattle.model.specs.Counts.{Order, leftFirst, rightFirst, rightStored, order, sidesNeed, sidesHold, registers, temporaries}
+use Rattle.model.specs.Syntax.{Site, Expr, constant, variable, binary}
+use Rattle.model.specs.Counts.{order, registers, temporaries}
+use Rattle.model.proofs.Needs.{registers-three, sides-hold}
 use Rattle.numbers.specs.declared.Value.{Value}
 use Rattle.emitter.specs.Plans.{nextOf, entry, nextIn, registersIn, storedIn, planAt, sidesEntry, entryAt, plannedBelow, planOf}
 use Rattle.compiler.proofs.Spelled.{NumeralAt, ExprAt, constantAt, variableAt, notAt, binaryAt}
@@ -19,24 +20,11 @@ pub record Tells (x n : ℕ) (e : Expr) : Type 0 where
   pub needs : registersIn x ≡ registers e
   pub holds : storedIn x ≡ temporaries e
 
-registers-few : (e : Expr) → registers e ≤ 3
-unfolding registers sidesNeed
-registers-few (constant v) = omega arith
-registers-few (variable x) = omega arith
-registers-few (NOT e) = registers-few e
-registers-few (binary op l r) = omega arith
-
 entry-tells : (n : ℕ) (e : Expr) → n < 2 ^ 22 → temporaries e ≤ 255 → Tells (entry n (registers e) (temporaries e)) n e
 unfolding entry nextIn registersIn storedIn
 entry-tells n e l m =
-    let few = registers-few e in
+    let few = registers-three e in
     record { next = omega arith; needs = omega arith; holds = omega arith }
-
-sides-hold : (o : Order) (l r : ℕ) → sidesHold o l r ≤ suc (max l r)
-unfolding sidesHold
-sides-hold leftFirst l r = omega arith
-sides-hold rightFirst l r = omega arith
-sides-hold rightStored l r = omega arith
 
 module _ (s : List ℕ) where
   pub next-is : {i v n : ℕ} → NumeralAt s i v n → nextOf s i ≡ n

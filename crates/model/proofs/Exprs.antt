@@ -26,6 +26,7 @@ use Rattle.model.proofs.Ways.{quiet, loads, stores, reloads, quiet-ldc,
 use Rattle.model.proofs.Ways.{quiet-eqc, quiet-sum, quiet-diff, quiet-prod, quiet-gt, quiet-and, quiet-or, quiet-xor}
 use Rattle.model.proofs.Values.{FineExpr, eq-words, gt-words, eval-word}
 use Rattle.model.proofs.Parts.{lowered}
+use Rattle.model.proofs.Needs.{sides-two, registers-pos, registers-three, both-two}
 
 -- which order two sides have, by the registers that they need
 pub data Ordered (l r : ℕ) : Order → Type 0 where
@@ -42,36 +43,6 @@ ordered l r =
     (λ g. rw (e, f, g) (right-stored (eqb-true l registerLimit f) (eqb-true r registerLimit g)))
     (λ g. rw (e, f, g) (left-first (ltb-false l r e) (λ a b. eqb-false r registerLimit g b))))
     (λ f. rw (e, f) (left-first (ltb-false l r e) (λ a b. eqb-false l registerLimit f a))))
-
--- an operator needs two registers at least, and never over 3
-sides-two : (l r : ℕ) → 1 ≤ l → 1 ≤ r → 2 ≤ sidesNeed l r
-unfolding sidesNeed
-sides-two l r h k = by-bool (eqb l r) (λ e. rw e (omega arith)) (λ e. let d = eqb-false l r e in rw e (omega arith))
-
-sides-three : (l r : ℕ) → sidesNeed l r ≤ 3
-unfolding sidesNeed
-sides-three l r = omega arith
-
-registers-pos : (e : Expr) → 1 ≤ registers e
-unfolding registers
-registers-pos (constant n) = omega arith
-registers-pos (variable x) = omega arith
-registers-pos (NOT e) = registers-pos e
-registers-pos (binary op l r) = omega (arith, sides-two (registers l) (registers r) (registers-pos l) (registers-pos r))
-
-pub registers-three : (e : Expr) → registers e ≤ 3
-unfolding registers
-registers-three (constant n) = omega arith
-registers-three (variable x) = omega arith
-registers-three (NOT e) = registers-three e
-registers-three (binary op l r) = sides-three (registers l) (registers r)
-
--- where two sides need no more than two registers, one of them needs one
-both-two : (l r : ℕ) → 1 ≤ l → 1 ≤ r → sidesNeed l r ≤ 2 → (l ≤ 2) × (r ≤ 2) × (l + r ≤ 3)
-unfolding sidesNeed
-both-two l r h k b =
-    by-bool (eqb l r) (λ e. let s = eqb-true l r e in let c = rw e at b in (omega arith, omega arith, omega arith))
-    (λ e. let d = eqb-false l r e in let c = rw e at b in (omega arith, omega arith, omega arith))
 
 -- what an expression's code does to memory and registers, at w and with h values held before: words below those of its own stored values
 -- and words above them stay

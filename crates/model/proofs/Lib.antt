@@ -1,6 +1,7 @@
 pub mod Cases
 pub mod Paths
 pub mod Most
+pub mod Needs
 pub mod Well
 pub mod Readers
 pub mod Accepts

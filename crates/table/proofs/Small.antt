@@ -9,7 +9,8 @@ use lib.Dec.{ltb, leb, eqb}
 use borrow.Author.Tests.{leb-false, ltb-false}
 use Rattle.model.proofs.Cases.{by-bool, of-cond}
 use Rattle.numbers.specs.Items.{groupsAt, betweenAt, nameAt, deepAt, withNumber, withItem}
-use Rattle.model.specs.Counts.{Order, leftFirst, rightFirst, rightStored, sidesNeed, orderOf, sidesHold, guardWords}
+use Rattle.model.specs.Counts.{orderOf, guardWords}
+use Rattle.model.proofs.Needs.{sides-hold}
 use Rattle.table.specs.Exprs.{withExpr, leafAt, sides, exprAt}
 use Rattle.table.specs.Stmts.{asked, wholeAt, variableAt, inputAt, withHead, withStmt}
 use Rattle.table.specs.Stmts.{outputAt, leaf, valueAt, takenAt, simpleAt, guardAt, headAt, nothing, added, partAt, mostFrom}
@@ -136,24 +137,13 @@ leaf-in k vs s at =
     (of-cond (InItem at (length s)) (eqb k 0) (between-in 0 4294967295 s at) (name-in vs 0 0 s at)) (λ v n h.
     (h .0, h .1, omega (arith, h .0)))
 
--- an operator needs at most 3 registers, and its left side holds at most one value beside its own
-pub need-most : (l r : ℕ) → sidesNeed l r ≤ 3
-unfolding sidesNeed
-need-most l r = omega arith
-
-pub hold-most : (o : Order) (l r : ℕ) → sidesHold o l r ≤ max (l + 1) r
-unfolding sidesHold
-hold-most leftFirst l r = omega arith
-hold-most rightFirst l r = omega arith
-hold-most rightStored l r = omega arith
-
 sides-in : (inner : ℕ → ExprRead) (at len : ℕ) → ((i : ℕ) → InExpr i len (inner i)) → InExpr at len (sides inner at)
 sides-in inner at len h =
     of-expr (InExpr at len) (InExpr at len) (λ k p. tt) (inner at) (h at) (λ l a.
     of-expr (InExpr at len) (InExpr (l .next) len) (λ k p. tt) (inner (l .next)) (h (l .next)) (λ r b. (
       omega (arith, a .0, b .0),
       b .1,
-      omega (arith, a .0, a .2, b .0, b .2, hold-most (orderOf (l .registers) (r .registers)) (l .stored) (r .stored)),
+      omega (arith, a .0, a .2, b .0, b .2, sides-hold (orderOf (l .registers) (r .registers)) (l .stored) (r .stored)),
     )))
 
 expr-in : (d vs : ℕ) (s : List ℕ) (at : ℕ) → InExpr at (length s) (exprAt d vs s at)

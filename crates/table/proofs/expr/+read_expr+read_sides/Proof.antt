@@ -30,7 +30,7 @@ use Rattle.numbers.specs.declared.Item.the-variants.{Item as Found, Refused}
 use Rattle.numbers.specs.declared.NumberRead.{NumberRead}
 use Rattle.numbers.specs.declared.NumberRead.the-variants.{Number, Bad}
 use Rattle.model.specs.Counts.{orderOf}
-use Rattle.table.proofs.Small.{need-most, hold-most}
+use Rattle.model.proofs.Needs.{sides-three, sides-hold}
 use Rattle.table.specs.declared.expr.Term.{Term}
 use Rattle.table.specs.declared.expr.ExprRead.{ExprRead}
 use Rattle.table.specs.declared.expr.ExprRead.the-variants.{Expr, Refused as NoExpr}
@@ -72,7 +72,7 @@ within-more d (NoExpr k a) p = tt
 joined-within : (d : ℕ) (l r : Term) → Within (Expr l) (d - 1) → Within (Expr r) (d - 1) → Within (joined l r) d
 joined-within d l r p q =
     let o = orderOf (l .registers) (r .registers) in
-    (need-most (l .registers) (r .registers), omega (arith, p .1, q .1, hold-most o (l .stored) (r .stored)))
+    (sides-three (l .registers) (r .registers), omega (arith, p .1, q .1, sides-hold o (l .stored) (r .stored)))
 
 abbrev μ-read-expr : Measures 1 read-expr-kinds.ps ℕ
 μ-read-expr κs a = 2 * a .1 .1 .0
