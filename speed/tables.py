@@ -1,14 +1,23 @@
-"""Tables for measuring the compiler, written to standard output.
+"""Tables for measuring reader and compiler, written to standard output: tables.py NAME [BYTES], by default 16,384.
 
-tables.py left | right   one assignment of 30 levels, the most there can be, in a table of 16,384 bytes: along a spine of 22 operators, which goes
-                         down on the left or on the right, both sides of each need 3 registers
-tables.py chains         assignments of 27 sums each, which go down on the left and store nothing
-tables.py small          a thousand assignments of sums of four constants
+left, right   one assignment of 30 levels, the most there can be: along a spine of 22 operators, which goes down on the left or on the
+              right, both sides of each need 3 registers (16,384 bytes only)
+chains        assignments of 27 sums each, which go down on the left and store nothing (16,384 bytes only)
+small         assignments of sums of four constants (at most 1,024 of them)
+pars          PARs of 16 branches, nested 26 deep: 15 SKIPs and the next PAR, in SEQs
+names         PARs of 16 SKIPs in SEQs, with 448 variables and 416 channels in scope
+twos          26 PARs of two, one inside the other, around SEQs of assignments
+branches      PARs of four assignments to four variables each, in SEQs
+ones, none    PARs of one SKIP, PARs without branches, in SEQs
+alts          ALTs of one SKIP guard, nested 26 deep around SEQs of assignments
+skips, scopes SEQs of SKIPs, SEQs of VARs of 32 with a SKIP
 """
 
 import sys
 
 LEAF = [0, 1]
+SKIP = [0]
+LONG = [0, 255, 255, 255, 255, 15]
 
 
 def plus(left, right):
@@ -36,26 +45,73 @@ def spine(join):
     return rest
 
 
-def assigned(expression):
-    return [2, 0] + expression
+def assigned(expression, variable=0):
+    return [2, variable] + expression
+
+
+def parts(kind, statements):
+    return [kind, len(statements)] + [b for s in statements for b in s]
+
+
+def par(statements):
+    return parts(8, statements)
+
+
+def in_sequences(statements):
+    """SEQs of 32, in as few levels as there can be."""
+    while len(statements) > 1:
+        statements = [parts(7, statements[i : i + 32]) for i in range(0, len(statements), 32)]
+    return statements[0]
+
+
+def repeated(statement, size):
+    """So many of a statement in SEQs that they have at most size bytes."""
+    count = max(1, size // len(statement))
+    while len(in_sequences([statement] * count)) > size:
+        count -= 1
+    return in_sequences([statement] * count)
+
+
+def nested(levels, around, statement):
+    for _ in range(levels):
+        statement = around(statement)
+    return statement
 
 
 def in_variable(statement):
     return [0, 0, 5, 1] + statement
 
 
-def in_sequences(statements):
-    groups = [statements[i : i + 32] for i in range(0, len(statements), 32)]
-    return in_variable([7, len(groups)] + [b for g in groups for b in [7, len(g)] + [c for s in g for c in s]])
+def with_names(size):
+    before = [0, 0] + [5, 32] * 14 + [6, 32] * 13
+    return before + repeated(par([SKIP] * 16), size - len(before))
+
+
+def in_pars(size):
+    return in_variable(nested(26, lambda s: par([s, SKIP]), repeated(assigned(plus(LONG, LONG)), size - 82)))
+
+
+def in_alts(size):
+    return in_variable(nested(26, lambda s: [11, 1, 1] + LEAF + s, repeated(assigned(plus(LONG, LONG)), size - 134)))
 
 
 TABLES = {
-    "left": lambda: in_variable(assigned(spine(lambda rest, side: plus(rest, side)))),
-    "right": lambda: in_variable(assigned(spine(lambda rest, side: plus(side, rest)))),
-    "chains": lambda: in_sequences([assigned(chain(27))] * 143),
-    "small": lambda: in_sequences([assigned(balanced(2))] * 1000),
+    "left": lambda size: in_variable(assigned(spine(lambda rest, side: plus(rest, side)))),
+    "right": lambda size: in_variable(assigned(spine(lambda rest, side: plus(side, rest)))),
+    "chains": lambda size: in_variable(in_sequences([assigned(chain(27))] * 143)),
+    "small": lambda size: in_variable(repeated(assigned(balanced(2)), size - 4)),
+    "pars": lambda size: [0, 0] + repeated(nested(26, lambda s: par([SKIP] * 15 + [s]), SKIP), size - 2),
+    "names": with_names,
+    "twos": in_pars,
+    "branches": lambda size: [0, 0, 5, 4] + repeated(par([assigned(LEAF, v) for v in range(4)]), size - 4),
+    "ones": lambda size: [0, 0] + repeated(par([SKIP]), size - 2),
+    "none": lambda size: [0, 0] + repeated(par([]), size - 2),
+    "alts": in_alts,
+    "skips": lambda size: [0, 0] + repeated(SKIP, size - 2),
+    "scopes": lambda size: [0, 0] + repeated([5, 32] + SKIP, size - 2),
 }
 
-table = bytes(TABLES[sys.argv[1]]())
-assert len(table) <= 16384
+size = int(sys.argv[2]) if len(sys.argv) > 2 else 16384
+table = bytes(TABLES[sys.argv[1]](size))
+assert len(table) <= size
 sys.stdout.buffer.write(table)

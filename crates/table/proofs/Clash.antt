@@ -1,102 +1,26 @@
 -- The sets of the branches of a PAR, against the clashes of the model.
-use Prim.Native.Nat.{ℕ, zero, suc, _+_, _≤_, _<_}
+use Prim.Native.Nat.{ℕ, zero, suc, _+_, _*_, _/_, _%_, _≤_, _<_}
 use native.Mathlib.Omega.{arith}
+use native.Mathlib.Decide.{decLe}
 use mathlib.Core.Path.{_≡_, refl, sym, ap, _∙_}
-use mathlib.Core.Logic.{_≢_}
-use mathlib.Core.Bool.{Bool, true, false, _&&_, _||_, or-false, or-true, or-assoc, and-eq-true-iff}
+use mathlib.Core.Logic.{_⊎_, inl, inr, ⊎-elim}
+use mathlib.Core.Bool.{Bool, true, false, _&&_, _||_, or-true, or-assoc, and-eq-true-iff}
 use mathlib.Core.List.{List, [], _∷_, _++_}
-use lib.ListN.{length, getD, getElem?, set, replicate, length-set, length-replicate, getD-replicate}
-use lib.Seq.{getD-set-same, getD-set-other}
-use lib.Dec.{ltb, eqb}
-use borrow.Author.Tests.{lt-ltb, le-ltb, ltb-true, ltb-false, eqb-true, eqb-false}
-use Rattle.model.proofs.Cases.{by-bool, by-option, never}
+use lib.ListN.{length, drop}
+use lib.Dec.{ltb}
+use lib.Bits.{bitAnd, bitOr, or-add-and, and-le-l, and-le-r}
+use borrow.Author.Tests.{lt-ltb, ltb-true}
+use Rattle.model.proofs.Cases.{by-bool, never}
 use Rattle.model.proofs.Sites.{same-refl, same-eq}
-use Rattle.model.specs.Syntax.{Site, Stmts, noStmt, stmt}
-use Rattle.model.specs.Usage.{Usage, nothing, _⊕_, usage, same, isIn, share, clash, clashesLater, anyClash}
-use Rattle.table.specs.Uses.{met, merged}
 use Rattle.model.proofs.Points.{getElem-inside as inside}
-use Rattle.table.proofs.Marks.{Field, changed, used-there, inputs-of, outputs-of, base, field, names-of, hit, Marked}
-use Rattle.table.proofs.Marks.{hit-append, hit-none, field-both, field-nothing, base-low, isIn-append, InScope}
-
--- the sets of a usage: of the names in scope, those that it has
-pub record Sets (vs cs : List Site) (u : Usage) (marks : List ℕ) : Type 0 where
-  pub long : length marks ≡ 4096
-  pub sets : (f : Field) (k : ℕ) → k < 1024 → eqb (getD marks (base f + k) 0) 1 ≡ hit (names-of f vs cs) k (field f u)
-
--- a set that is still empty, of any length
-unset : (n i : ℕ) → i < n → eqb (getD (replicate n 0) i 0) 1 ≡ false
-unset n i h = rw (getD-replicate {A = ℕ} n i 0 0 h) refl
-
-pub sets-of-marked : {vs cs : List Site} {u : Usage} {marks : List ℕ} → Marked vs cs (replicate 4096 0) u marks → Sets vs cs u marks
-sets-of-marked {vs} {cs} {u} {marks} t =
-    record {
-      long = t .long ∙ length-replicate {A = ℕ} 4096 0;
-      sets = λ f k h. t .marked f k h ∙ rw (unset 4096 (base f + k) (omega (arith, base-low f, h))) refl;
-    }
-
-pub sets-nothing : (vs cs : List Site) → Sets vs cs nothing (replicate 4096 0)
-sets-nothing vs cs =
-    record {
-      long = length-replicate {A = ℕ} 4096 0;
-      sets =
-          λ f k h.
-          rw (unset 4096 (base f + k) (omega (arith, base-low f, h)), field-nothing f, hit-none (getElem? (names-of f vs cs) k)) refl;
-    }
-
-merged-length : (n : ℕ) (b m : List ℕ) → length (merged n b m) ≡ length b
-unfolding merged
-merged-length zero b m = refl
-merged-length (suc k) b m =
-    by-bool (eqb (getD m k 0) 1) (λ e. rw e (merged-length k (set b k 1) m ∙ length-set b k 1)) (λ e. rw e (merged-length k b m))
-
--- a place is set where it was, or where the branch sets it. `merged` goes from the top, so the claim is about any n
-merged-at : (n : ℕ) (b m : List ℕ) (i : ℕ) → n ≤ length b
-    → eqb (getD (merged n b m) i 0) 1 ≡ (eqb (getD b i 0) 1 || ltb i n && eqb (getD m i 0) 1)
-unfolding merged
-merged-at zero b m i h = rw (le-ltb i 0 (omega arith)) (sym (or-false (eqb (getD b i 0) 1)))
-merged-at (suc k) b m i h =
-    by-bool (eqb (getD m k 0) 1)
-    (λ e. rw e (merged-at k (set b k 1) m i (rw (length-set b k 1) (omega (arith, h))) ∙ marked e))
-    (λ e. rw e (merged-at k b m i (omega (arith, h)) ∙ unmarked e))
-  where
-    below : i ≢ k → ltb i k ≡ ltb i (suc k)
-    below d =
-        by-bool (ltb i k)
-        (λ q. rw (q, lt-ltb i (suc k) (omega (arith, ltb-true i k q))) refl)
-        (λ q. rw (q, le-ltb i (suc k) (omega (arith, d, ltb-false i k q))) refl)
-
-    marked : eqb (getD m k 0) 1 ≡ true
-        → (eqb (getD (set b k 1) i 0) 1 || ltb i k && eqb (getD m i 0) 1) ≡ (eqb (getD b i 0) 1 || ltb i (suc k) && eqb (getD m i 0) 1)
-    marked e =
-        by-bool (eqb i k)
-        (λ q. let s : i ≡ k = eqb-true i k q in
-        rw (s, getD-set-same b k 1 0 (omega (arith, h)), lt-ltb k (suc k) (omega arith), e) (sym (or-true (eqb (getD b k 0) 1))))
-        (λ q. let d : i ≢ k = eqb-false i k q in
-        rw (getD-set-other b k i 1 0 d, below d) refl)
-
-    unmarked : eqb (getD m k 0) 1 ≡ false
-        → (eqb (getD b i 0) 1 || ltb i k && eqb (getD m i 0) 1) ≡ (eqb (getD b i 0) 1 || ltb i (suc k) && eqb (getD m i 0) 1)
-    unmarked e =
-        by-bool (eqb i k)
-        (λ q. let s : i ≡ k = eqb-true i k q in
-        rw (s, lt-ltb k (suc k) (omega arith), le-ltb k k (omega arith), e) refl)
-        (λ q. let d : i ≢ k = eqb-false i k q in rw (below d) refl)
-
-pub sets-both : (vs cs : List Site) (u v : Usage) (b m : List ℕ) → Sets vs cs u b → Sets vs cs v m → Sets vs cs (u ⊕ v) (merged 4096 b m)
-sets-both vs cs u v b m p q =
-    record {
-      long = merged-length 4096 b m ∙ p .long;
-      sets =
-          λ f k h.
-          rw (
-            merged-at 4096 b m (base f + k) (omega (arith, p .long)),
-            lt-ltb (base f + k) 4096 (omega (arith, base-low f, h)),
-            p .sets f k h,
-            q .sets f k h,
-            field-both f u v,
-            hit-append (getElem? (names-of f vs cs) k) (field f u) (field f v),
-          ) refl;
-    }
+use Rattle.model.specs.Syntax.{Site, Stmts, noStmt, stmt}
+use Rattle.model.specs.Reader.{Scope}
+use Rattle.model.specs.Usage.{Usage, nothing, _⊕_, usage, same, isIn, share, clash, clashesLater, anyClash}
+use Rattle.table.specs.Uses.{noNames, metAt, metBelow, clashing}
+use Rattle.table.specs.Sets.{wordOf}
+use Rattle.table.proofs.Words.{word-and, word-has, word-some}
+use Rattle.table.proofs.Marks.{changed, used-there, inputs-of, outputs-of, Marked, own-word}
+use Rattle.table.proofs.Marks.{isIn-append, InScope, or-cases, drop-at}
 
 -- two tests that hold together are one
 together : (a b : Bool) → (a ≡ true → b ≡ true) → (b ≡ true → a ≡ true) → a ≡ b
@@ -121,43 +45,167 @@ share-of (y ∷ xs) ys x e h =
     (λ s. let one : y ≡ x = sym (same-eq x y s) in rw (one, h) refl)
     (λ s. rw (share-of xs ys x (rw s at e) h) (or-true (isIn y ys)))
 
--- a test holds of a number below n
-unfoldable any : (ℕ → Bool) → ℕ → Bool
-any p zero = false
-any p (suc k) = p k || any p k
+-- something is in a union if it is in one of the two
+in-union : (a b : ℕ) → 0 < bitOr a b → (0 < a) ⊎ (0 < b)
+in-union a b h = elim (decLe 1 a) [
+  | yes l ↦ inl l
+  | no l ↦ inr (omega (arith, or-add-and a b))
+]
 
-any-has : (p : ℕ → Bool) (n : ℕ) → any p n ≡ true → (k : ℕ) × (p k ≡ true)
-unfolding any
-any-has p zero e = never (cc)
-any-has p (suc k) e = by-bool (p k) (λ h. (k, h)) (λ h. any-has p k (rw h at e))
+left-in : (a b : ℕ) → 0 < a → 0 < bitOr a b
+left-in a b h = omega (arith, or-add-and a b, and-le-r a b)
 
-any-of : (p : ℕ → Bool) (n k : ℕ) → k < n → p k ≡ true → any p n ≡ true
-unfolding any
-any-of p zero k l e = absurd (omega (arith, l))
-any-of p (suc n) k l e =
-    by-bool (eqb k n)
-    (λ s. let one : n ≡ k = sym (eqb-true k n s) in rw (one, e) refl)
-    (λ s. rw (any-of p n k (omega (arith, l, eqb-false k n s)) e) (or-true (p n)))
+right-in : (a b : ℕ) → 0 < b → 0 < bitOr a b
+right-in a b h = omega (arith, or-add-and a b, and-le-l a b)
 
--- both lists have the name of a number
-abbrev both : List Site → List Site → List Site → ℕ → Bool
-both names xs ys k = hit names k xs && hit names k ys
+-- what is found below word k was there or is in one of the words
+met-has : (k x : ℕ) (b m : List ℕ) → 0 < metBelow k x b m → (0 < x) ⊎ ((j : ℕ) × (j < k) × (0 < metAt j b m))
+unfolding metBelow
+met-has zero x b m h = inl h
+met-has (suc k) x b m h =
+    ⊎-elim (λ g. ⊎-elim (λ i. inl i) (λ i. inr (k, omega arith, i)) (in-union x (metAt k b m) g))
+    (λ r. inr (r .0, omega (arith, r .1), r .2)) (met-has k (bitOr x (metAt k b m)) b m h)
 
--- a name that both have has a number, so to look through the numbers is to look through the lists
-any-share : (names xs ys : List Site) (n : ℕ) → length names ≤ n
-    → ((x : Site) → isIn x xs ≡ true → isIn x ys ≡ true → InScope names x) → any (both names xs ys) n ≡ share xs ys
-any-share names xs ys n l scope =
-    together (any (both names xs ys) n) (share xs ys)
-    (λ e. let t = any-has (both names xs ys) n e in found (t .0) (t .1))
-    (λ e. let t = share-has xs ys e in
-    let w = scope (t .0) (t .1) (t .2) in
-    any-of (both names xs ys) n (w .0) (omega (arith, l, inside names (w .0) (w .1))) (rw (w .1, t .1, t .2) refl))
+met-keeps : (k x : ℕ) (b m : List ℕ) → 0 < x → 0 < metBelow k x b m
+unfolding metBelow
+met-keeps zero x b m h = h
+met-keeps (suc k) x b m h = met-keeps k (bitOr x (metAt k b m)) b m (left-in x (metAt k b m) h)
+
+met-of : (k x : ℕ) (b m : List ℕ) (j : ℕ) → j < k → 0 < metAt j b m → 0 < metBelow k x b m
+unfolding metBelow
+met-of zero x b m j l h = absurd (omega (arith, l))
+met-of (suc k) x b m j l h = elim (decLe k j) [
+  | yes top ↦
+      let e : j ≡ k = omega (arith, l, top) in
+      met-keeps k (bitOr x (metAt k b m)) b m (right-in x (metAt k b m) (rw e at h))
+  | no low ↦ met-of k (bitOr x (metAt k b m)) b m j (omega (arith, low)) h
+]
+
+-- the names of one word that two lists have
+abbrev inBoth : (names xs ys : List Site) → ℕ → ℕ
+inBoth names xs ys i = bitAnd (wordOf 64 (λ x. isIn x xs) (drop (64 * i) names)) (wordOf 64 (λ x. isIn x ys) (drop (64 * i) names))
+
+-- a name that both have is in a word of both, and the other way round
+both-share : (names xs ys : List Site) (i : ℕ) → 0 < inBoth names xs ys i → share xs ys ≡ true
+both-share names xs ys i h =
+    let here = drop (64 * i) names in
+    let r = word-has 64 (λ x. isIn x xs && isIn x ys) here (rw (word-and 64 (λ x. isIn x xs) (λ x. isIn x ys) here) at h) in
+    let t = and-eq-true-iff (isIn (r .1) xs) (isIn (r .1) ys) .0 (r .3) in
+    share-of xs ys (r .1) (t .0) (t .1)
+
+share-both : (names xs ys : List Site) → length names ≤ 1024 → ((x : Site) → isIn x xs ≡ true → isIn x ys ≡ true → InScope names x)
+    → share xs ys ≡ true → (i : ℕ) × (i < 16) × (0 < inBoth names xs ys i)
+share-both names xs ys few scope e =
+    let t = share-has xs ys e in
+    let k = scope (t .0) (t .1) (t .2) in
+    let v = k .0 in
+    let low : v < 1024 = omega (arith, few, inside names v (k .1)) in
+    let at : 64 * (v / 64) + v % 64 ≡ v = omega arith in (
+      v / 64,
+      omega (arith, low),
+      rw (word-and 64 (λ x. isIn x xs) (λ x. isIn x ys) (drop (64 * (v / 64)) names))
+          (word-some 64 (λ x. isIn x xs && isIn x ys) (drop (64 * (v / 64)) names) (v % 64) (t .0) (omega arith)
+          (drop-at (64 * (v / 64)) (v % 64) names ∙ rw at (k .1)) (rw (t .1, t .2) refl)),
+    )
+
+-- one word of what the check looks for, by the usages
+met-word : (sc : Scope) (u v : Usage) (b m : List ℕ) (k : ℕ) → k < 16 → Marked sc noNames u b → Marked sc noNames v m
+    → metAt k b m
+    ≡ bitOr
+    (bitOr
+    (bitOr (inBoth (sc .variables) (u .changes) (v .uses) k) (inBoth (sc .variables) (v .changes) (u .uses) k))
+    (inBoth (sc .channels) (u .inputs) (v .inputs) k))
+    (inBoth (sc .channels) (u .outputs) (v .outputs) k)
+unfolding metAt
+met-word sc u v b m k l p q =
+    let e : 0 + k ≡ k = omega arith in
+    rw (
+      rw e at (own-word changed k l p),
+      rw e at (own-word changed k l q),
+      own-word used-there k l p,
+      own-word used-there k l q,
+      own-word inputs-of k l p,
+      own-word inputs-of k l q,
+      own-word outputs-of k l p,
+      own-word outputs-of k l q,
+    ) refl
+
+-- the check sees what the model sees, if the names that two branches share are in scope
+pub clashing-is : (sc : Scope) (u v : Usage) (b m : List ℕ) → Marked sc noNames u b → Marked sc noNames v m
+    → length (sc .variables) ≤ 1024 → length (sc .channels) ≤ 1024
+    → ((x : Site) → isIn x (u .changes) ≡ true → isIn x (v .uses) ≡ true → InScope (sc .variables) x)
+    → ((x : Site) → isIn x (v .changes) ≡ true → isIn x (u .uses) ≡ true → InScope (sc .variables) x)
+    → ((x : Site) → isIn x (u .inputs) ≡ true → isIn x (v .inputs) ≡ true → InScope (sc .channels) x)
+    → ((x : Site) → isIn x (u .outputs) ≡ true → isIn x (v .outputs) ≡ true → InScope (sc .channels) x)
+    → clashing b m ≡ clash u v
+unfolding clashing clash
+clashing-is sc u v b m p q few-vs few-cs first second third fourth =
+    together (ltb 0 (metBelow 16 0 b m)) (one || two || three || last)
+    (λ e. ⊎-elim (λ h. absurd (omega (arith, h))) (λ r. found (r .0) (rw (met-word sc u v b m (r .0) (r .1) p q) at (r .2)))
+    (met-has 16 0 b m (ltb-true 0 (metBelow 16 0 b m) e)))
+    (λ e. or-cases (one || two || three) last e
+    (λ e. or-cases (one || two) three e
+    (λ e. or-cases one two e
+    (λ h. let r = share-both vs (u .changes) (v .uses) few-vs first h in
+    meets (r .0) (r .1) (in-three (r .0) (in-two (r .0) (left-in (A (r .0)) (B (r .0)) (r .2)))))
+    (λ h. let r = share-both vs (v .changes) (u .uses) few-vs second h in
+    meets (r .0) (r .1) (in-three (r .0) (in-two (r .0) (right-in (A (r .0)) (B (r .0)) (r .2))))))
+    (λ h. let r = share-both cs (u .inputs) (v .inputs) few-cs third h in
+    meets (r .0) (r .1) (in-three (r .0) (right-in (bitOr (A (r .0)) (B (r .0))) (C (r .0)) (r .2)))))
+    (λ h. let r = share-both cs (u .outputs) (v .outputs) few-cs fourth h in
+    meets (r .0) (r .1) (right-in (bitOr (bitOr (A (r .0)) (B (r .0))) (C (r .0))) (D (r .0)) (r .2))))
   where
-    found : (k : ℕ) → both names xs ys k ≡ true → share xs ys ≡ true
-    found k e =
-        by-option (getElem? names k)
-        (λ f. never (cc (rw f at e)))
-        (λ x f. let t = and-eq-true-iff (isIn x xs) (isIn x ys) .0 (rw f at e) in share-of xs ys x (t .0) (t .1))
+    vs : List Site
+    vs = sc .variables
+
+    cs : List Site
+    cs = sc .channels
+
+    one : Bool
+    one = share (u .changes) (v .uses)
+
+    two : Bool
+    two = share (v .changes) (u .uses)
+
+    three : Bool
+    three = share (u .inputs) (v .inputs)
+
+    last : Bool
+    last = share (u .outputs) (v .outputs)
+
+    A : ℕ → ℕ
+    A k = inBoth (sc .variables) (u .changes) (v .uses) k
+
+    B : ℕ → ℕ
+    B k = inBoth (sc .variables) (v .changes) (u .uses) k
+
+    C : ℕ → ℕ
+    C k = inBoth (sc .channels) (u .inputs) (v .inputs) k
+
+    D : ℕ → ℕ
+    D k = inBoth (sc .channels) (u .outputs) (v .outputs) k
+
+    in-two : (k : ℕ) → 0 < bitOr (A k) (B k) → 0 < bitOr (bitOr (A k) (B k)) (C k)
+    in-two k h = left-in (bitOr (A k) (B k)) (C k) h
+
+    in-three : (k : ℕ) → 0 < bitOr (bitOr (A k) (B k)) (C k) → 0 < bitOr (bitOr (bitOr (A k) (B k)) (C k)) (D k)
+    in-three k h = left-in (bitOr (bitOr (A k) (B k)) (C k)) (D k) h
+
+    meets : (k : ℕ) → k < 16 → 0 < bitOr (bitOr (bitOr (A k) (B k)) (C k)) (D k) → ltb 0 (metBelow 16 0 b m) ≡ true
+    meets k l h = lt-ltb 0 (metBelow 16 0 b m) (met-of 16 0 b m k l (rw (met-word sc u v b m k l p q) h))
+
+    found : (k : ℕ) → 0 < bitOr (bitOr (bitOr (A k) (B k)) (C k)) (D k) → (one || two || three || last) ≡ true
+    found k h =
+        ⊎-elim
+        (λ h. ⊎-elim
+        (λ h. ⊎-elim
+        (λ h. rw (both-share vs (u .changes) (v .uses) k h) refl)
+        (λ h. rw (both-share vs (v .changes) (u .uses) k h, or-true one) refl)
+        (in-union (A k) (B k) h))
+        (λ h. rw (both-share cs (u .inputs) (v .inputs) k h, or-true (one || two)) refl)
+        (in-union (bitOr (A k) (B k)) (C k) h))
+        (λ h. rw (both-share cs (u .outputs) (v .outputs) k h) (or-true (one || two || three)))
+        (in-union (bitOr (bitOr (A k) (B k)) (C k)) (D k) h)
 
 -- four tests of one thing, before four of another
 four : (a b c d e f g h : Bool) → ((a || b || c || d) || (e || f || g || h)) ≡ ((a || e) || (b || f) || (c || g) || (d || h))
@@ -166,50 +214,6 @@ four false true c d e f g h = rw (or-true e) refl
 four false false true d e f g h = rw (or-true (e || f)) refl
 four false false false true e f g h = sym (or-true (e || f || g))
 four false false false false e f g h = refl
-
--- `met` looks for four things at once, the model for one after the other
-met-any : (vs cs : List Site) (u v : Usage) (b m : List ℕ) → Sets vs cs u b → Sets vs cs v m → (n : ℕ) → n ≤ 1024
-    → met n b m
-    ≡ (any (both vs (u .changes) (v .uses)) n || any (both vs (v .changes) (u .uses)) n
-    || any (both cs (u .inputs) (v .inputs)) n || any (both cs (u .outputs) (v .outputs)) n)
-unfolding met any
-met-any vs cs u v b m p q zero l = refl
-met-any vs cs u v b m p q (suc k) l =
-    let one = both vs (u .changes) (v .uses) in
-    let two = both vs (v .changes) (u .uses) in
-    let three = both cs (u .inputs) (v .inputs) in
-    let last = both cs (u .outputs) (v .outputs) in
-    rw (
-      first b u p,
-      first m v q,
-      p .sets used-there k l,
-      q .sets used-there k l,
-      p .sets inputs-of k l,
-      q .sets inputs-of k l,
-      p .sets outputs-of k l,
-      q .sets outputs-of k l,
-      met-any vs cs u v b m p q k (omega (arith, l)),
-    )
-    (four (one k) (two k) (three k) (last k) (any one k) (any two k) (any three k) (any last k))
-  where
-    first : (c : List ℕ) (w : Usage) → Sets vs cs w c → eqb (getD c k 0) 1 ≡ hit vs k (w .changes)
-    first c w r = let at : 0 + k ≡ k = omega arith in rw at at (r .sets changed k l)
-
-pub met-clash : (vs cs : List Site) (u v : Usage) (b m : List ℕ) → Sets vs cs u b → Sets vs cs v m → length vs ≤ 1024 → length cs ≤ 1024
-    → ((x : Site) → isIn x (u .changes) ≡ true → isIn x (v .uses) ≡ true → InScope vs x)
-    → ((x : Site) → isIn x (v .changes) ≡ true → isIn x (u .uses) ≡ true → InScope vs x)
-    → ((x : Site) → isIn x (u .inputs) ≡ true → isIn x (v .inputs) ≡ true → InScope cs x)
-    → ((x : Site) → isIn x (u .outputs) ≡ true → isIn x (v .outputs) ≡ true → InScope cs x)
-    → met 1024 b m ≡ clash u v
-unfolding clash
-met-clash vs cs u v b m p q few-vs few-cs first second third fourth =
-    met-any vs cs u v b m p q 1024 (omega arith)
-    ∙ rw (
-      any-share vs (u .changes) (v .uses) 1024 few-vs first,
-      any-share vs (v .changes) (u .uses) 1024 few-vs second,
-      any-share cs (u .inputs) (v .inputs) 1024 few-cs third,
-      any-share cs (u .outputs) (v .outputs) 1024 few-cs fourth,
-    ) refl
 
 share-left : (xs zs ys : List Site) → share (xs ++ zs) ys ≡ (share xs ys || share zs ys)
 unfolding share

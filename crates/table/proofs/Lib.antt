@@ -8,6 +8,8 @@ pub mod SameAlt
 pub mod SamePar
 pub mod SameStmt
 pub mod SameTable
+pub mod Words
 pub mod Marks
 pub mod Clash
+pub mod Exact
 pub mod Small

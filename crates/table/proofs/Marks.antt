@@ -1,78 +1,29 @@
--- The sets of names that the usage check keeps, against the usage of the model.
-use Prim.Native.Nat.{ℕ, zero, suc, _+_, _-_, _*_, _≤_, _<_}
+-- The sets of names that the reader keeps, against the usage of the model.
+use Prim.Native.Nat.{ℕ, zero, suc, _+_, _-_, _*_, _/_, _%_, _^_, _≤_, _<_}
 use native.Mathlib.Omega.{arith}
+use native.Mathlib.Nat.{mod-eq-of-lt, lt-of-lt-of-le}
 use mathlib.Core.Path.{_≡_, refl, sym, _∙_}
 use mathlib.Core.Logic.{_≢_}
-use mathlib.Core.Bool.{Bool, true, false, _&&_, _||_, or-false, or-true, or-assoc, and-false}
+use mathlib.Core.Bool.{Bool, true, false, cond, _||_, or-false, or-assoc}
 use mathlib.Core.List.{List, [], _∷_, _++_}
-use mathlib.Core.Option.{Option, none, some}
-use lib.ListN.{length, getD, getElem?, set, take, length-set}
-use lib.Seq.{slice, length-slice, getD-take, getD-drop, getD-set-same, getD-set-other}
-use lib.Dec.{ltb, leb, eqb}
-use borrow.Author.Tests.{lt-ltb, le-ltb, lt-leb, ne-eqb, ltb-true, ltb-false, eqb-true, eqb-false}
+use mathlib.Core.Option.{some}
+use lib.ListN.{length, getD, getElem?, set, drop, length-set, length-drop, length-append, length-replicate, drop-of-length-le}
+use lib.ListN.{getD-replicate}
+use lib.Seq.{getD-set-same, getD-set-other, drop-append-le}
+use lib.Dec.{ltb, eqb}
+use lib.Pow.{pow-pos, pow-mono}
+use lib.Bits.{bitOr, or-zero-r, or-lt, or-mod}
+use borrow.Author.Tests.{lt-ltb, le-ltb, eq-eqb, ne-eqb, ltb-true, ltb-false, eqb-true, eqb-false}
 use Rattle.model.proofs.Points.{getElem-inside as inside}
-use Rattle.model.proofs.Cases.{by-bool, by-option, never}
+use Rattle.model.proofs.Cases.{by-bool, never}
 use Rattle.model.specs.Syntax.{Site}
+use Rattle.model.specs.Reader.{Scope, names, withVariables, withChannels}
 use Rattle.model.specs.Usage.{Usage, nothing, _⊕_, changing, same, isIn}
 use Rattle.model.proofs.Sites.{same-eq}
-use Rattle.numbers.specs.Items.{groupsAt, grouped, valueAt}
-use Rattle.table.specs.Uses.{Used, markAt, nameUsed, variableUsed}
-use Rattle.numbers.specs.declared.Item.{Item}
-use Rattle.numbers.specs.declared.NumberRead.{NumberRead}
-use Rattle.numbers.specs.declared.NumberRead.the-variants.{Number, Bad}
-use Rattle.table.proofs.SameItems.{NumberAt, Listed, outside-of}
-
--- what a number at a place says of its groups
-grouped-number : (b : ℕ) (x : NumberRead) (v n : ℕ) → grouped b x ≡ Number v n
-    → (w : ℕ) × (x ≡ Number w n) × (v ≡ b - 128 + 128 * w) × (eqb w 0 ≡ false) × (ltb w 33554432 ≡ true)
-grouped-number b Bad v n e = never (cc)
-grouped-number b (Number w m) v n e =
-    by-bool (eqb w 0) (λ f. never (cc (rw f at e)))
-    (λ f. by-bool (ltb w 33554432)
-    (λ g. let same : Number (b - 128 + 128 * w) m ≡ Number v n = rw (f, g) at e in
-    let places : m ≡ n = cc in
-    let values : b - 128 + 128 * w ≡ v = cc in
-    (w, rw places refl, sym values, f, g))
-    (λ g. never (cc (rw (f, g) at e))))
-
--- a number lies in every stretch of the table that has its bytes
-slice-groups : (k : ℕ) (s : List ℕ) (from to at v n : ℕ) → to ≤ length s → from ≤ at → n ≤ to → groupsAt k s at ≡ Number v n
-    → (groupsAt k (slice from to s) (at - from) ≡ Number v (n - from)) × (at < n)
-unfolding groupsAt
-slice-groups zero s from to at v n u l m e = never (cc)
-slice-groups (suc k) s from to at v n u l m e =
-    by-bool (leb (length s) at)
-    (λ f. never (cc (rw f at e)))
-    (λ f. by-bool (ltb (getD s at 0) 128)
-    (λ g. last (rw (f, g) at e) g)
-    (λ g. let q = grouped-number (getD s at 0) (groupsAt k s (at + 1)) v n (rw (f, g) at e) in
-    more (q .0) (q .2) (q .3) (q .4) g (slice-groups k s from to (at + 1) (q .0) n u (omega (arith, l)) m (q .1))))
-  where
-    here : at < to → getD (slice from to s) (at - from) 0 ≡ getD s at 0
-    here h =
-        let same : from + (at - from) ≡ at = omega (arith, l) in
-        getD-drop from (take to s) (at - from) 0 ∙ rw same (getD-take to s at 0 h)
-
-    inside : at < to → leb (length (slice from to s)) (at - from) ≡ false
-    inside h = rw (length-slice from to s u) (lt-leb (to - from) (at - from) (omega (arith, l, h)))
-
-    next : at - from + 1 ≡ at + 1 - from
-    next = omega (arith, l)
-
-    last : Number (getD s at 0) (at + 1) ≡ Number v n → ltb (getD s at 0) 128 ≡ true
-        → (groupsAt (suc k) (slice from to s) (at - from) ≡ Number v (n - from)) × (at < n)
-    last q g =
-        let places : at + 1 ≡ n = cc in
-        let values : getD s at 0 ≡ v = cc in
-        let h : at < to = omega (arith, m, places) in
-        (rw (inside h, here h, g, next, places, values) refl, omega (arith, places))
-
-    more : (w : ℕ) → v ≡ getD s at 0 - 128 + 128 * w → eqb w 0 ≡ false → ltb w 33554432 ≡ true → ltb (getD s at 0) 128 ≡ false
-        → (groupsAt k (slice from to s) (at + 1 - from) ≡ Number w (n - from)) × (at + 1 < n)
-        → (groupsAt (suc k) (slice from to s) (at - from) ≡ Number v (n - from)) × (at < n)
-    more w q z y g ih =
-        let h : at < to = omega (arith, m, ih .1) in
-        (rw (inside h, here h, g, next, ih .0, z, y, q) refl, omega (arith, ih .1))
+use Rattle.table.specs.Uses.{noNames, markAt, changeAt, forgetAt, leaveAt, merged}
+use Rattle.table.specs.Sets.{wordOf}
+use Rattle.table.specs.Scopes.{Fresh}
+use Rattle.table.proofs.Words.{or-assoc-word, word-or, word-same, word-none, word-of-none, word-one, word-low, word-front, word-rest}
 
 -- the four sets, in the order in which they stand
 pub data Field : Type 0 where
@@ -80,9 +31,9 @@ pub data Field : Type 0 where
 
 abbrev pub base : Field → ℕ
 base changed = 0
-base used-there = 1024
-base inputs-of = 2048
-base outputs-of = 3072
+base used-there = 16
+base inputs-of = 32
+base outputs-of = 48
 
 abbrev pub field : Field → Usage → List Site
 field changed u = u .changes
@@ -91,11 +42,11 @@ field inputs-of u = u .inputs
 field outputs-of u = u .outputs
 
 -- the names that a set is about
-abbrev pub names-of : Field → List Site → List Site → List Site
-names-of changed vs cs = vs
-names-of used-there vs cs = vs
-names-of inputs-of vs cs = cs
-names-of outputs-of vs cs = cs
+abbrev pub names-of : Field → Scope → List Site
+names-of changed sc = sc .variables
+names-of used-there sc = sc .variables
+names-of inputs-of sc = sc .channels
+names-of outputs-of sc = sc .channels
 
 -- one name in one set
 abbrev pub only : Field → Site → Usage
@@ -104,33 +55,28 @@ only used-there x = record { changes = []; uses = x ∷ []; inputs = []; outputs
 only inputs-of x = record { changes = []; uses = []; inputs = x ∷ []; outputs = [] }
 only outputs-of x = record { changes = []; uses = []; inputs = []; outputs = x ∷ [] }
 
-abbrev hitOf : Option Site → List Site → Bool
-hitOf none xs = false
-hitOf (some y) xs = isIn y xs
-
--- the name of a number is in a list
-abbrev pub hit : List Site → ℕ → List Site → Bool
-hit names k xs = hitOf (getElem? names k) xs
+-- a word of a usage's set
+abbrev pub wordIn : Scope → Usage → Field → ℕ → ℕ
+wordIn sc u f i = wordOf 64 (λ x. isIn x (field f u)) (drop (64 * i) (names-of f sc))
 
 -- the sets afterwards: those before, and what the usage has of the names in scope
-pub record Marked (vs cs : List Site) (before : List ℕ) (u : Usage) (marks : List ℕ) : Type 0 where
-  pub long : length marks ≡ length before
-  pub marked : (f : Field) (k : ℕ) → k < 1024
-      → eqb (getD marks (base f + k) 0) 1 ≡ (eqb (getD before (base f + k) 0) 1 || hit (names-of f vs cs) k (field f u))
+pub record Marked (sc : Scope) (before : List ℕ) (u : Usage) (marks : List ℕ) : Type 0 where
+  pub long : length marks ≡ 64
+  pub word : (f : Field) (i : ℕ) → i < 16 → getD marks (base f + i) 0 ≡ bitOr (getD before (base f + i) 0) (wordIn sc u f i)
+
+-- sets that have no name but those in scope
+pub record Clean (sc : Scope) (marks : List ℕ) : Type 0 where
+  pub long : length marks ≡ 64
+  pub low : (f : Field) (i : ℕ) → i < 16 → getD marks (base f + i) 0 < 2 ^ (length (names-of f sc) - 64 * i)
+
+-- how a part of the table is used: as a usage says
+abbrev pub Uses : Scope → Usage → (List ℕ → List ℕ) → Type 0
+Uses sc u way = (l : List ℕ) → Clean sc l → Marked sc l u (way l)
 
 pub isIn-append : (x : Site) (ys zs : List Site) → isIn x (ys ++ zs) ≡ (isIn x ys || isIn x zs)
 unfolding isIn
 isIn-append x [] zs = refl
 isIn-append x (y ∷ ys) zs = rw (isIn-append x ys zs) (sym (or-assoc (same x y) (isIn x ys) (isIn x zs)))
-
-pub hit-append : (o : Option Site) (ys zs : List Site) → hitOf o (ys ++ zs) ≡ (hitOf o ys || hitOf o zs)
-hit-append none ys zs = refl
-hit-append (some x) ys zs = isIn-append x ys zs
-
-pub hit-none : (o : Option Site) → hitOf o [] ≡ false
-unfolding isIn
-hit-none none = refl
-hit-none (some x) = refl
 
 pub field-both : (f : Field) (u v : Usage) → field f (u ⊕ v) ≡ field f u ++ field f v
 field-both changed u v = refl
@@ -144,31 +90,74 @@ field-nothing used-there = refl
 field-nothing inputs-of = refl
 field-nothing outputs-of = refl
 
-pub marked-nothing : (vs cs : List Site) (l : List ℕ) → Marked vs cs l nothing l
-marked-nothing vs cs l =
+-- a set that a usage leaves empty
+word-empty : (sc : Scope) (u : Usage) (f : Field) (i : ℕ) → field f u ≡ [] → wordIn sc u f i ≡ 0
+unfolding isIn
+word-empty sc u f i e = rw e (word-none 64 (drop (64 * i) (names-of f sc)))
+
+pub word-both : (sc : Scope) (u v : Usage) (f : Field) (i : ℕ) → wordIn sc (u ⊕ v) f i ≡ bitOr (wordIn sc u f i) (wordIn sc v f i)
+word-both sc u v f i =
+    let names = drop (64 * i) (names-of f sc) in
+    rw (field-both f u v) (
+    word-same 64 (λ x. isIn x (field f u ++ field f v)) (λ x. isIn x (field f u) || isIn x (field f v)) names
+    (λ k x l e. isIn-append x (field f u) (field f v))
+    ∙ sym (word-or 64 (λ x. isIn x (field f u)) (λ x. isIn x (field f v)) names))
+
+pub marked-nothing : (sc : Scope) (l : List ℕ) → length l ≡ 64 → Marked sc l nothing l
+marked-nothing sc l e =
+    record { long = e; word = λ f i h. rw (word-empty sc nothing f i (field-nothing f)) (sym (or-zero-r (getD l (base f + i) 0))) }
+
+pub marked-both : {sc : Scope} {l m n : List ℕ} {u v : Usage} → Marked sc l u m → Marked sc m v n → Marked sc l (u ⊕ v) n
+marked-both {sc} {l} {m} {n} {u} {v} a b =
     record {
-      long = refl;
-      marked =
-          λ f k h.
-          rw (field-nothing f, hit-none (getElem? (names-of f vs cs) k)) (sym (or-false (eqb (getD l (base f + k) 0) 1)));
+      long = b .long;
+      word =
+          λ f i h.
+          rw (b .word f i h, a .word f i h, word-both sc u v f i)
+          (or-assoc-word (getD l (base f + i) 0) (wordIn sc u f i) (wordIn sc v f i));
     }
 
-pub marked-both : {vs cs : List Site} {l m n : List ℕ} {u v : Usage} → Marked vs cs l u m → Marked vs cs m v n → Marked vs cs l (u ⊕ v) n
-marked-both {vs} {cs} {l} {m} {n} {u} {v} a b =
+pub clean-marked : {sc : Scope} {l m : List ℕ} {u : Usage} → Clean sc l → Marked sc l u m → Clean sc m
+clean-marked {sc} {l} {m} {u} c a =
     record {
-      long = b .long ∙ a .long;
-      marked =
-          λ f k h.
-          rw (b .marked f k h, a .marked f k h, field-both f u v, hit-append (getElem? (names-of f vs cs) k) (field f u) (field f v))
-          (or-assoc (eqb (getD l (base f + k) 0) 1) (hit (names-of f vs cs) k (field f u)) (hit (names-of f vs cs) k (field f v)));
+      long = a .long;
+      low = λ f i h.
+          let names = drop (64 * i) (names-of f sc) in
+          let few : wordIn sc u f i < 2 ^ (length (names-of f sc) - 64 * i) =
+          rw (length-drop (64 * i) (names-of f sc)) at (word-low 64 (λ x. isIn x (field f u)) names) in
+          rw (a .word f i h) (or-lt (length (names-of f sc) - 64 * i) (getD l (base f + i) 0) (wordIn sc u f i) (c .low f i h) few);
     }
 
--- a name's number stands for no other of the names, and for it only if it is one of them
-abbrev pub Fresh : (names inner : List Site) → Type 0
-Fresh names inner = (k v : ℕ) (y x : Site) → getElem? names k ≡ some y → getElem? inner v ≡ some x → same y x ≡ eqb k v
+-- one part's use, then another's
+pub use-both : {sc : Scope} {u v : Usage} {f g : List ℕ → List ℕ} → Uses sc u f → Uses sc v g → Uses sc (u ⊕ v) (λ l. g (f l))
+use-both {f = f} a b l c = let m = a l c in marked-both m (b (f l) (clean-marked c m))
+
+pub use-nothing : (sc : Scope) → Uses sc nothing (λ l. l)
+use-nothing sc l c = marked-nothing sc l (c .long)
+
+pub base-low : (f : Field) → base f ≤ 48
+base-low changed = omega arith
+base-low used-there = omega arith
+base-low inputs-of = omega arith
+base-low outputs-of = omega arith
+
+none-at : (i : ℕ) → i < 64 → getD noNames i 0 ≡ 0
+none-at i h = getD-replicate {A = ℕ} 64 i 0 0 h
+
+pub clean-none : (sc : Scope) → Clean sc noNames
+clean-none sc =
+    record {
+      long = length-replicate {A = ℕ} 64 0;
+      low = λ f i h. rw (none-at (base f + i) (omega (arith, base-low f, h))) (pow-pos (length (names-of f sc) - 64 * i));
+    }
+
+-- sets from nothing are a usage's own
+pub own-word : {sc : Scope} {u : Usage} {m : List ℕ} (f : Field) (i : ℕ) → i < 16 → Marked sc noNames u m
+    → getD m (base f + i) 0 ≡ wordIn sc u f i
+own-word f i h a = a .word f i h ∙ rw (none-at (base f + i) (omega (arith, base-low f, h))) refl
 
 pub record Apart (f g : Field) : Type 0 where
-  pub places : (k v : ℕ) → k < 1024 → v < 1024 → base f + k ≢ base g + v
+  pub places : (k v : ℕ) → k < 16 → v < 16 → base f + k ≢ base g + v
   pub empty : (x : Site) → field f (only g x) ≡ []
 
 pub fields : {R : Type 0} (f g : Field) → (f ≡ g → R) → (Apart f g → R) → R
@@ -195,133 +184,330 @@ field-only used-there x = refl
 field-only inputs-of x = refl
 field-only outputs-of x = refl
 
-hit-one : (names inner : List Site) (k v : ℕ) (x : Site) → Fresh names inner → getElem? inner v ≡ some x
-    → hit names k (x ∷ []) ≡ (ltb k (length names) && eqb k v)
+pub drop-at : {A : Type 0} (n k : ℕ) (l : List A) → getElem? (drop n l) k ≡ getElem? l (n + k)
+drop-at zero k l = let e : 0 + k ≡ k = omega arith in rw e refl
+drop-at (suc n) k [] = refl
+drop-at (suc n) k (x ∷ l) = let e : suc n + k ≡ suc (n + k) = omega arith in rw e (drop-at n k l)
+
+-- the name of a number is one name's if it is its number
+one-name : (names : List Site) (v i k : ℕ) (x y : Site) → Fresh names names → getElem? names v ≡ some x
+    → getElem? (drop (64 * i) names) k ≡ some y → isIn y (x ∷ []) ≡ eqb (64 * i + k) v
 unfolding isIn
-hit-one names inner k v x fresh e =
-    by-option (getElem? names k)
-    (λ f. rw (f, le-ltb k (length names) (outside-of names k f)) refl)
-    (λ y f. rw (f, lt-ltb k (length names) (inside names k f), fresh k v y x f e) (or-false (eqb k v)))
+one-name names v i k x y fresh e f = or-false (same y x) ∙ fresh (64 * i + k) v y x (sym (drop-at (64 * i) k names) ∙ f) e
 
-pub base-low : (f : Field) → base f ≤ 3072
-base-low changed = omega arith
-base-low used-there = omega arith
-base-low inputs-of = omega arith
-base-low outputs-of = omega arith
-
-mark-one : (f : Field) (vs cs inner : List Site) (v : ℕ) (x : Site) (l : List ℕ) → Fresh (names-of f vs cs) inner
-    → getElem? inner v ≡ some x
-    → length l ≡ 4096 → length (names-of f vs cs) ≤ 1024 → Marked vs cs l (only f x) (markAt (base f) v (length (names-of f vs cs)) l)
+-- a name in scope goes into a set
+pub mark-one : (f : Field) (sc : Scope) (v : ℕ) (x : Site) → Fresh (names-of f sc) (names-of f sc) → getElem? (names-of f sc) v ≡ some x
+    → length (names-of f sc) ≤ 1024 → Uses sc (only f x) (λ l. markAt (base f) v l)
 unfolding markAt
-mark-one f vs cs inner v x l fresh e long low =
-    by-bool (ltb v (length (names-of f vs cs)))
-    (λ q. rw q (marking (ltb-true _ _ q)))
-    (λ q. rw q (record { long = refl; marked = λ g k h. fields g f (λ s. unmarked (ltb-false _ _ q) g k s) (λ a. apart g k a) }))
+mark-one f sc v x fresh e few l c =
+    record { long = length-set l (base f + v / 64) _ ∙ c .long; word = λ g i h. fields g f (λ s. rw s (own i h)) (λ a. other g i h a) }
   where
-    apart : (g : Field) (k : ℕ) → Apart g f
-        → eqb (getD l (base g + k) 0) 1 ≡ (eqb (getD l (base g + k) 0) 1 || hit (names-of g vs cs) k (field g (only f x)))
-    apart g k a = rw (a .empty x, hit-none (getElem? (names-of g vs cs) k)) (sym (or-false (eqb (getD l (base g + k) 0) 1)))
+    numbered : v < length (names-of f sc)
+    numbered = inside (names-of f sc) v e
 
-    beyond : length (names-of f vs cs) ≤ v → (k : ℕ) → (ltb k (length (names-of f vs cs)) && eqb k v) ≡ false
-    beyond u k =
-        by-bool (ltb k (length (names-of f vs cs)))
-        (λ q. rw (q, ne-eqb k v (λ z. omega (arith, u, z, ltb-true k (length (names-of f vs cs)) q))) refl) (λ q. rw q refl)
+    Word : Field → ℕ → Type 0
+    Word g i =
+        getD (set l (base f + v / 64) (bitOr (getD l (base f + v / 64) 0) (2 ^ (v % 64)))) (base g + i) 0
+        ≡ bitOr (getD l (base g + i) 0) (wordIn sc (only f x) g i)
 
-    unmarked : length (names-of f vs cs) ≤ v → (g : Field) (k : ℕ) → g ≡ f
-        → eqb (getD l (base g + k) 0) 1 ≡ (eqb (getD l (base g + k) 0) 1 || hit (names-of g vs cs) k (field g (only f x)))
-    unmarked u g k s = rw (s, field-only f x, hit-one (names-of f vs cs) inner k v x fresh e)
-        (rw (beyond u k) (sym (or-false (eqb (getD l (base f + k) 0) 1))))
-
-    other : v < length (names-of f vs cs) → (g : Field) (k : ℕ) → k < 1024 → Apart g f
-        → eqb (getD (set l (base f + v) 1) (base g + k) 0) 1 ≡
-        (eqb (getD l (base g + k) 0) 1 || hit (names-of g vs cs) k (field g (only f x)))
-    other u g k h a =
-        rw (getD-set-other l (base f + v) (base g + k) 1 0 (a .places k v h (omega (arith, low, u)))) (apart g k a)
-
-    own : v < length (names-of f vs cs) → (g : Field) (k : ℕ) → k < 1024 → g ≡ f
-        → eqb (getD (set l (base f + v) 1) (base g + k) 0) 1 ≡
-        (eqb (getD l (base g + k) 0) 1 || hit (names-of g vs cs) k (field g (only f x)))
-    own u g k h s =
-        rw (s, field-only f x, hit-one (names-of f vs cs) inner k v x fresh e) (
-        by-bool (eqb k v)
-        (λ q. let same-number : k ≡ v = eqb-true k v q in
+    other : (g : Field) (i : ℕ) → i < 16 → Apart g f → Word g i
+    other g i h a =
         rw (
-          q,
-          same-number,
-          lt-ltb v (length (names-of f vs cs)) u,
-          getD-set-same l (base f + v) 1 0
-              (omega (arith, base-low f, low, u, long)),
-        )
-        (sym (or-true (eqb (getD l (base f + v) 0) 1))))
-        (λ q. let apart-places : (base f + k ≡ base f + v → ⊥) = λ z. eqb-false k v q (omega (arith, z)) in
-        rw (q, getD-set-other l (base f + v) (base f + k) 1 0 apart-places, and-false (ltb k (length (names-of f vs cs))))
-        (sym (or-false (eqb (getD l (base f + k) 0) 1)))))
+          getD-set-other l (base f + v / 64) (base g + i) _ 0 (a .places i (v / 64) h (omega (arith, numbered, few))),
+          word-empty sc (only f x) g i (a .empty x),
+        ) (sym (or-zero-r (getD l (base g + i) 0)))
 
-    marking : v < length (names-of f vs cs) → Marked vs cs l (only f x) (set l (base f + v) 1)
-    marking u =
-        record { long = length-set l (base f + v) 1; marked = λ g k h. fields g f (λ s. own u g k h s) (λ a. other u g k h a) }
+    here : (i : ℕ) → i ≡ v / 64 → wordIn sc (only f x) f i ≡ 2 ^ (v % 64)
+    here i s =
+        rw (field-only f x) (
+        word-one 64 (λ y. isIn y (x ∷ [])) (drop (64 * i) (names-of f sc)) (v % 64)
+        (λ k y l e2. one-name (names-of f sc) v i k x y fresh e e2 ∙ by-bool (eqb k (v % 64))
+        (λ q. rw q (eq-eqb (64 * i + k) v (omega (arith, s, eqb-true k (v % 64) q))))
+        (λ q. rw q (ne-eqb (64 * i + k) v (λ z. eqb-false k (v % 64) q (omega (arith, s, z))))))
+        (omega arith) (rw (length-drop (64 * i) (names-of f sc)) (omega (arith, s, numbered))))
 
--- what a part of a stretch uses: the place after it, by the stretch, and the sets
-pub record UsedAs (vs cs : List Site) (l : List ℕ) (u : Usage) (n from : ℕ) (x : Used) : Type 0 where
-  pub next : x .next ≡ n - from
-  pub marks : Marked vs cs l u (x .marks)
+    elsewhere : (i : ℕ) → i ≢ v / 64 → wordIn sc (only f x) f i ≡ 0
+    elsewhere i s =
+        rw (field-only f x) (
+        word-same 64 (λ y. isIn y (x ∷ [])) (λ y. false) (drop (64 * i) (names-of f sc))
+        (λ k y l e2. one-name (names-of f sc) v i k x y fresh e e2 ∙ ne-eqb (64 * i + k) v (λ z. s (omega (arith, l, z))))
+        ∙ word-none 64 (drop (64 * i) (names-of f sc)))
 
--- a stretch of the table that has the bytes from one place up to another, the names outside the PAR, and the sets so far
-pub record Stretch (s : List ℕ) (vs cs : List Site) (at n from to : ℕ) (l : List ℕ) : Type 0 where
-  pub low : from ≤ at
-  pub high : n ≤ to
-  pub there : to ≤ length s
-  pub long : length l ≡ 4096
-  pub variables : length vs ≤ 1024
-  pub channels : length cs ≤ 1024
+    own : (i : ℕ) → i < 16 → Word f i
+    own i h =
+        by-bool (eqb i (v / 64))
+        (λ q. let s : i ≡ v / 64 = eqb-true i (v / 64) q in
+        rw (
+          here i s,
+          s,
+          getD-set-same l (base f + v / 64) (bitOr (getD l (base f + v / 64) 0) (2 ^ (v % 64))) 0
+              (omega (arith, base-low f, c .long, numbered, few)),
+        ) refl)
+        (λ q. let s : i ≢ v / 64 = eqb-false i (v / 64) q in
+        rw (
+          elsewhere i s,
+          getD-set-other l (base f + v / 64) (base f + i) (bitOr (getD l (base f + v / 64) 0) (2 ^ (v % 64))) 0
+              (λ z. s (omega (arith, z))),
+        ) (sym (or-zero-r (getD l (base f + i) 0))))
 
-few : {s : List ℕ} {vs cs : List Site} {at n from to : ℕ} {l : List ℕ} (f : Field) → Stretch s vs cs at n from to l
-    → length (names-of f vs cs) ≤ 1024
-few changed h = h .variables
-few used-there h = h .variables
-few inputs-of h = h .channels
-few outputs-of h = h .channels
+pub change-one : (sc : Scope) (v : ℕ) (x : Site) → Fresh (sc .variables) (sc .variables) → getElem? (sc .variables) v ≡ some x
+    → length (sc .variables) ≤ 1024 → Uses sc (changing x) (λ l. changeAt v l)
+unfolding changeAt
+change-one sc v x fresh e few = use-both (mark-one changed sc v x fresh e few) (mark-one used-there sc v x fresh e few)
 
--- a number in the stretch
-pub number-in : {s : List ℕ} {vs cs : List Site} {at v n from to : ℕ} {l : List ℕ} → NumberAt s at v n → Stretch s vs cs at n from to l
-    → groupsAt 5 (slice from to s) (at - from) ≡ Number v (n - from)
-number-in {s} {at = at} {v} {n} {from} {to} t h = slice-groups 5 s from to at v n (h .there) (h .low) (h .high) (t .number) .0
+-- a word of a set that so many names are left in
+abbrev cutWord : (names i word : ℕ) → ℕ
+cutWord n i x = cond (eqb i (n / 64)) (x % 2 ^ (n % 64)) (cond (eqb i (n / 64 + 1)) 0 x)
 
--- later parts of it
-pub later : {s : List ℕ} {vs cs : List Site} {at n from to at2 n2 : ℕ} {l m : List ℕ} → Stretch s vs cs at n from to l → at ≤ at2 → n2 ≤ n
-    → length m ≡ length l → Stretch s vs cs at2 n2 from to m
-later h a b e =
+-- the names from a number on leave one set, and no other
+record Forgets (f : Field) (n : ℕ) (l m : List ℕ) : Type 0 where
+  long : length m ≡ length l
+  own : (i : ℕ) → i < 16 → getD m (base f + i) 0 ≡ cutWord n i (getD l (base f + i) 0)
+  others : (g : Field) (i : ℕ) → i < 16 → Apart g f → getD m (base g + i) 0 ≡ getD l (base g + i) 0
+
+forgets : (f : Field) (n : ℕ) (l : List ℕ) → length l ≡ 64 → n < 1024 → Forgets f n l (forgetAt (base f) n l)
+unfolding forgetAt
+forgets f n l long few =
+    by-bool (ltb (n / 64) 15) (λ q. rw q (two-words (ltb-true (n / 64) 15 q))) (λ q. rw q (one-word (ltb-false (n / 64) 15 q)))
+  where
+    w : ℕ
+    w = base f + n / 64
+
+    y : ℕ
+    y = getD l (base f + n / 64) 0 % 2 ^ (n % 64)
+
+    cut : {R : Type 0} (i : ℕ) → (i ≡ n / 64 → R) → (i ≡ n / 64 + 1 → R) → (i ≢ n / 64 → i ≢ n / 64 + 1 → R) → R
+    cut i a b c =
+        by-bool (eqb i (n / 64)) (λ q. a (eqb-true i (n / 64) q))
+        (λ q. by-bool (eqb i (n / 64 + 1)) (λ r. b (eqb-true i (n / 64 + 1) r)) (λ r. c (eqb-false i (n / 64) q) (eqb-false i (n / 64 + 1) r)))
+
+    cut-far : (i x : ℕ) → i ≢ n / 64 → i ≢ n / 64 + 1 → cutWord n i x ≡ x
+    cut-far i x s t = rw (ne-eqb i (n / 64) s, ne-eqb i (n / 64 + 1) t) refl
+
+    here : getD (set l w y) w 0 ≡ y
+    here = getD-set-same l w y 0 (omega (arith, base-low f, long, few))
+
+    one-word : 15 ≤ n / 64 → Forgets f n l (set l (base f + n / 64) (getD l (base f + n / 64) 0 % 2 ^ (n % 64)))
+    one-word top =
+        record {
+          long = length-set l w y;
+          own = λ i h.
+              cut i (λ s. rw (s, here, eq-eqb (n / 64) (n / 64) refl) refl) (λ s. absurd (omega (arith, s, h, top)))
+              (λ s t. getD-set-other l w (base f + i) y 0 (λ z. s (omega (arith, z))) ∙ sym (cut-far i (getD l (base f + i) 0) s t));
+          others = λ g i h a. getD-set-other l w (base g + i) y 0 (a .places i (n / 64) h (omega (arith, few)));
+        }
+
+    two-words : n / 64 < 15
+        → Forgets f n l (set (set l (base f + n / 64) (getD l (base f + n / 64) 0 % 2 ^ (n % 64))) (base f + n / 64 + 1) 0)
+    two-words low =
+        record {
+          long = length-set (set l w y) (w + 1) 0 ∙ length-set l w y;
+          own = λ i h.
+              cut i
+              (λ s. rw (s, eq-eqb (n / 64) (n / 64) refl) (getD-set-other (set l w y) (w + 1) w 0 0 (λ z. omega (arith, z)) ∙ here))
+              (λ s. let p : base f + (n / 64 + 1) ≡ w + 1 = omega arith in
+              rw (s, p, ne-eqb (n / 64 + 1) (n / 64) (λ z. omega (arith, z)), eq-eqb (n / 64 + 1) (n / 64 + 1) refl)
+              (getD-set-same (set l w y) (w + 1) 0 0 (rw (length-set l w y) (omega (arith, base-low f, long, low)))))
+              (λ s t. getD-set-other (set l w y) (w + 1) (base f + i) 0 0 (λ z. t (omega (arith, z)))
+              ∙ getD-set-other l w (base f + i) y 0 (λ z. s (omega (arith, z)))
+              ∙ sym (cut-far i (getD l (base f + i) 0) s t));
+          others = λ g i h a.
+              let p : base f + (n / 64 + 1) ≡ w + 1 = omega arith in
+              getD-set-other (set l w y) (w + 1) (base g + i) 0 0 (rw p at (a .places i (n / 64 + 1) h (omega (arith, low))))
+              ∙ getD-set-other l w (base g + i) y 0 (a .places i (n / 64) h (omega (arith, few)));
+        }
+
+-- names that were declared behind others leave their words
+cut-word : (names new : List Site) (p : Site → Bool) (i b : ℕ) → length new ≤ 32 → b < 2 ^ (length names - 64 * i)
+    → cutWord (length names) i (bitOr b (wordOf 64 p (drop (64 * i) (names ++ new)))) ≡ bitOr b (wordOf 64 p (drop (64 * i) names))
+cut-word names new p i b few low =
+    by-bool (eqb i (n / 64))
+    (λ q. rw q (last (eqb-true i (n / 64) q)))
+    (λ q. let s : i ≢ n / 64 = eqb-false i (n / 64) q in
+    by-bool (eqb i (n / 64 + 1))
+    (λ r. let e : i ≡ n / 64 + 1 = eqb-true i (n / 64 + 1) r in
+    rw (q, r, none (omega (arith, e)), past (omega (arith, e))) refl)
+    (λ r. let e : i ≢ n / 64 + 1 = eqb-false i (n / 64 + 1) r in
+    rw (q, r) (by-bool (ltb i (n / 64))
+    (λ t. inner (ltb-true i (n / 64) t))
+    (λ t. let far : n / 64 + 2 ≤ i = omega (arith, s, e, ltb-false i (n / 64) t) in
+    rw (past (omega (arith, far)), nothing-there (omega (arith, far))) refl))))
+  where
+    n : ℕ
+    n = length names
+
+    past : n ≤ 64 * i → wordOf 64 p (drop (64 * i) names) ≡ 0
+    past h = rw (drop-of-length-le names h) (word-of-none 64 p)
+
+    nothing-there : n + 32 ≤ 64 * i → wordOf 64 p (drop (64 * i) (names ++ new)) ≡ 0
+    nothing-there h =
+        let all : length (names ++ new) ≤ 64 * i = rw (length-append names new) (omega (arith, h, few)) in
+        rw (drop-of-length-le (names ++ new) all) (word-of-none 64 p)
+
+    none : n ≤ 64 * i → b ≡ 0
+    none h = let e : n - 64 * i ≡ 0 = omega (arith, h) in omega (arith, rw e at low)
+
+    inner : i < n / 64 → bitOr b (wordOf 64 p (drop (64 * i) (names ++ new))) ≡ bitOr b (wordOf 64 p (drop (64 * i) names))
+    inner h =
+        rw (
+          drop-append-le (64 * i) names new (omega (arith, h)),
+          word-front 64 p (drop (64 * i) names) new (rw (length-drop (64 * i) names) (omega (arith, h))),
+        ) refl
+
+    last : i ≡ n / 64
+        → bitOr b (wordOf 64 p (drop (64 * i) (names ++ new))) % 2 ^ (n % 64) ≡ bitOr b (wordOf 64 p (drop (64 * i) names))
+    last e =
+        let r : length (drop (64 * i) names) ≡ n % 64 = length-drop (64 * i) names ∙ omega (arith, e) in
+        let k : n - 64 * i ≡ n % 64 = omega (arith, e) in
+        or-mod b (wordOf 64 p (drop (64 * i) (names ++ new))) (n % 64)
+        ∙ rw (
+          mod-eq-of-lt (rw k at low),
+          drop-append-le (64 * i) names new (omega (arith, e)),
+          ← r,
+          word-rest 64 p (drop (64 * i) names) new,
+        ) refl
+
+-- a scope that two kinds of names are added to, and the same scope without them
+record Adds (f g : Field) (sc inner : Scope) (new : List Site) : Type 0 where
+  few : length new ≤ 32
+  apart : Apart f g
+  back : Apart g f
+  first : names-of f inner ≡ names-of f sc ++ new
+  second : names-of g inner ≡ names-of g sc ++ new
+  as-many : length (names-of g sc) ≡ length (names-of f sc)
+  others : (h : Field) → Apart h f → Apart h g → names-of h inner ≡ names-of h sc
+
+-- names that leave their two sets
+left : {sc inner : Scope} {l m : List ℕ} {u : Usage} {new : List Site} (f g : Field) → Adds f g sc inner new
+    → length (names-of f sc) < 1024 → Clean sc l → Marked inner l u m
+    → Marked sc l u (forgetAt (base g) (length (names-of f sc)) (forgetAt (base f) (length (names-of f sc)) m))
+left {sc} {inner} {l} {m} {u} {new} f g adds low c k =
+    record { long = two .long ∙ one .long ∙ k .long; word = λ h i z. fields h g (λ s. rw s (in-second i z)) (λ a. other h i z a) }
+  where
+    n : ℕ
+    n = length (names-of f sc)
+
+    one : Forgets f (length (names-of f sc)) m (forgetAt (base f) (length (names-of f sc)) m)
+    one = forgets f n m (k .long) low
+
+    two : Forgets g (length (names-of f sc)) (forgetAt (base f) (length (names-of f sc)) m)
+        (forgetAt (base g) (length (names-of f sc)) (forgetAt (base f) (length (names-of f sc)) m))
+    two = forgets g n (forgetAt (base f) n m) (one .long ∙ k .long) low
+
+    Word : Field → ℕ → Type 0
+    Word h i =
+        getD (forgetAt (base g) (length (names-of f sc)) (forgetAt (base f) (length (names-of f sc)) m)) (base h + i) 0
+        ≡ bitOr (getD l (base h + i) 0) (wordIn sc u h i)
+
+    in-first : (i : ℕ) → i < 16 → Word f i
+    in-first i z =
+        rw (two .others f i z (adds .apart), one .own i z, k .word f i z, adds .first)
+        (cut-word (names-of f sc) new (λ x. isIn x (field f u)) i (getD l (base f + i) 0) (adds .few) (c .low f i z))
+
+    in-second : (i : ℕ) → i < 16 → Word g i
+    in-second i z =
+        rw (two .own i z, one .others g i z (adds .back), k .word g i z, adds .second, ← adds .as-many)
+        (cut-word (names-of g sc) new (λ x. isIn x (field g u)) i (getD l (base g + i) 0) (adds .few) (c .low g i z))
+
+    other : (h : Field) (i : ℕ) → i < 16 → Apart h g → Word h i
+    other h i z a =
+        fields h f (λ s. rw s (in-first i z))
+        (λ b. rw (two .others h i z a, one .others h i z b, k .word h i z, adds .others h b a) refl)
+
+-- behind a VAR its names leave the sets of variables, behind a CHAN those of channels
+pub variables-left : {sc : Scope} {l m : List ℕ} {u : Usage} (place c cs : ℕ) → length (names place c) ≤ 32 → length (sc .variables) < 1024 → Clean sc l
+    → Marked (withVariables place c sc) l u m → Marked sc l u (leaveAt 5 (length (sc .variables)) cs m)
+unfolding leaveAt
+variables-left {sc} place c cs few low clean k =
+    left changed used-there
+    (record {
+      few = few;
+      apart = fields changed used-there (λ e. never (cc)) (λ a. a);
+      back = fields used-there changed (λ e. never (cc)) (λ a. a);
+      first = refl;
+      second = refl;
+      as-many = refl;
+      others = λ h a b. other h a b;
+    }) low clean k
+  where
+    other : (h : Field) → Apart h changed → Apart h used-there → names-of h (withVariables place c sc) ≡ names-of h sc
+    other changed a b = absurd (a .places 0 0 (omega arith) (omega arith) refl)
+    other used-there a b = absurd (b .places 0 0 (omega arith) (omega arith) refl)
+    other inputs-of a b = refl
+    other outputs-of a b = refl
+
+pub channels-left : {sc : Scope} {l m : List ℕ} {u : Usage} (place c vs : ℕ) → length (names place c) ≤ 32 → length (sc .channels) < 1024 → Clean sc l
+    → Marked (withChannels place c sc) l u m → Marked sc l u (leaveAt 6 vs (length (sc .channels)) m)
+unfolding leaveAt
+channels-left {sc} place c vs few low clean k =
+    left inputs-of outputs-of
+    (record {
+      few = few;
+      apart = fields inputs-of outputs-of (λ e. never (cc)) (λ a. a);
+      back = fields outputs-of inputs-of (λ e. never (cc)) (λ a. a);
+      first = refl;
+      second = refl;
+      as-many = refl;
+      others = λ h a b. other h a b;
+    }) low clean k
+  where
+    other : (h : Field) → Apart h inputs-of → Apart h outputs-of → names-of h (withChannels place c sc) ≡ names-of h sc
+    other changed a b = refl
+    other used-there a b = refl
+    other inputs-of a b = absurd (a .places 0 0 (omega arith) (omega arith) refl)
+    other outputs-of a b = absurd (b .places 0 0 (omega arith) (omega arith) refl)
+
+-- more names in scope
+pub clean-more : {sc inner : Scope} {l : List ℕ} → ((f : Field) → length (names-of f sc) ≤ length (names-of f inner)) → Clean sc l
+    → Clean inner l
+clean-more {sc} {inner} h c =
     record {
-      low = omega (arith, h .low, a);
-      high = omega (arith, h .high, b);
-      there = h .there;
-      long = e ∙ h .long;
-      variables = h .variables;
-      channels = h .channels;
+      long = c .long;
+      low = λ f i z. lt-of-lt-of-le (c .low f i z)
+          (pow-mono {i = length (names-of f sc) - 64 * i} {j = length (names-of f inner) - 64 * i} (omega (arith, h f)));
     }
 
-pub name-used : {s : List ℕ} {vs cs inner : List Site} {at n from to : ℕ} {l : List ℕ} {x : Site} {i : Item} (f : Field)
-    → Listed s at inner x n i → Fresh (names-of f vs cs) inner → Stretch s vs cs at n from to l
-    → UsedAs vs cs l (only f x) n from (nameUsed (base f) (length (names-of f vs cs)) (slice from to s) (at - from) l)
-unfolding nameUsed
-name-used {vs = vs} {cs} {inner} {l = l} {x} f t fresh h =
-    rw (number-in (t .there) h)
-    (record { next = refl; marks = mark-one f vs cs inner (t .value) x l fresh (t .listed) (h .long) (few f h) })
+merged-at : (n : ℕ) (b m : List ℕ) (i : ℕ) → n ≤ length b
+    → getD (merged n b m) i 0 ≡ cond (ltb i n) (bitOr (getD b i 0) (getD m i 0)) (getD b i 0)
+unfolding merged
+merged-at zero b m i h = rw (le-ltb i 0 (omega arith)) refl
+merged-at (suc k) b m i h =
+    let x = bitOr (getD b k 0) (getD m k 0) in
+    merged-at k (set b k x) m i (rw (length-set b k x) (omega (arith, h)))
+    ∙ by-bool (eqb i k)
+    (λ q. let s : i ≡ k = eqb-true i k q in
+    rw (s, le-ltb k k (omega arith), lt-ltb k (suc k) (omega arith), getD-set-same b k x 0 (omega (arith, h))) refl)
+    (λ q. let d : i ≢ k = eqb-false i k q in
+    rw (getD-set-other b k i x 0 d, below d) refl)
+  where
+    below : i ≢ k → ltb i k ≡ ltb i (suc k)
+    below d =
+        by-bool (ltb i k)
+        (λ q. rw (q, lt-ltb i (suc k) (omega (arith, ltb-true i k q))) refl)
+        (λ q. rw (q, le-ltb i (suc k) (omega (arith, d, ltb-false i k q))) refl)
 
-pub variable-used : {s : List ℕ} {vs cs inner : List Site} {at n from to : ℕ} {l : List ℕ} {x : Site} {i : Item}
-    → Listed s at inner x n i → Fresh vs inner → Stretch s vs cs at n from to l
-    → UsedAs vs cs l (changing x) n from (variableUsed (length vs) (slice from to s) (at - from) l)
-unfolding variableUsed
-variable-used {vs = vs} {cs} {inner} {l = l} {x} t fresh h =
-    let v = t .value in
-    let first = mark-one changed vs cs inner v x l fresh (t .listed) (h .long) (h .variables) in
-    let second = mark-one used-there vs cs inner v x (markAt 0 v (length vs) l) fresh (t .listed) (first .long ∙ h .long) (h .variables) in
-    rw (number-in (t .there) h) (record { next = refl; marks = marked-both first second })
+merged-length : (n : ℕ) (b m : List ℕ) → length (merged n b m) ≡ length b
+unfolding merged
+merged-length zero b m = refl
+merged-length (suc k) b m =
+    let x = bitOr (getD b k 0) (getD m k 0) in merged-length k (set b k x) m ∙ length-set b k x
 
-pub skip-used : {s : List ℕ} {vs cs : List Site} {at v n from to : ℕ} {l : List ℕ} → NumberAt s at v n → Stretch s vs cs at n from to l
-    → valueAt (slice from to s) (at - from) .next ≡ n - from
-unfolding valueAt
-skip-used t h = rw (number-in t h) refl
+-- sets together with those of one branch more
+pub marked-merged : {sc : Scope} {l b m : List ℕ} {u v : Usage} → Marked sc l u b → Marked sc noNames v m
+    → Marked sc l (u ⊕ v) (merged 64 b m)
+marked-merged {sc} {l} {b} {m} {u} {v} p q =
+    record {
+      long = merged-length 64 b m ∙ p .long;
+      word =
+          λ f i h.
+          rw (
+            merged-at 64 b m (base f + i) (omega (arith, p .long)),
+            lt-ltb (base f + i) 64 (omega (arith, base-low f, h)),
+            p .word f i h,
+            own-word f i h q,
+            word-both sc u v f i,
+          ) (or-assoc-word (getD l (base f + i) 0) (wordIn sc u f i) (wordIn sc v f i));
+    }
 
 -- a name in scope, by its number
 abbrev pub InScope : List Site → Site → Type 0

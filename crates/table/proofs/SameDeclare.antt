@@ -15,25 +15,28 @@ use Rattle.model.specs.Reader.{onward, pure, Scope, names, withVariables, withC
 use Rattle.model.specs.Reader.{stmtOf, isVar, isChan}
 use Rattle.model.specs.Usage.{Usage, usage, firstClash}
 use Rattle.model.specs.Counts.{processes, need}
-use Rattle.table.specs.Stmts.{Fits, stmtAt, declaring, moreNames}
-use Rattle.table.specs.Uses.{stmtUsed}
+use Rattle.table.specs.Stmts.{Fits, stmtAt, stmtUses, declaring, moreNames}
+use Rattle.table.specs.Uses.{leaveAt}
+use Rattle.table.specs.Exprs.{kept}
 use Rattle.table.specs.declared.stmt.Names.{Names}
 use Rattle.table.specs.declared.stmt.StmtRead.the-variants.{Stmt, Refused as NoStmt}
+use Rattle.table.specs.Scopes.{Scoped}
 use Rattle.table.proofs.SameItems.{Bytes, Same, gives, onwards, count-same}
-use Rattle.table.proofs.Marks.{Field, changed, used-there, inputs-of, outputs-of, names-of, Stretch, later, skip-used}
-use Rattle.table.proofs.Marks.{InScope}
-use Rattle.numbers.specs.Items.{betweenAt, valueAt, withItem}
-use Rattle.table.proofs.SameExpr.{Way}
-use Rattle.table.proofs.SameSimple.{partOf, DeclaredIn, Within, Scoped, Outer, RestIs, StmtIs, fresh-more, own-more, below-more}
+use Rattle.table.proofs.Marks.{Field, changed, used-there, inputs-of, outputs-of, names-of, Marked, Clean, InScope}
+use Rattle.table.proofs.Marks.{clean-more, variables-left, channels-left}
+use Rattle.numbers.specs.Items.{betweenAt, withItem}
+use Rattle.table.proofs.SameSimple.{partOf, DeclaredIn, Within, RestIs, StmtIs, own-more, below-more}
 use Rattle.table.proofs.SameSimple.{below-later, lookup-append, numbered-at, length-numbered, declared-wider}
 
 -- the statements inside, one level down
 abbrev pub InnerIs : List ℕ → ℕ → Type 0
-InnerIs s d = (w : Names) (sc : Scope) (i : ℕ) → Scoped w sc i → Fits w d → Same s (StmtIs s d sc i) NoStmt (stmtAt d w s i)
+InnerIs s d = (w : Names) (sc : Scope) (i : ℕ) → Scoped w sc i → Fits w d → Same s (StmtIs s d w sc i) NoStmt (stmtAt d w s i)
     (readStmt d sc i (drop i s))
 
-abbrev pub declaredWay : (d : ℕ) → Way
-declaredWay d vs cs part i l = stmtUsed d (length vs) (length cs) part (valueAt part i .next) l
+-- the sets behind a declaration: its own names leave them
+abbrev pub declaredWay : (kind d : ℕ) → Names → List ℕ → (at : ℕ) → List ℕ → List ℕ
+declaredWay kind d w s at l =
+    withItem (kept l) (betweenAt 1 32 s at) (λ c m. leaveAt kind (w .variables) (w .channels) (stmtUses d (moreNames kind c w) s m l))
 
 variables-in : (w : Names) (sc : Scope) (place c m : ℕ) → Scoped w sc place → place < m
     → Scoped (moreNames 5 c w) (withVariables place c sc) m
@@ -90,35 +93,13 @@ within-new names1 place c k n x l e =
     let new = numbered-at (declared place) c (k - length names1) x (h .1) in inr (rw (new .0) (omega arith, l)))
     (lookup-append names1 (names place c) k x e)
 
-outer-variables : (sc : Scope) (place c m : ℕ) (vs cs : List Site) → place ≤ m → Outer sc place vs cs
-    → Outer (withVariables place c sc) m vs cs
-outer-variables sc place c m vs cs l o =
-    record {
-      before-variables = below-later vs place m l (o .before-variables);
-      before-channels = below-later cs place m l (o .before-channels);
-      variables = fresh-more vs (sc .variables) place c (o .before-variables) (o .variables) (o .fewer-variables);
-      channels = o .channels;
-      fewer-variables = omega (arith, o .fewer-variables, length-append (sc .variables) (names place c));
-      fewer-channels = o .fewer-channels;
-    }
-
-outer-channels : (sc : Scope) (place c m : ℕ) (vs cs : List Site) → place ≤ m → Outer sc place vs cs
-    → Outer (withChannels place c sc) m vs cs
-outer-channels sc place c m vs cs l o =
-    record {
-      before-variables = below-later vs place m l (o .before-variables);
-      before-channels = below-later cs place m l (o .before-channels);
-      variables = o .variables;
-      channels = fresh-more cs (sc .channels) place c (o .before-channels) (o .channels) (o .fewer-channels);
-      fewer-variables = o .fewer-variables;
-      fewer-channels = omega (arith, o .fewer-channels, length-append (sc .channels) (names place c));
-    }
-
 -- what a declaration asks of the scope that it makes
 record Declares (s : List ℕ) (d : ℕ) (w : Names) (sc : Scope) (place kind : ℕ) (more : ℕ → Scope) (of : ℕ → M.Stmt → M.Stmt) : Type 0 where
   scoped : (c m : ℕ) → place < m → Scoped (moreNames kind c w) (more c) m
   fits : (c : ℕ) → c ≤ 32 → Fits (moreNames kind c w) d
-  outer : (c m : ℕ) (vs cs : List Site) → place ≤ m → Outer sc place vs cs → Outer (more c) m vs cs
+  clean : (c : ℕ) (l : List ℕ) → Clean sc l → Clean (more c) l
+  leaves : (c : ℕ) (l m : List ℕ) (u : Usage) → c ≤ 32 → Clean sc l → Marked (more c) l u m
+      → Marked sc l u (leaveAt kind (w .variables) (w .channels) m)
   within : (c m n : ℕ) (u : Usage) → place < m → m ≤ n → Within (more c) m n u → Within sc place n u
   counts : (c n : ℕ) (st : M.Stmt) → declaring c (Stmt (partOf st n)) ≡ Stmt (partOf (of c st) n)
   same-usage : (c : ℕ) (st : M.Stmt) → usage (of c st) ≡ usage st
@@ -126,7 +107,7 @@ record Declares (s : List ℕ) (d : ℕ) (w : Names) (sc : Scope) (place kind : 
 declare-same : (s : List ℕ) (d : ℕ) (w : Names) (sc : Scope) (place kind : ℕ) (more : ℕ → Scope) (of : ℕ → M.Stmt → M.Stmt) (at : ℕ)
     → Bytes s
     → place < at → InnerIs s d → Declares s d w sc place kind more of
-    → Same s (RestIs s sc place at (declaredWay d)) NoStmt
+    → Same s (RestIs sc place at (declaredWay kind d w s at)) NoStmt
     (withItem NoStmt (betweenAt 1 32 s at) (λ c m. declaring c (stmtAt d (moreNames kind c w) s m)))
     (onward (readCount 1 32 at (drop at s)) (λ c. λ i bytes. onward (readStmt d (more c) i bytes) (λ st. pure (of c st))))
 declare-same s d w sc place kind more of at b l inner h =
@@ -138,11 +119,9 @@ declare-same s d w sc place kind more of at b l inner h =
     (record {
       is = refl;
       ahead = omega (arith, k .there .ahead, r .ahead);
-      uses = λ vs cs from to j o st2.
-          let here : Stretch s vs cs at m from to j = later st2 (omega arith) (omega (arith, r .ahead)) refl in
-          let rest : Stretch s vs cs m n from to j = later st2 (omega (arith, k .there .ahead)) (omega arith) refl in
-          rw (skip-used (k .there) here, h .same-usage c st)
-          (r .uses vs cs from to j (h .outer c m vs cs (omega (arith, l, k .there .ahead)) o) rest);
+      uses = λ j z.
+          rw (q ∙ k .found, h .same-usage c st)
+          (h .leaves c j (stmtUses d (moreNames kind c w) s m j) (usage st) (k .most) z (r .uses j (h .clean c j z)));
       within = rw (h .same-usage c st)
           (h .within c m n (usage st) (omega (arith, l, k .there .ahead)) (omega (arith, r .ahead)) (r .within));
     })))
@@ -153,8 +132,8 @@ within-variables : (sc : Scope) (place c m n : ℕ) (u : Usage) → place < m �
     → Within sc place n u
 within-variables sc place c m n u l k w = record { each-in = λ f x e. one f x (w .each-in f x e) }
   where
-    one : (f : Field) (x : Site) → InScope (names-of f (sc .variables ++ names place c) (sc .channels)) x ⊎ DeclaredIn m n x
-        → InScope (names-of f (sc .variables) (sc .channels)) x ⊎ DeclaredIn place n x
+    one : (f : Field) (x : Site) → InScope (names-of f (withVariables place c sc)) x ⊎ DeclaredIn m n x
+        → InScope (names-of f sc) x ⊎ DeclaredIn place n x
     one changed x (inl i) = within-new (sc .variables) place c (i .0) n x (omega (arith, l, k)) (i .1)
     one used-there x (inl i) = within-new (sc .variables) place c (i .0) n x (omega (arith, l, k)) (i .1)
     one inputs-of x (inl i) = inl i
@@ -165,8 +144,8 @@ within-channels : (sc : Scope) (place c m n : ℕ) (u : Usage) → place < m →
     → Within sc place n u
 within-channels sc place c m n u l k w = record { each-in = λ f x e. one f x (w .each-in f x e) }
   where
-    one : (f : Field) (x : Site) → InScope (names-of f (sc .variables) (sc .channels ++ names place c)) x ⊎ DeclaredIn m n x
-        → InScope (names-of f (sc .variables) (sc .channels)) x ⊎ DeclaredIn place n x
+    one : (f : Field) (x : Site) → InScope (names-of f (withChannels place c sc)) x ⊎ DeclaredIn m n x
+        → InScope (names-of f sc) x ⊎ DeclaredIn place n x
     one changed x (inl i) = inl i
     one used-there x (inl i) = inl i
     one inputs-of x (inl i) = within-new (sc .channels) place c (i .0) n x (omega (arith, l, k)) (i .1)
@@ -175,7 +154,7 @@ within-channels sc place c m n u l k w = record { each-in = λ f x e. one f x (w
 
 pub variables-same : (s : List ℕ) (d : ℕ) (w : Names) (sc : Scope) (place at : ℕ) (inner : Inner) → Bytes s → place < at → Scoped w sc place
     → Fits w (suc d) → InnerIs s d → inner .stmt ≡ readStmt d
-    → Same s (RestIs s sc place at (declaredWay d)) NoStmt
+    → Same s (RestIs sc place at (declaredWay 5 d w s at)) NoStmt
     (withItem NoStmt (betweenAt 1 32 s at) (λ c m. declaring c (stmtAt d (moreNames 5 c w) s m)))
     (stmtOf place sc inner isVar at (drop at s))
 unfolding stmtOf need processes firstClash usage
@@ -185,15 +164,23 @@ variables-same s d w sc place at inner b l h f i e =
     (record {
       scoped = λ c m k. variables-in w sc place c m h k;
       fits = λ c k. (omega (arith, f .0), omega (arith, f .1, k), omega (arith, f .2), f .3, f .4);
-      outer = λ c m vs cs k o. outer-variables sc place c m vs cs k o;
+      clean = λ c j z. clean-more {inner = withVariables place c sc} (λ g. more-variables g c) z;
+      leaves = λ c j m u k z r. rw (h .variables)
+          (variables-left place c (w .channels) (rw (length-numbered (declared place) c) k) (omega (arith, h .variables, f .1)) z r);
       within = λ c m n u k j r. within-variables sc place c m n u k j r;
       counts = λ c n st. refl;
       same-usage = λ c st. refl;
     }))
+  where
+    more-variables : (g : Field) (c : ℕ) → length (names-of g sc) ≤ length (names-of g (withVariables place c sc))
+    more-variables changed c = omega (arith, length-append (sc .variables) (names place c))
+    more-variables used-there c = omega (arith, length-append (sc .variables) (names place c))
+    more-variables inputs-of c = omega arith
+    more-variables outputs-of c = omega arith
 
 pub channels-same : (s : List ℕ) (d : ℕ) (w : Names) (sc : Scope) (place at : ℕ) (inner : Inner) → Bytes s → place < at → Scoped w sc place
     → Fits w (suc d) → InnerIs s d → inner .stmt ≡ readStmt d
-    → Same s (RestIs s sc place at (declaredWay d)) NoStmt
+    → Same s (RestIs sc place at (declaredWay 6 d w s at)) NoStmt
     (withItem NoStmt (betweenAt 1 32 s at) (λ c m. declaring c (stmtAt d (moreNames 6 c w) s m)))
     (stmtOf place sc inner isChan at (drop at s))
 unfolding stmtOf need processes firstClash usage
@@ -203,8 +190,16 @@ channels-same s d w sc place at inner b l h f i e =
     (record {
       scoped = λ c m k. channels-in w sc place c m h k;
       fits = λ c k. (omega (arith, f .0), omega (arith, f .1), omega (arith, f .2, k), f .3, f .4);
-      outer = λ c m vs cs k o. outer-channels sc place c m vs cs k o;
+      clean = λ c j z. clean-more {inner = withChannels place c sc} (λ g. more-channels g c) z;
+      leaves = λ c j m u k z r. rw (h .channels)
+          (channels-left place c (w .variables) (rw (length-numbered (declared place) c) k) (omega (arith, h .channels, f .2)) z r);
       within = λ c m n u k j r. within-channels sc place c m n u k j r;
       counts = λ c n st. refl;
       same-usage = λ c st. refl;
     }))
+  where
+    more-channels : (g : Field) (c : ℕ) → length (names-of g sc) ≤ length (names-of g (withChannels place c sc))
+    more-channels changed c = omega arith
+    more-channels used-there c = omega arith
+    more-channels inputs-of c = omega (arith, length-append (sc .channels) (names place c))
+    more-channels outputs-of c = omega (arith, length-append (sc .channels) (names place c))

@@ -156,7 +156,7 @@ pub data Same {A X : Type 0} (s : List ℕ) (R : A → ℕ → X → Type 0) (g 
 -- one part, then another
 pub onwards : {A B X Y : Type 0} {s : List ℕ} {R : A → ℕ → X → Type 0} {g : ℕ → ℕ → X} {Q : B → ℕ → Y → Type 0} {h : ℕ → ℕ → Y}
     {x : X} {r : Parsed A} (c : X → Y) (k : A → Reader B) → Same s R g x r
-    → ((a : A) (n : ℕ) (y : X) → R a n y → r ≡ parsed a n (drop n s) → Same s Q h (c y) (k a n (drop n s)))
+    → ((a : A) (n : ℕ) (y : X) → R a n y → x ≡ y → Same s Q h (c y) (k a n (drop n s)))
     → ((j p : ℕ) → c (g j p) ≡ h j p) → Same s Q h (c x) (onward r k)
 onwards c k (gives a n x h) f e = f a n x h refl
 onwards c k (turns j p) f e = rw (e j p) (turns j p)
@@ -316,9 +316,3 @@ pub mapped : {A X Y : Type 0} {s : List ℕ} {R : A → ℕ → X → Type 0} {g
     → ((a : A) (n : ℕ) (y : X) → R a n y → Q a n (c y)) → ((j p : ℕ) → c (g j p) ≡ h j p) → Same s Q h (c x) r
 mapped c (gives a n x k) f e = gives a n (c x) (f a n x k)
 mapped c (turns j p) f e = rw (e j p) (turns j p)
-
--- the same part, with the answer kept
-pub keeping : {A X : Type 0} {s : List ℕ} {R : A → ℕ → X → Type 0} {g : ℕ → ℕ → X} {x : X} {r : Parsed A} → Same s R g x r
-    → Same s (λ a n y. R a n y × (y ≡ x)) g x r
-keeping (gives a n x h) = gives a n x (h, refl)
-keeping (turns j p) = turns j p

@@ -1,16 +1,14 @@
 -- The parts of a SEQ, an IF, a WHILE and an ALT, one after the other.
-use Prim.Native.Nat.{ℕ, zero, suc, _-_, _≤_, max}
+use Prim.Native.Nat.{ℕ, zero, suc, _≤_, max}
 use native.Mathlib.Omega.{arith}
 use mathlib.Core.Path.{_≡_, refl, sym, _∙_}
 use mathlib.Core.List.{List}
 use mathlib.Core.Option.{Option, none, some}
-use lib.ListN.{length, drop}
-use lib.Seq.{slice}
+use lib.ListN.{drop}
 use Rattle.model.specs.Reader.{Reader, pure, Scope, readMany}
 use Rattle.model.specs.Usage.{Usage, nothing, _⊕_, orElse}
 use Rattle.model.specs.Counts.{processes}
-use Rattle.table.specs.Stmts.{firstOf, added, partAt, mostFrom, withStmt}
-use Rattle.table.specs.Uses.{thenUsed, stmtUsed, headUsed, repeated}
+use Rattle.table.specs.Stmts.{firstOf, added, partAt, mostFrom, partUses, mostUse, withStmt}
 use Rattle.table.specs.declared.stmt.Names.{Names}
 use Rattle.table.specs.declared.stmt.First.{First}
 use Rattle.table.specs.declared.stmt.First.the-variants.{Nowhere, At}
@@ -18,12 +16,11 @@ use Rattle.table.specs.declared.stmt.Part.{Part}
 use Rattle.table.specs.declared.stmt.StmtRead.{StmtRead}
 use Rattle.table.specs.declared.stmt.StmtRead.the-variants.{Stmt, Refused as NoStmt}
 use Rattle.table.proofs.SameItems.{Same, gives, onwards}
-use Rattle.table.proofs.Marks.{Stretch, marked-nothing, later}
+use Rattle.table.proofs.Marks.{Uses, use-nothing, use-both}
 use Rattle.table.specs.declared.stmt.Sum.{Sum}
 use Rattle.table.specs.declared.stmt.SumRead.{SumRead}
 use Rattle.table.specs.declared.stmt.SumRead.the-variants.{Sum as Total, Refused as NoSum}
-use Rattle.table.proofs.SameExpr.{Way}
-use Rattle.table.proofs.SameSimple.{first, Within, UsesFrom, wider, within-both, within-nothing, use-both}
+use Rattle.table.proofs.SameSimple.{first, Within, wider, within-both, within-nothing}
 
 pub firstOf-nowhere : (a : First) → firstOf a Nowhere ≡ a
 firstOf-nowhere Nowhere = refl
@@ -49,12 +46,8 @@ pub record Counting (L : Type 0) : Type 0 where
   pub no-clashes : clashes empty ≡ none
   pub no-usages : usages empty ≡ nothing
 
-abbrev pub partWay : (kind d : ℕ) → Way
-partWay kind d vs cs part i j =
-    thenUsed (headUsed kind d (length vs) (length cs) part i j) (λ m k. stmtUsed d (length vs) (length cs) part m k)
-
 -- one part, and what it adds to those behind it
-pub record PartIs {L : Type 0} (K : Counting L) (s : List ℕ) (d : ℕ) (sc : Scope) (kind place at : ℕ) (add : L → L) (n : ℕ) (x : StmtRead)
+pub record PartIs {L : Type 0} (K : Counting L) (sc : Scope) (place at : ℕ) (way : List ℕ → List ℕ) (add : L → L) (n : ℕ) (x : StmtRead)
     : Type 0 where
   pub words : ℕ
   pub processes : ℕ
@@ -66,16 +59,11 @@ pub record PartIs {L : Type 0} (K : Counting L) (s : List ℕ) (d : ℕ) (sc : S
   pub lives : (l : L) → K .lives (add l) ≡ max processes (K .lives l)
   pub clashes : (l : L) → first (K .clashes (add l)) ≡ firstOf clash (first (K .clashes l))
   pub usages : (l : L) → K .usages (add l) ≡ use-of ⊕ K .usages l
-  pub uses : UsesFrom s sc place at n use-of (partWay kind d)
+  pub uses : Uses sc use-of way
   pub within : Within sc place n use-of
 
-abbrev pub manyWay : (count kind d : ℕ) → Way
-manyWay c kind d vs cs part i j =
-    repeated (λ m k. headUsed kind d (length vs) (length cs) part m k) (λ m k. stmtUsed d (length vs) (length cs) part m k) c i j
-
 -- so many parts, after some
-pub record ManyIs {L : Type 0} (K : Counting L) (s : List ℕ) (d : ℕ) (sc : Scope) (count kind place : ℕ) (t : Sum) (l : L) (n : ℕ)
-    (y : SumRead)
+pub record ManyIs {L : Type 0} (K : Counting L) (sc : Scope) (place : ℕ) (way : List ℕ → List ℕ) (t : Sum) (l : L) (n : ℕ) (y : SumRead)
     : Type 0 where
   pub total : Sum
   pub is : y ≡ Total total
@@ -84,17 +72,18 @@ pub record ManyIs {L : Type 0} (K : Counting L) (s : List ℕ) (d : ℕ) (sc : S
   pub most : total .most ≡ max (t .most) (K .needs l)
   pub live : total .live ≡ max (t .live) (K .lives l)
   pub clash : total .clash ≡ firstOf (t .clash) (first (K .clashes l))
-  pub uses : UsesFrom s sc place (t .next) n (K .usages l) (manyWay count kind d)
+  pub uses : Uses sc (K .usages l) way
   pub within : Within sc place n (K .usages l)
 
 pub many-same : {A L : Type 0} (K : Counting L) (more : A → L → L) (part : Reader A) (s : List ℕ) (d : ℕ) (w : Names) (sc : Scope)
-    (inner : ℕ → StmtRead) (i kind place : ℕ) (t : Sum) → place ≤ t .next
+    (inner : ℕ → StmtRead) (uses : ℕ → List ℕ → List ℕ) (i kind place : ℕ) (t : Sum) → place ≤ t .next
     → ((at : ℕ) → place ≤ at
-    → Same s (λ a n x. PartIs K s d sc kind place at (more a) n x) NoStmt (partAt kind d w inner s at) (part at (drop at s)))
-    → Same s (ManyIs K s d sc i kind place t) NoSum (mostFrom i kind d w inner s t)
+    → Same s (λ a n x. PartIs K sc place at (λ j. partUses kind d w uses s at j) (more a) n x) NoStmt (partAt kind d w inner s at)
+    (part at (drop at s)))
+    → Same s (ManyIs K sc place (λ j. mostUse i kind d w inner uses s (t .next) j) t) NoSum (mostFrom i kind d w inner s t)
     (readMany (K .empty) more part i (t .next) (drop (t .next) s))
-unfolding mostFrom readMany repeated
-many-same K more part s d w sc inner zero kind place t l parts =
+unfolding mostFrom mostUse readMany
+many-same K more part s d w sc inner uses zero kind place t l parts =
     gives (K .empty) (t .next) (Total t)
     (record {
       total = t;
@@ -104,16 +93,16 @@ many-same K more part s d w sc inner zero kind place t l parts =
       most = rw (K .no-needs) (omega arith);
       live = rw (K .no-lives) (omega arith);
       clash = rw (K .no-clashes) (sym (firstOf-nowhere (t .clash)));
-      uses = λ vs cs from to j o st. rw (K .no-usages) (record { next = refl; marks = marked-nothing vs cs j });
+      uses = rw (K .no-usages) (use-nothing sc);
       within = rw (K .no-usages) (within-nothing sc place (t .next));
     })
-many-same {L = L} K more part s d w sc inner (suc i) kind place t l parts =
+many-same K more part s d w sc inner uses (suc i) kind place t l parts =
     onwards (λ x. withStmt NoSum x (λ p. mostFrom i kind d w inner s (added t p))) _ (parts (t .next) l)
     (λ a n y k q.
     let p : Part = record { next = n; words = k .words; processes = k .processes; clash = k .clash } in
     rw (k .is) (
     onwards (λ x. x) (λ l. pure (more a l))
-    (many-same K more part s d w sc inner i kind place (added t p) (omega (arith, l, k .ahead)) parts)
+    (many-same K more part s d w sc inner uses i kind place (added t p) (omega (arith, l, k .ahead)) parts)
     (λ r m z h e. gives (more a r) m z
     (record {
       total = h .total;
@@ -123,14 +112,8 @@ many-same {L = L} K more part s d w sc inner (suc i) kind place t l parts =
       most = h .most ∙ rw (k .needs r) (omega arith);
       live = h .live ∙ rw (k .lives r) (omega arith);
       clash = h .clash ∙ rw (k .clashes r) (firstOf-assoc (t .clash) (k .clash) (first (K .clashes r)));
-      uses = λ vs cs from to j o st.
-          let here : Stretch s vs cs (t .next) n from to j = later st (omega arith) (omega (arith, h .ahead)) refl in
-          let one = k .uses vs cs from to j o here in
-          let behind-it : Stretch s vs cs n m from to (partWay kind d vs cs (slice from to s) (t .next - from) j .marks) =
-          later st (omega (arith, k .ahead)) (omega arith) (one .marks .long) in
-          rw (k .usages r) (
-          use-both (partWay kind d vs cs (slice from to s) (t .next - from) j)
-          (λ i2 j2. manyWay i kind d vs cs (slice from to s) i2 j2) one (h .uses vs cs from to _ o behind-it));
+      uses = rw (q ∙ k .is, k .usages r)
+          (use-both {f = partUses kind d w uses s (t .next)} {g = mostUse i kind d w inner uses s n} (k .uses) (h .uses));
       within = rw (k .usages r) (within-both (wider (omega arith) (omega (arith, h .ahead)) (k .within)) (h .within));
     }))
     (λ j p. refl)))

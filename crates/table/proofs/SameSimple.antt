@@ -7,8 +7,7 @@ use mathlib.Core.Bool.{true, false, _||_}
 use mathlib.Core.List.{List, [], _∷_, _++_}
 use mathlib.Core.Option.{Option, none, some, Option·some-injective}
 use lib.ListN.{length, drop, getElem?, length-append}
-use lib.Seq.{slice}
-use lib.Dec.{ltb, leb, eqb}
+use lib.Dec.{ltb, eqb}
 use borrow.Author.Tests.{eq-eqb, ne-eqb, eqb-true, eqb-false}
 use Rattle.model.proofs.Points.{getElem-inside as inside}
 use Rattle.model.proofs.Cases.{by-bool, never}
@@ -19,8 +18,9 @@ use Rattle.model.specs.Reader.{Inner, stmtOf, isAssign, isInput, isOutput}
 use Rattle.model.specs.Usage.{Usage, nothing, _⊕_, reading, changing, inputting, same, isIn, reads, usage, firstClash}
 use Rattle.model.specs.Counts.{temporaries, processes, need}
 use Rattle.table.specs.Stmts.{asked, wholeAt, variableAt, inputAt, outputAt, leaf, valueAt, takenAt, withHead}
-use Rattle.table.specs.Stmts.{simpleAt}
-use Rattle.table.specs.Uses.{Used, thenUsed, nameUsed, variableUsed, exprUsed, simpleUsed, stmtUsed}
+use Rattle.table.specs.Stmts.{simpleAt, takenUses, simpleUses, stmtUses}
+use Rattle.table.specs.Scopes.{Fresh, Below, Scoped}
+use Rattle.table.specs.Uses.{markAt, changeAt}
 use Rattle.numbers.specs.declared.Item.{Item}
 use Rattle.numbers.specs.declared.Item.the-variants.{Refused}
 use Rattle.table.specs.declared.stmt.Names.{Names}
@@ -32,10 +32,10 @@ use Rattle.table.specs.declared.stmt.StmtRead.the-variants.{Stmt, Refuse
 use Rattle.table.specs.declared.stmt.HeadRead.{HeadRead}
 use Rattle.table.specs.declared.stmt.HeadRead.the-variants.{Head, Refused as NoHead}
 use Rattle.table.proofs.SameItems.{Bytes, Same, gives, onwards, mapped, Listed, name-same}
-use Rattle.table.proofs.Marks.{Field, changed, used-there, inputs-of, outputs-of, field, names-of, only, Fresh, UsedAs, Stretch}
-use Rattle.table.proofs.Marks.{marked-nothing, marked-both, later, name-used, variable-used, isIn-append, field-both, field-nothing}
+use Rattle.table.proofs.Marks.{Field, changed, used-there, inputs-of, outputs-of, field, names-of, only, Uses}
+use Rattle.table.proofs.Marks.{use-nothing, use-both, mark-one, change-one, isIn-append, field-both, field-nothing}
 use Rattle.table.proofs.Marks.{field-only, fields, InScope, or-cases, in-one}
-use Rattle.table.proofs.SameExpr.{Way, UsesAs, exprWay, expr-same, variable-same}
+use Rattle.table.proofs.SameExpr.{Numbers, exprWay, expr-same, variable-same}
 use Rattle.numbers.specs.Items.{withItem}
 use Rattle.table.specs.Exprs.{withExpr}
 
@@ -57,44 +57,13 @@ DeclaredIn lo hi (declared p j) = (lo ≤ p) × (p < hi)
 -- a usage of names in scope and of names declared from lo up to hi
 pub record Within (sc : Scope) (lo hi : ℕ) (u : Usage) : Type 0 where
   pub each-in : (f : Field) (x : Site) → isIn x (field f u) ≡ true
-      → InScope (names-of f (sc .variables) (sc .channels)) x ⊎ DeclaredIn lo hi x
-
--- all names were declared before a place
-abbrev pub Below : ℕ → List Site → Type 0
-Below at names = (k p j : ℕ) → getElem? names k ≡ some (declared p j) → p < at
-
--- a scope, and the numbers of names in it
-pub record Scoped (w : Names) (sc : Scope) (at : ℕ) : Type 0 where
-  pub variables : w .variables ≡ length (sc .variables)
-  pub channels : w .channels ≡ length (sc .channels)
-  pub outer : w .inputs + w .outputs ≤ w .channels
-  pub ins : (i : ℕ) (a : Site) → getElem? (sc .channels) i ≡ some a → canInput a ≡ (ltb i (w .inputs) || leb (w .inputs + w .outputs) i)
-  pub outs : (i : ℕ) (a : Site) → getElem? (sc .channels) i ≡ some a → canOutput a ≡ (ltb i 0 || leb (w .inputs) i)
-  pub own-variables : Fresh (sc .variables) (sc .variables)
-  pub own-channels : Fresh (sc .channels) (sc .channels)
-  pub before-variables : Below at (sc .variables)
-  pub before-channels : Below at (sc .channels)
-
--- names declared outside a PAR, at a place inside it
-pub record Outer (sc : Scope) (place : ℕ) (vs cs : List Site) : Type 0 where
-  pub before-variables : Below place vs
-  pub before-channels : Below place cs
-  pub variables : Fresh vs (sc .variables)
-  pub channels : Fresh cs (sc .channels)
-  pub fewer-variables : length vs ≤ length (sc .variables)
-  pub fewer-channels : length cs ≤ length (sc .channels)
-
--- a way to use a part, for names declared before a place
-abbrev pub UsesFrom : List ℕ → Scope → (place at n : ℕ) → Usage → Way → Type 0
-UsesFrom s sc place at n u way =
-    (vs cs : List Site) (from to : ℕ) (l : List ℕ) → Outer sc place vs cs → Stretch s vs cs at n from to l
-    → UsedAs vs cs l u n from (way vs cs (slice from to s) (at - from) l)
+      → InScope (names-of f sc) x ⊎ DeclaredIn lo hi x
 
 -- an expression of a statement that stands in no other
 pub record WholeIs (s : List ℕ) (kind d : ℕ) (sc : Scope) (at : ℕ) (e : M.Expr) (n : ℕ) (x : HeadRead) : Type 0 where
   pub is : x ≡ Head n (asked kind (temporaries e))
   pub ahead : at < n
-  pub uses : UsesAs s sc at n (reading e) (exprWay d)
+  pub uses : Uses sc (reading e) (exprWay d sc s at)
   pub within : (lo hi : ℕ) → Within sc lo hi (reading e)
 
 within-reads : (sc : Scope) (e : M.Expr) (lo hi : ℕ) → ((x : Site) → isIn x (reads e) ≡ true → InScope (sc .variables) x)
@@ -103,27 +72,26 @@ unfolding isIn
 within-reads sc e lo hi h = record { each-in = λ f x i. in-field f x i }
   where
     in-field : (f : Field) (x : Site) → isIn x (field f (reading e)) ≡ true
-        → InScope (names-of f (sc .variables) (sc .channels)) x ⊎ DeclaredIn lo hi x
+        → InScope (names-of f sc) x ⊎ DeclaredIn lo hi x
     in-field changed x i = never (cc)
     in-field used-there x i = inl (h x i)
     in-field inputs-of x i = never (cc)
     in-field outputs-of x i = never (cc)
 
-pub whole-same : (kind d : ℕ) (sc : Scope) (s : List ℕ) (at : ℕ) → Bytes s
+pub whole-same : (kind d : ℕ) (sc : Scope) (s : List ℕ) (at : ℕ) → Bytes s → Numbers sc
     → Same s (WholeIs s kind d sc at) NoHead (wholeAt kind d (length (sc .variables)) s at) (readExpr d sc at (drop at s))
 unfolding wholeAt
-whole-same kind d sc s at b =
-    mapped (λ x. withExpr NoHead x (λ e. Head (e .next) (asked kind (e .stored)))) (expr-same d sc s at b)
+whole-same kind d sc s at b o =
+    mapped (λ x. withExpr NoHead x (λ e. Head (e .next) (asked kind (e .stored)))) (expr-same d sc s at b o)
     (λ e n y k. rw (k .is)
     (record { is = refl; ahead = k .ahead; uses = k .uses; within = λ lo hi. within-reads sc e lo hi (k .within) }))
     (λ j p. refl)
 
 -- what follows a statement's kind
-pub record RestIs (s : List ℕ) (sc : Scope) (place at : ℕ) (way : Way)
-    (st : M.Stmt) (n : ℕ) (x : StmtRead) : Type 0 where
+pub record RestIs (sc : Scope) (place at : ℕ) (way : List ℕ → List ℕ) (st : M.Stmt) (n : ℕ) (x : StmtRead) : Type 0 where
   pub is : x ≡ Stmt (partOf st n)
   pub ahead : at ≤ n
-  pub uses : UsesFrom s sc place at n (usage st) way
+  pub uses : Uses sc (usage st) way
   pub within : Within sc place n (usage st)
 
 -- parts of usages within a scope
@@ -149,7 +117,7 @@ within-both {sc} {lo} {hi} {u} {v} a b =
           or-cases (isIn x (field f u)) (isIn x (field f v)) split (λ h. a .each-in f x h) (λ h. b .each-in f x h);
     }
 
-within-only : (f : Field) (sc : Scope) (lo hi k : ℕ) (x : Site) → getElem? (names-of f (sc .variables) (sc .channels)) k ≡ some x
+within-only : (f : Field) (sc : Scope) (lo hi k : ℕ) (x : Site) → getElem? (names-of f sc) k ≡ some x
     → Within sc lo hi (only f x)
 unfolding isIn
 within-only f sc lo hi k x e =
@@ -164,27 +132,26 @@ within-changing : (sc : Scope) (lo hi k : ℕ) (x : Site) → getElem? (sc .vari
 within-changing sc lo hi k x e = within-both (within-only changed sc lo hi k x e) (within-only used-there sc lo hi k x e)
 
 -- SKIP and STOP
-pub idle-same : (d : ℕ) (sc : Scope) (s : List ℕ) (place at k : ℕ) (st : M.Stmt) → ltb k 2 ≡ true → usage st ≡ nothing
+pub idle-same : (d : ℕ) (w : Names) (sc : Scope) (s : List ℕ) (place at k : ℕ) (st : M.Stmt) → ltb k 2 ≡ true → usage st ≡ nothing
     → partOf st at ≡ record { next = at; words = 2; processes = 1; clash = Nowhere }
-    → Same s (RestIs s sc place at (λ vs cs part i l. simpleUsed k d (length vs) (length cs) part i l)) NoStmt (leaf at 2)
-    (parsed st at (drop at s))
-unfolding simpleUsed
-idle-same d sc s place at k st small none-used is =
+    → Same s (RestIs sc place at (λ l. simpleUses k d w s at l)) NoStmt (leaf at 2) (parsed st at (drop at s))
+unfolding simpleUses
+idle-same d w sc s place at k st small none-used is =
     gives st at (leaf at 2)
     (record {
       is = rw is refl;
       ahead = omega arith;
-      uses = λ vs cs from to l o h. rw (small, none-used) (record { next = refl; marks = marked-nothing vs cs l });
+      uses = rw (small, none-used) (use-nothing sc);
       within = rw none-used (within-nothing sc place at);
     })
 
 -- an expression at the end of a statement without statements inside
-value-same : (kind least d : ℕ) (sc : Scope) (s : List ℕ) (at : ℕ) (of : M.Expr → M.Stmt) (R : M.Stmt → ℕ → StmtRead → Type 0) → Bytes s
+value-same : (kind least d : ℕ) (sc : Scope) (s : List ℕ) (at : ℕ) (of : M.Expr → M.Stmt) (R : M.Stmt → ℕ → StmtRead → Type 0) → Bytes s → Numbers sc
     → ((e : M.Expr) (n : ℕ) (x : HeadRead) → WholeIs s kind d sc at e n x → R (of e) n (leaf n (max least (asked kind (temporaries e)))))
     → Same s R NoStmt (valueAt kind least d (length (sc .variables)) s at) (onward (readExpr d sc at (drop at s)) (λ e. pure (of e)))
 unfolding valueAt
-value-same kind least d sc s at of R b h =
-    onwards (λ x. withHead NoStmt x (λ m a. leaf m (max least a))) (λ e. pure (of e)) (whole-same kind d sc s at b)
+value-same kind least d sc s at of R b o h =
+    onwards (λ x. withHead NoStmt x (λ m a. leaf m (max least a))) (λ e. pure (of e)) (whole-same kind d sc s at b o)
     (λ e n y k q. rw (k .is) (gives (of e) n (leaf n (max least (asked kind (temporaries e)))) (h e n y k))) (λ j p. refl)
 
 input-same : (w : Names) (sc : Scope) (place : ℕ) (s : List ℕ) (at : ℕ) → Bytes s → Scoped w sc place
@@ -195,42 +162,40 @@ output-same : (w : Names) (sc : Scope) (place : ℕ) (s : List ℕ) (at : ℕ) �
     → Same s (Listed s at (sc .channels)) Refused (outputAt w s at) (readName canOutput (sc .channels) at (drop at s))
 output-same w sc place s at b h = rw (h .channels) (name-same canOutput (sc .channels) 0 (w .inputs) s at b (h .outs))
 
--- one part's use, then another's
-pub use-both : {vs cs : List Site} {l : List ℕ} {u v : Usage} {m n from : ℕ} (x : Used) (f : ℕ → List ℕ → Used)
-    → UsedAs vs cs l u m from x → UsedAs vs cs (x .marks) v n from (f (m - from) (x .marks)) → UsedAs vs cs l (u ⊕ v) n from (thenUsed x f)
-use-both x f a b = rw (a .next) (record { next = b .next; marks = marked-both (a .marks) (b .marks) })
-
-abbrev pub simpleWay : (kind d : ℕ) → Way
-simpleWay k d vs cs part i l = simpleUsed k d (length vs) (length cs) part i l
-
 pub assign-same : (d : ℕ) (w : Names) (sc : Scope) (s : List ℕ) (place at : ℕ) (stmts : Scope → Reader M.Stmt) → Bytes s → Scoped w sc place
-    → Same s (RestIs s sc place at (simpleWay 2 d)) NoStmt (simpleAt 2 d w s at)
+    → Numbers sc
+    → Same s (RestIs sc place at (λ l. simpleUses 2 d w s at l)) NoStmt (simpleAt 2 d w s at)
     (stmtOf place sc (record { expr = readExpr d sc; stmt = stmts }) isAssign at (drop at s))
-unfolding simpleAt stmtOf simpleUsed asked need processes firstClash usage
-assign-same d w sc s place at stmts b h =
+unfolding simpleAt simpleUses stmtOf asked need processes firstClash usage
+assign-same d w sc s place at stmts b h o =
     rw (h .variables) (
     onwards (λ i. withItem NoStmt i (λ x n. valueAt 2 2 d (length (sc .variables)) s n)) _ (variable-same (sc .variables) s at b)
     (λ x n y k q. rw (k .found) (
-    value-same 2 2 d sc s n (λ e. M.assign x e) (RestIs s sc place at (simpleWay 2 d)) b (λ e m z r.
+    value-same 2 2 d sc s n (λ e. M.assign x e) (RestIs sc place at _) b o (λ e m z r.
     record {
       is = let words : max 2 (temporaries e + 2) ≡ temporaries e + 2 = omega arith in rw words refl;
       ahead = omega (arith, k .there .ahead, r .ahead);
-      uses = λ vs cs from to l o st.
-          let here : Stretch s vs cs at n from to l = later st (omega arith) (omega (arith, r .ahead)) refl in
-          let target = variable-used k (o .variables) here in
-          let rest : Stretch s vs cs n m from to (variableUsed (length vs) (slice from to s) (at - from) l .marks) =
-          later st (omega (arith, k .there .ahead)) (omega arith) (target .marks .long) in
-          use-both _ (λ i j. exprUsed d (length vs) (slice from to s) i j) target
-          (r .uses vs cs from to _ (o .variables) (o .channels) rest);
+      uses = rw (q ∙ k .found)
+          (use-both {f = changeAt (k .value)} {g = exprWay d sc s n}
+          (change-one sc (k .value) x (o .own-variables) (k .listed) (o .few-variables)) (r .uses));
       within = within-both (within-changing sc place m (k .value) x (k .listed)) (r .within place m);
     })))
     (λ j p. refl))
 
+-- an item that was read stands for one of the things listed
+listed-is : {A : Type 0} {s : List ℕ} {at n : ℕ} {things : List A} {a : A} {i j : Item} → i ≡ j → Listed s at things a n j
+    → Listed s at things a n i
+listed-is e k = record { value = k .value; found = e ∙ k .found; listed = k .listed; there = k .there }
+
+-- a channel to input from at a place, and a variable behind it
+pub record TakenAt (w : Names) (sc : Scope) (s : List ℕ) (at : ℕ) (ch x : Site) (n m : ℕ) : Type 0 where
+  pub channel : Listed s at (sc .channels) ch n (inputAt w s at)
+  pub target : Listed s n (sc .variables) x m (variableAt w s n)
+
 -- a channel to input from and a variable, and what follows them
 pub taken-onward : {B Y : Type 0} {Q : B → ℕ → Y → Type 0} {g : ℕ → ℕ → Y} (w : Names) (sc : Scope) (s : List ℕ) (place at words : ℕ)
     (c : HeadRead → Y) (k : Site → Site → Reader B) → Bytes s → Scoped w sc place
-    → ((ch x : Site) (n m : ℕ) (i j : Item) → Listed s at (sc .channels) ch n i → Listed s n (sc .variables) x m j
-    → Same s Q g (c (Head m words)) (k ch x m (drop m s)))
+    → ((ch x : Site) (n m : ℕ) → TakenAt w sc s at ch x n m → Same s Q g (c (Head m words)) (k ch x m (drop m s)))
     → ((j p : ℕ) → c (NoHead j p) ≡ g j p)
     → Same s Q g (c (takenAt w s at words))
     (onward (readName canInput (sc .channels) at (drop at s))
@@ -241,70 +206,67 @@ taken-onward w sc s place at words c k b h f r =
     (input-same w sc place s at b h)
     (λ ch n y kc q. rw (kc .found, h .variables) (
     onwards (λ i. c (withItem NoHead i (λ x m. Head m words))) (λ x. k ch x) (variable-same (sc .variables) s n b)
-    (λ x m z kx p. rw (kx .found) (f ch x n m y z kc kx)) r))
+    (λ x m z kx p. rw (kx .found)
+    (f ch x n m (record { channel = listed-is q kc; target = listed-is (rw (h .variables) p) kx }))) r))
     r
 
 -- how a channel and a variable that are input are used
-pub input-used : {s : List ℕ} {vs cs : List Site} {sc : Scope} {ch x : Site} {at n m from to : ℕ} {i j : Item} (l : List ℕ)
-    → Listed s at (sc .channels) ch n i → Listed s n (sc .variables) x m j → Fresh vs (sc .variables) → Fresh cs (sc .channels)
-    → Stretch s vs cs at m from to l
-    → UsedAs vs cs l (inputting ch ⊕ changing x) m from
-    (thenUsed (nameUsed 2048 (length cs) (slice from to s) (at - from) l) (λ i j. variableUsed (length vs) (slice from to s) i j))
-input-used {s} {vs} {cs} {at = at} {n} {m} {from} {to} l kc kx fv fc st =
-    let here : Stretch s vs cs at n from to l = later st (omega arith) (omega (arith, kx .there .ahead)) refl in
-    let channel = name-used inputs-of kc fc here in
-    let rest : Stretch s vs cs n m from to (nameUsed 2048 (length cs) (slice from to s) (at - from) l .marks) =
-    later st (omega (arith, kc .there .ahead)) (omega arith) (channel .marks .long) in
-    use-both _ (λ i j. variableUsed (length vs) (slice from to s) i j) channel (variable-used kx fv rest)
+pub taken-uses : {w : Names} {sc : Scope} {s : List ℕ} {at n m : ℕ} {ch x : Site} → TakenAt w sc s at ch x n m → Numbers sc
+    → Uses sc (inputting ch ⊕ changing x) (λ l. takenUses w s at l)
+unfolding takenUses
+taken-uses {sc = sc} {ch = ch} {x} t o =
+    rw (t .channel .found, t .target .found) (
+    use-both {f = markAt 32 (t .channel .value)} {g = changeAt (t .target .value)}
+    (mark-one inputs-of sc (t .channel .value) ch (o .own-channels) (t .channel .listed) (o .few-channels))
+    (change-one sc (t .target .value) x (o .own-variables) (t .target .listed) (o .few-variables)))
 
-pub within-input : {s : List ℕ} {sc : Scope} {ch x : Site} {at n m : ℕ} {i j : Item} (lo hi : ℕ)
-    → Listed s at (sc .channels) ch n i → Listed s n (sc .variables) x m j → Within sc lo hi (inputting ch ⊕ changing x)
-within-input {sc = sc} {ch} {x} lo hi kc kx =
-    within-both (within-only inputs-of sc lo hi (kc .value) ch (kc .listed)) (within-changing sc lo hi (kx .value) x (kx .listed))
+pub within-input : {w : Names} {sc : Scope} {s : List ℕ} {at n m : ℕ} {ch x : Site} (lo hi : ℕ) → TakenAt w sc s at ch x n m
+    → Within sc lo hi (inputting ch ⊕ changing x)
+within-input {sc = sc} {ch = ch} {x} lo hi t =
+    within-both (within-only inputs-of sc lo hi (t .channel .value) ch (t .channel .listed))
+    (within-changing sc lo hi (t .target .value) x (t .target .listed))
 
 pub input-stmt-same : (d : ℕ) (w : Names) (sc : Scope) (s : List ℕ) (place at : ℕ) (inner : Inner) → Bytes s → Scoped w sc place
-    → Same s (RestIs s sc place at (simpleWay 3 d)) NoStmt (simpleAt 3 d w s at) (stmtOf place sc inner isInput at (drop at s))
-unfolding simpleAt stmtOf simpleUsed need processes firstClash usage
-input-stmt-same d w sc s place at inner b h =
+    → Numbers sc
+    → Same s (RestIs sc place at (λ l. simpleUses 3 d w s at l)) NoStmt (simpleAt 3 d w s at)
+    (stmtOf place sc inner isInput at (drop at s))
+unfolding simpleAt simpleUses stmtOf need processes firstClash usage
+input-stmt-same d w sc s place at inner b h o =
     taken-onward w sc s place at 3 (λ x. withHead NoStmt x (λ m a. leaf m a)) (λ c x. pure (M.input c x)) b h
-    (λ ch x n m i j kc kx. gives (M.input ch x) m (leaf m 3)
+    (λ ch x n m t. gives (M.input ch x) m (leaf m 3)
     (record {
       is = refl;
-      ahead = omega (arith, kc .there .ahead, kx .there .ahead);
-      uses = λ vs cs from to l o st. input-used l kc kx (o .variables) (o .channels) st;
-      within = within-input place m kc kx;
+      ahead = omega (arith, t .channel .there .ahead, t .target .there .ahead);
+      uses = taken-uses t o;
+      within = within-input place m t;
     }))
     (λ j p. refl)
 
 pub output-stmt-same : (d : ℕ) (w : Names) (sc : Scope) (s : List ℕ) (place at : ℕ) (stmts : Scope → Reader M.Stmt) → Bytes s
-    → Scoped w sc place
-    → Same s (RestIs s sc place at (simpleWay 4 d)) NoStmt (simpleAt 4 d w s at)
+    → Scoped w sc place → Numbers sc
+    → Same s (RestIs sc place at (λ l. simpleUses 4 d w s at l)) NoStmt (simpleAt 4 d w s at)
     (stmtOf place sc (record { expr = readExpr d sc; stmt = stmts }) isOutput at (drop at s))
-unfolding simpleAt stmtOf simpleUsed asked need processes firstClash usage
-output-stmt-same d w sc s place at stmts b h =
+unfolding simpleAt simpleUses stmtOf asked need processes firstClash usage
+output-stmt-same d w sc s place at stmts b h o =
     rw (h .variables) (
     onwards (λ i. withItem NoStmt i (λ x n. valueAt 4 4 d (length (sc .variables)) s n)) _ (output-same w sc place s at b h)
     (λ ch n y k q. rw (k .found) (
-    value-same 4 4 d sc s n (λ e. M.output ch e) (RestIs s sc place at (simpleWay 4 d)) b (λ e m z r.
+    value-same 4 4 d sc s n (λ e. M.output ch e) (RestIs sc place at _) b o (λ e m z r.
     record {
       is = refl;
       ahead = omega (arith, k .there .ahead, r .ahead);
-      uses = λ vs cs from to l o st.
-          let here : Stretch s vs cs at n from to l = later st (omega arith) (omega (arith, r .ahead)) refl in
-          let target = name-used outputs-of k (o .channels) here in
-          let rest : Stretch s vs cs n m from to (nameUsed 3072 (length cs) (slice from to s) (at - from) l .marks) =
-          later st (omega (arith, k .there .ahead)) (omega arith) (target .marks .long) in
-          use-both _ (λ i j. exprUsed d (length vs) (slice from to s) i j) target
-          (r .uses vs cs from to _ (o .variables) (o .channels) rest);
+      uses = rw (q ∙ k .found)
+          (use-both {f = markAt 48 (k .value)} {g = exprWay d sc s n}
+          (mark-one outputs-of sc (k .value) ch (o .own-channels) (k .listed) (o .few-channels)) (r .uses));
       within = within-both (within-only outputs-of sc place m (k .value) ch (k .listed)) (r .within place m);
     })))
     (λ j p. refl))
 
 -- a statement
-pub record StmtIs (s : List ℕ) (d : ℕ) (sc : Scope) (at : ℕ) (st : M.Stmt) (n : ℕ) (x : StmtRead) : Type 0 where
+pub record StmtIs (s : List ℕ) (d : ℕ) (w : Names) (sc : Scope) (at : ℕ) (st : M.Stmt) (n : ℕ) (x : StmtRead) : Type 0 where
   pub is : x ≡ Stmt (partOf st n)
   pub ahead : at < n
-  pub uses : UsesFrom s sc at at n (usage st) (λ vs cs part i l. stmtUsed d (length vs) (length cs) part i l)
+  pub uses : Uses sc (usage st) (λ l. stmtUses d w s at l)
   pub within : Within sc at n (usage st)
 
 -- a name among two lists of names

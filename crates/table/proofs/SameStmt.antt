@@ -1,72 +1,80 @@
 -- Statements as the reader answers them are those of the model's reader, with what is counted of them.
 use Prim.Native.Nat.{ℕ, zero, suc, _≤_, _<_}
 use native.Mathlib.Omega.{arith}
-use mathlib.Core.Path.{refl}
+use mathlib.Core.Path.{_≡_, refl, _∙_}
 use mathlib.Core.Bool.{cond}
 use mathlib.Core.List.{List}
-use lib.ListN.{length, drop}
-use lib.Dec.{ltb, eqb}
+use lib.ListN.{drop}
+use lib.Dec.{ltb}
 use Rattle.model.specs.Syntax.{stmt}
 use Rattle.model.specs.Syntax as M
-use Rattle.model.specs.Reader.{Parsed, Scope, readExpr, Inner, stmtOf, isSkip, isStop, readStmt, stmtKinds}
+use Rattle.model.specs.Reader.{Parsed, parsed, Scope, readExpr, Inner, stmtOf, isSkip, isStop, readStmt, stmtKinds}
 use Rattle.model.specs.Usage.{usage, firstClash}
 use Rattle.model.specs.Counts.{processes, need}
-use Rattle.table.specs.Stmts.{leaf, simpleAt, Fits, stmtAt, insideAt}
-use Rattle.table.specs.Uses.{simpleUsed, stmtUsed}
+use Rattle.table.specs.Stmts.{leaf, simpleAt, Fits, stmtAt, insideAt, simpleUses, stmtUses, insideUses}
 use Rattle.table.specs.declared.stmt.Names.{Names}
 use Rattle.table.specs.declared.stmt.StmtRead.{StmtRead}
 use Rattle.table.specs.declared.stmt.StmtRead.the-variants.{Stmt, Refused as NoStmt}
+use Rattle.table.specs.Scopes.{Scoped}
 use Rattle.table.proofs.SameItems.{Bytes, NumberAt, Same, gives, turns, onwards, one-same, deep-same, each}
-use Rattle.table.proofs.Marks.{Stretch, number-in, later}
-use Rattle.table.proofs.SameExpr.{Way}
-use Rattle.table.proofs.SameSimple.{RestIs, StmtIs, idle-same, assign-same, input-stmt-same, output-stmt-same, simpleWay}
+use Rattle.table.proofs.SameExpr.{Numbers}
+use Rattle.table.proofs.SameSimple.{RestIs, StmtIs, idle-same, assign-same, input-stmt-same, output-stmt-same}
 use Rattle.table.proofs.SameDeclare.{InnerIs, variables-same, channels-same}
-use Rattle.table.proofs.SameMany.{manyWay}
-use Rattle.table.proofs.SameParts.{countedWay, sequence-same, choice-same, loop-same}
+use Rattle.table.proofs.SameParts.{sequence-same, choice-same, loop-same}
 use Rattle.table.proofs.SameAlt.{alternative-same}
 use Rattle.table.proofs.SamePar.{par-same}
-use Rattle.numbers.specs.Items.{valueAt, withItem}
-
--- what follows a statement's kind, by its number
-abbrev kindWay : (kind d : ℕ) → Way
-kindWay k d vs cs part n l =
-    cond (ltb k 5) (simpleUsed k d (length vs) (length cs) part n l)
-    (cond (ltb k 7) (stmtUsed d (length vs) (length cs) part (valueAt part n .next) l)
-    (cond (eqb k 10) (manyWay 1 k d vs cs part n l) (countedWay k d vs cs part n l)))
+use Rattle.table.proofs.Exact.{exact}
+use Rattle.table.proofs.Marks.{Uses, clean-none}
+use Rattle.table.specs.Uses.{noNames}
+use Rattle.table.specs.Sets.{Exact}
+use Rattle.model.proofs.Cases.{never}
+use Rattle.numbers.specs.Items.{betweenAt, withItem}
+use Rattle.numbers.specs.declared.Item.the-variants.{Item as Found}
 
 skip-same : (d : ℕ) (w : Names) (sc : Scope) (s : List ℕ) (place at : ℕ) (inner : Inner)
-    → Same s (RestIs s sc place at (simpleWay 0 d)) NoStmt (simpleAt 0 d w s at) (stmtOf place sc inner isSkip at (drop at s))
+    → Same s (RestIs sc place at (λ l. simpleUses 0 d w s at l)) NoStmt (simpleAt 0 d w s at) (stmtOf place sc inner isSkip at (drop at s))
 unfolding simpleAt stmtOf need processes firstClash usage
-skip-same d w sc s place at inner = idle-same d sc s place at 0 M.SKIP refl refl refl
+skip-same d w sc s place at inner = idle-same d w sc s place at 0 M.SKIP refl refl refl
 
 stop-same : (d : ℕ) (w : Names) (sc : Scope) (s : List ℕ) (place at : ℕ) (inner : Inner)
-    → Same s (RestIs s sc place at (simpleWay 1 d)) NoStmt (simpleAt 1 d w s at) (stmtOf place sc inner isStop at (drop at s))
+    → Same s (RestIs sc place at (λ l. simpleUses 1 d w s at l)) NoStmt (simpleAt 1 d w s at) (stmtOf place sc inner isStop at (drop at s))
 unfolding simpleAt stmtOf need processes firstClash usage
-stop-same d w sc s place at inner = idle-same d sc s place at 1 M.STOP refl refl refl
+stop-same d w sc s place at inner = idle-same d w sc s place at 1 M.STOP refl refl refl
+
+-- the names in scope fit the sets where there is depth left
+fitting : {w : Names} {sc : Scope} {at : ℕ} (d : ℕ) → Scoped w sc at → Fits w (suc d) → Numbers sc
+fitting d h f =
+    record {
+      own-variables = h .own-variables;
+      own-channels = h .own-channels;
+      few-variables = omega (arith, h .variables, f .1);
+      few-channels = omega (arith, h .channels, f .2);
+    }
 
 pub stmt-same : (d : ℕ) (s : List ℕ) → Bytes s → InnerIs s d
-unfolding stmtAt readStmt stmtUsed
+unfolding stmtAt stmtUses readStmt
 stmt-same zero s b w sc at h f =
-    deep-same (StmtIs s zero sc at) NoStmt (λ i. withItem NoStmt i (λ v n. leaf n 2)) s at b (λ j p. refl)
+    deep-same (StmtIs s zero w sc at) NoStmt (λ i. withItem NoStmt i (λ v n. leaf n 2)) s at b (λ j p. refl)
 stmt-same (suc d) s b w sc at h f =
     let down : InnerIs s d = stmt-same d s b in
     let fits : Fits w d = (omega (arith, f .0), omega (arith, f .1), omega (arith, f .2), f .3, f .4) in
     let inner : Inner = record { expr = readExpr d sc; stmt = readStmt d } in
+    let o : Numbers sc = fitting d h f in
     onwards (λ x. withItem NoStmt x (λ k n. kinds k n)) (λ k. stmtOf at sc inner k) (one-same stmtKinds 11 s at b refl)
-    (λ kind n y k q. rw (k .found) (with-kind (k .value) n _ _ (k .there) (
+    (λ kind n y k q. rw (k .found) (with-kind (k .value) n _ _ (q ∙ k .found) (k .there) (
     let l : at < n = k .there .ahead in
     let le : at ≤ n = omega (arith, l) in
-    each (λ v kind. Same s (RestIs s sc at n (kindWay v d)) NoStmt (kinds v n) (stmtOf at sc inner kind n (drop n s))) stmtKinds
+    each (λ v kind. Same s (RestIs sc at n (uses-of v n)) NoStmt (kinds v n) (stmtOf at sc inner kind n (drop n s))) stmtKinds
     (k .value) (
       skip-same d w sc s at n inner,
       (
         stop-same d w sc s at n inner,
         (
-          assign-same d w sc s at n (readStmt d) b h,
+          assign-same d w sc s at n (readStmt d) b h o,
           (
-            input-stmt-same d w sc s at n inner b h,
+            input-stmt-same d w sc s at n inner b h o,
             (
-              output-stmt-same d w sc s at n (readStmt d) b h,
+              output-stmt-same d w sc s at n (readStmt d) b h o,
               (
                 variables-same s d w sc at n inner b l h f down refl,
                 (
@@ -74,12 +82,12 @@ stmt-same (suc d) s b w sc at h f =
                   (
                     sequence-same s d w sc at n inner b le h fits down refl,
                     (
-                      par-same s d w sc at n inner b le h f fits down refl,
+                      par-same s d w sc at n inner b le h o fits down refl,
                       (
-                        choice-same s d w sc at n inner b le h fits down refl refl,
+                        choice-same s d w sc at n inner b le h o fits down refl refl,
                         (
-                          loop-same s d w sc at n inner b le h fits down refl refl,
-                          (alternative-same s d w sc at n inner b le h fits down refl refl, tt),
+                          loop-same s d w sc at n inner b le h o fits down refl refl,
+                          (alternative-same s d w sc at n inner b le h o fits down refl refl, tt),
                         ),
                       ),
                     ),
@@ -94,19 +102,28 @@ stmt-same (suc d) s b w sc at h f =
     (λ j p. refl)
   where
     kinds : ℕ → ℕ → StmtRead
-    kinds k n = cond (ltb k 5) (simpleAt k d w s n) (insideAt at k d w (λ v i. stmtAt d v s i) s n)
+    kinds k n =
+        cond (ltb k 5) (simpleAt k d w s n) (insideAt at k d w (λ v i. stmtAt d v s i) (λ v i j. stmtUses d v s i j) s n)
 
-    with-kind : (k n : ℕ) (x : StmtRead) (r : Parsed M.Stmt) → NumberAt s at k n → Same s (RestIs s sc at n (kindWay k d)) NoStmt x r
-        → Same s (StmtIs s (suc d) sc at) NoStmt x r
-    with-kind k n x r t (gives st m y r2) =
+    uses-of : ℕ → ℕ → List ℕ → List ℕ
+    uses-of k n l =
+        cond (ltb k 5) (simpleUses k d w s n l) (insideUses k d w (λ v i. stmtAt d v s i) (λ v i j. stmtUses d v s i j) s n l)
+
+    with-kind : (k n : ℕ) (x : StmtRead) (r : Parsed M.Stmt) → betweenAt 0 11 s at ≡ Found k n → NumberAt s at k n
+        → Same s (RestIs sc at n (uses-of k n)) NoStmt x r
+        → Same s (StmtIs s (suc d) w sc at) NoStmt x r
+    with-kind k n x r f t (gives st m y r2) =
         gives st m y
-        (record {
-          is = r2 .is;
-          ahead = omega (arith, t .ahead, r2 .ahead);
-          uses = λ vs cs from to j o z.
-              let here : Stretch s vs cs at n from to j = later z (omega arith) (omega (arith, r2 .ahead)) refl in
-              let rest : Stretch s vs cs n m from to j = later z (omega (arith, t .ahead)) (omega arith) refl in
-              rw (number-in t here) (r2 .uses vs cs from to j o rest);
-          within = r2 .within;
-        })
-    with-kind k n x r t (turns j p) = turns j p
+        (record { is = r2 .is; ahead = omega (arith, t .ahead, r2 .ahead); uses = rw f (r2 .uses); within = r2 .within })
+    with-kind k n x r f t (turns j p) = turns j p
+
+-- a statement that the model reads is used as the model says
+used-as : {s : List ℕ} {d at : ℕ} {w : Names} {sc : Scope} {x : StmtRead} {r : Parsed M.Stmt} (st : M.Stmt) (n : ℕ) (rest : List ℕ)
+    → Same s (StmtIs s d w sc at) NoStmt x r → r ≡ parsed st n rest → Uses sc (usage st) (λ l. stmtUses d w s at l)
+used-as st n rest (gives a m y k) e = let same : a ≡ st = cc in rw (← same) (k .uses)
+used-as st n rest (turns j p) e = never (cc)
+
+-- one reading with empty sets gives exactly a statement's usage
+pub exact-uses : (d : ℕ) (w : Names) (s : List ℕ) (at : ℕ) (l : List ℕ) → Bytes s → Fits w d → Exact d w s at l (stmtUses d w s at l)
+exact-uses d w s at l b f sc st n rest h e p =
+    exact (rw e (used-as st n rest (stmt-same d s b w sc at h f) p noNames (clean-none sc)))

@@ -22,9 +22,9 @@ use Rattle.numbers.specs.Items.{betweenAt, withItem}
 use Rattle.table.specs.Stmts.{Fits, withStmt}
 use Rattle.table.specs.Tables.{finished, bodyAt, tableAt}
 use Rattle.table.specs.declared.stmt.Names.{Names}
+use Rattle.table.specs.Scopes.{Fresh, Below, Scoped}
 use Rattle.table.proofs.SameItems.{Bytes, Same, gives, turns, onwards, count-same}
-use Rattle.table.proofs.Marks.{Fresh}
-use Rattle.table.proofs.SameSimple.{partOf, Below, Scoped, lookup-append, length-numbered, numbered-at}
+use Rattle.table.proofs.SameSimple.{partOf, lookup-append, length-numbered, numbered-at}
 use Rattle.table.proofs.SameStmt.{stmt-same}
 
 -- an outside channel by its number: an input or an output

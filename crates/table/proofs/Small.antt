@@ -1,11 +1,13 @@
--- What a statement is counted with is bounded by its bytes.
-use Prim.Native.Nat.{ℕ, zero, suc, _+_, _-_, _*_, _≤_, _<_, max}
+-- What a statement is counted with is bounded by its bytes, a name is below its count, and a bit fits a word.
+use Prim.Native.Nat.{ℕ, zero, suc, _+_, _-_, _*_, _%_, _^_, _≤_, _<_, max}
+use native.Mathlib.Nat.{one-mul}
 use native.Mathlib.Omega.{arith}
-use mathlib.Core.Path.{_≡_}
+use mathlib.Core.Path.{_≡_, _∙_}
 use mathlib.Core.Bool.{cond}
 use mathlib.Core.List.{List}
 use lib.ListN.{length, getD}
-use lib.Dec.{ltb, leb, eqb}
+use lib.Dec.{ltb, leb, eqb, lit≤}
+use lib.Pow.{shl-exact}
 use borrow.Author.Tests.{leb-false, ltb-false}
 use Rattle.model.proofs.Cases.{by-bool, of-cond}
 use Rattle.numbers.specs.Items.{groupsAt, betweenAt, nameAt, deepAt, withNumber, withItem}
@@ -14,8 +16,9 @@ use Rattle.model.proofs.Needs.{sides-hold}
 use Rattle.table.specs.Exprs.{withExpr, leafAt, sides, exprAt}
 use Rattle.table.specs.Stmts.{asked, wholeAt, variableAt, inputAt, withHead, withStmt}
 use Rattle.table.specs.Stmts.{outputAt, leaf, valueAt, takenAt, simpleAt, guardAt, headAt, nothing, added, partAt, mostFrom}
-use Rattle.table.specs.Stmts.{gathered, Branches, joinedBy, branchesFrom, noBranches, moreNames, declaring, insideAt, stmtAt}
-use Rattle.table.specs.Stmts.{partIn}
+use Rattle.table.specs.Stmts.{gathered, Branches, joinedBy, BranchesRead, all, stopped, withBranches, branchesFrom, noBranches}
+use Rattle.table.specs.Stmts.{parOf, moreNames, declaring, insideAt, stmtAt, stmtUses, partIn}
+use Rattle.table.specs.Uses.{noNames}
 use Rattle.numbers.specs.declared.NumberRead.{NumberRead}
 use Rattle.numbers.specs.declared.NumberRead.the-variants.{Number, Bad}
 use Rattle.numbers.specs.declared.Item.{Item}
@@ -115,6 +118,21 @@ between-most lo hi s at =
 
 pub count-most : {v n : ℕ} (lo hi : ℕ) (s : List ℕ) (at : ℕ) → betweenAt lo hi s at ≡ Found v n → v ≤ hi
 count-most lo hi s at e = rw e at (between-most lo hi s at)
+
+-- a name is below its count
+abbrev Below : ℕ → Item → Type 0
+Below count (Found v n) = v < count
+Below count (Refused k p) = Unit {0}
+
+all-below : (count from to : ℕ) (s : List ℕ) (at : ℕ) → Below count (nameAt count from to s at)
+unfolding nameAt
+all-below count from to s at =
+    of-number (Below count) (λ x. Unit {0}) tt (groupsAt 5 s at) tt (λ v n h.
+    by-bool (leb count v) (λ e. rw e tt) (λ e. let l : v < count = leb-false count v e in
+    rw e (of-cond (Below count) (ltb v from) l (of-cond (Below count) (ltb v to) tt l))))
+
+pub name-below : {v n : ℕ} (count from to : ℕ) (s : List ℕ) (at : ℕ) → nameAt count from to s at ≡ Found v n → v < count
+name-below count from to s at e = rw e at (all-below count from to s at)
 
 -- what is too deep is refused
 abbrev IsRefused : Item → Type 0
@@ -300,15 +318,25 @@ gathered-in k (Total t) base from len l h =
     (h .reached, h .inside, w, omega (arith, l, h .reached, h .live))
 gathered-in k (NoSum j p) base from len l h = tt
 
-branches-in : (i d place : ℕ) (w : Names) (inner : ℕ → StmtRead) (s : List ℕ) (b : Branches) (base from : ℕ) → base < from
-    → ((n : ℕ) → Small n (length s) (inner n)) → SumIn (suc base) from (length s) (b .total)
-    → In base from (length s) (branchesFrom i d place w inner s b)
+-- what is counted over the branches of a PAR
+abbrev InBranches : (base from len : ℕ) → BranchesRead → Type 0
+InBranches base from len (all b) = SumIn base from len (b .total)
+InBranches base from len (stopped k p) = Unit {0}
+
+branches-in : (i : ℕ) (inner : ℕ → StmtRead) (uses : ℕ → List ℕ → List ℕ) (b : Branches) (base from len : ℕ) → base ≤ from
+    → ((n : ℕ) → Small n len (inner n)) → SumIn base from len (b .total) → InBranches base from len (branchesFrom i inner uses b)
 unfolding branchesFrom
-branches-in zero d place w inner s b base from l h g =
+branches-in zero inner uses b base from len l h g = g
+branches-in (suc i) inner uses b base from len l h g =
+    of-stmt (InBranches base from len) (Small (b .total .next) len) (λ j p. tt) (inner (b .total .next)) (h (b .total .next)) (λ p q.
+    branches-in i inner uses (joinedBy (uses (b .total .next) noNames) b p) base from len l h
+    (added-in base from len (b .total) p l g q))
+
+par-in : (x : BranchesRead) (place base from len : ℕ) → base < from → InBranches (suc base) from len x
+    → In base from len (withBranches NoStmt x (λ b. parOf place (b .total) (b .bad)))
+par-in (all b) place base from len l g =
     (g .reached, g .inside, omega (arith, l, g .reached, g .sum), omega (arith, l, g .reached, g .all))
-branches-in (suc i) d place w inner s b base from l h g =
-    of-stmt (In base from (length s)) (Small (b .total .next) (length s)) (λ j p. tt) (inner (b .total .next)) (h (b .total .next))
-    (λ p q. branches-in i d place w inner s (joinedBy d w s b p) base from l h (added-in (suc base) from (length s) (b .total) p l g q))
+par-in (stopped k p) place base from len l g = tt
 
 -- a count of names, and the statement behind it
 declared-in : (x : Item) (inner : ℕ → ℕ → StmtRead) (place at len : ℕ) → place < at → InItem at len x → Most 32 x
@@ -319,9 +347,10 @@ declared-in x inner place at len l i m h =
     let b : place < n = omega (arith, l, f .0) in
     (omega (arith, b, g .0), g .1, omega (arith, f .1, b, g .0, g .2), omega (arith, b, g .3))))
 
-inside-in : (place k d : ℕ) (w : Names) (inner : Names → ℕ → StmtRead) (s : List ℕ) (at : ℕ) → place < at → at ≤ length s
-    → ((v : Names) (n : ℕ) → Small n (length s) (inner v n)) → Small place (length s) (insideAt place k d w inner s at)
-inside-in place k d w inner s at l u h =
+inside-in : (place k d : ℕ) (w : Names) (inner : Names → ℕ → StmtRead) (uses : Names → ℕ → List ℕ → List ℕ) (s : List ℕ) (at : ℕ)
+    → place < at → at ≤ length s → ((v : Names) (n : ℕ) → Small n (length s) (inner v n))
+    → Small place (length s) (insideAt place k d w inner uses s at)
+inside-in place k d w inner uses s at l u h =
     of-cond (Small place (length s)) (ltb k 7)
     (declared-in (betweenAt 1 32 s at) (λ c n. inner (moreNames k c w) n) place at (length s) l (between-in 1 32 s at)
     (between-most 1 32 s at) (λ c n. h (moreNames k c w) n))
@@ -337,10 +366,15 @@ inside-in place k d w inner s at l u h =
         (gathered-in k (mostFrom c k d w (inner w) s (nothing n)) place n (length s) a
         (most-in c k d w (inner w) s (nothing n) place n (omega (arith, a)) (h w) (nothing-in place n (length s) b)))
 
-    par : (c n : ℕ) → place < n → n ≤ length s → Small place (length s) (branchesFrom c d place w (inner w) s (noBranches n))
+    read : ℕ → ℕ → BranchesRead
+    read c n = branchesFrom c (inner w) (uses w) (noBranches n)
+
+    par : (c n : ℕ) → place < n → n ≤ length s
+        → Small place (length s) (withBranches NoStmt (read c n) (λ b. parOf place (b .total) (b .bad)))
     par c n a b =
-        later-stmt (branchesFrom c d place w (inner w) s (noBranches n)) place (suc place) n (length s) a
-        (branches-in c d place w (inner w) s (noBranches n) place n a (h w) (nothing-in (suc place) n (length s) b))
+        later-stmt (withBranches NoStmt (read c n) (λ b. parOf place (b .total) (b .bad))) place (suc place) n (length s) a
+        (par-in (read c n) place place n (length s) a
+        (branches-in c (inner w) (uses w) (noBranches n) (suc place) n (length s) a (h w) (nothing-in (suc place) n (length s) b)))
 
 pub stmt-small : (d : ℕ) (w : Names) (s : List ℕ) (at : ℕ) → Small at (length s) (stmtAt d w s at)
 unfolding stmtAt
@@ -349,7 +383,7 @@ stmt-small (suc d) w s at =
     of-item (Small at (length s)) (InItem at (length s)) (λ j p. tt) (betweenAt 0 11 s at) (between-in 0 11 s at) (λ k n h.
     of-cond (Small at (length s)) (ltb k 5)
     (later-stmt (simpleAt k d w s n) at (suc at) n (length s) (h .0) (simple-in k d w s at n (h .0) (h .1)))
-    (inside-in at k d w (λ v i. stmtAt d v s i) s n (h .0) (h .1) (λ v i. stmt-small d v s i)))
+    (inside-in at k d w (λ v i. stmtAt d v s i) (λ v i j. stmtUses d v s i j) s n (h .0) (h .1) (λ v i. stmt-small d v s i)))
 
 pub stmt-counts : {p : Part} (d : ℕ) (w : Names) (s : List ℕ) (at : ℕ) → stmtAt d w s at ≡ Stmt p → Small at (length s) (Stmt p)
 stmt-counts d w s at e = rw e at (stmt-small d w s at)
@@ -357,3 +391,7 @@ stmt-counts d w s at e = rw e at (stmt-small d w s at)
 pub part-counts : {p : Part} (k d : ℕ) (w : Names) (s : List ℕ) (at : ℕ) → partIn k d w s at ≡ Stmt p → Small at (length s) (Stmt p)
 unfolding partIn
 part-counts k d w s at e = rw e at (part-in k d w (λ i. stmtAt d w s i) s at (λ i. stmt-small d w s i))
+
+-- a bit of a word of 64, as the code shifts it
+pub bit-is : (v : ℕ) → (1 * 2 ^ (v % 64)) % 2 ^ 64 ≡ 2 ^ (v % 64)
+bit-is v = shl-exact 1 (v % 64) 64 (lit≤ tt) (omega arith) ∙ one-mul (2 ^ (v % 64))

@@ -5,6 +5,7 @@ use mathlib.Core.List.{List}
 use lib.Dec.{ltb, eqb}
 use Rattle.model.specs.Counts.{sidesNeed, orderOf, sidesHold}
 use Rattle.numbers.specs.Items.{betweenAt, nameAt, deepAt, withItem}
+use Rattle.table.specs.Uses.{usesSet, markAt}
 use Rattle.table.specs.declared.expr.Term.{Term}
 use Rattle.table.specs.declared.expr.ExprRead.{ExprRead}
 use Rattle.table.specs.declared.expr.ExprRead.the-variants.{Expr, Refused as NoExpr}
@@ -46,6 +47,30 @@ exprAt (suc d) vs s at =
 
 unfoldable pub sidesAt : (depth variables : ℕ) → List ℕ → (at : ℕ) → ExprRead
 sidesAt d vs s at = sides (λ i. exprAt (d - 1) vs s i) at
+
+-- the sets of names where something is refused: as they are
+abbrev pub kept : List ℕ → (number place : ℕ) → List ℕ
+kept l k p = l
+
+-- the sets behind a constant or a variable, which is used
+unfoldable pub leafUses : (kind variables : ℕ) → List ℕ → (at : ℕ) → List ℕ → List ℕ
+leafUses kind vs s at l = cond (eqb kind constantKind) l (withItem (kept l) (nameAt vs 0 0 s at) (λ v n. markAt usesSet v l))
+
+-- left, right
+abbrev pub bothUse : (ℕ → ExprRead) → (ℕ → List ℕ → List ℕ) → ℕ → List ℕ → List ℕ
+bothUse inner uses at l = withExpr (kept (uses at l)) (inner at) (λ e. uses (e .next) (uses at l))
+
+-- the sets behind an expression: the variables that it reads are used
+unfoldable pub exprUses : (depth variables : ℕ) → List ℕ → (at : ℕ) → List ℕ → List ℕ
+exprUses zero vs s at l = l
+exprUses (suc d) vs s at l =
+    withItem (kept l) (betweenAt 0 lastExpression s at) (λ k n.
+    cond (ltb k notKind) (leafUses k vs s n l)
+    (cond (eqb k notKind) (exprUses d vs s n l)
+    (withItem (kept l) (betweenAt 0 lastOperator s n) (λ o m. bothUse (λ i. exprAt d vs s i) (λ i j. exprUses d vs s i j) m l))))
+
+unfoldable pub sidesUse : (depth variables : ℕ) → List ℕ → (at : ℕ) → List ℕ → List ℕ
+sidesUse d vs s at l = bothUse (λ i. exprAt (d - 1) vs s i) (λ i j. exprUses (d - 1) vs s i j) at l
 
 -- the registers are at most 3, and the stored values fewer than the depth left
 abbrev pub Within : ExprRead → ℕ → Type 0

@@ -2,7 +2,7 @@
 ghost use mathlib.Core.Path.{_≡_};
 ghost use Prim.Native.Nat.{_<_, _≤_, max};
 ghost use Rattle.model.specs.Counts.{sidesNeed, orderOf, sidesHold};
-ghost use Rattle.table.specs.Exprs.{single, joined, leafAt, exprAt, sidesAt, Within};
+ghost use Rattle.table.specs.Exprs.{single, joined, leafAt, exprAt, sidesAt, leafUses, exprUses, sidesUse, Within};
 ghost use Rattle.table.specs.declared.expr.ExprRead.the-variants.{Refused as NoExpr};
 ghost use Rattle.numbers.specs.Items.{withItem};
 
@@ -25,13 +25,31 @@ pub fn larger(a: u64, b: u64) -> u64
 }
 
 // A constant or a variable.
-fn read_leaf(table: &[u8], at: usize, kind: u64, variables: u64) -> ExprRead
-    ensures { λ r. ⌜ r ≡ leafAt kind variables (now (table .entry)) at ⌝ }
+fn read_leaf(table: &[u8], at: usize, kind: u64, variables: u64, sets: &mut [u64; 64]) -> ExprRead
+    requires { ⌜ variables ≤ 1024 ⌝ }
+    ensures said { λ r. ⌜ r ≡ leafAt kind variables (now (table .entry)) at ⌝ }
+    ensures uses { λ r. ⌜ now (sets .exit) ≡ leafUses kind variables (now (table .entry)) at (now (sets .entry)) ⌝ }
 {
     if kind == crate::kinds::CONSTANT {
         return no_expr(numbers::read_between(table, at, 0, 4294967295));
     }
-    no_expr(numbers::read_name(table, at, variables, 0, 0))
+    match numbers::read_name(table, at, variables, 0, 0) {
+        numbers::Item::Item(name, next) => {
+            crate::usage::mark(sets, crate::usage::USES, name);
+            single_term(next)
+        }
+        numbers::Item::Refused(n, p) => ExprRead::Refused(n, p),
+    }
+}
+
+fn single_term(next: usize) -> ExprRead
+    ensures { λ r. ⌜ r ≡ single next ⌝ }
+{
+    ExprRead::Expr(Term {
+        next: next,
+        registers: 1,
+        stored: 0,
+    })
 }
 
 // A refusal for the whole expression.
@@ -39,11 +57,7 @@ fn no_expr(item: numbers::Item) -> ExprRead
     ensures { λ r. ⌜ r ≡ withItem NoExpr item (λ v n. single n) ⌝ }
 {
     match item {
-        numbers::Item::Item(v, next) => ExprRead::Expr(Term {
-            next: next,
-            registers: 1,
-            stored: 0,
-        }),
+        numbers::Item::Item(v, next) => single_term(next),
         numbers::Item::Refused(n, p) => ExprRead::Refused(n, p),
     }
 }
@@ -92,13 +106,14 @@ fn join(left: Term, right: Term) -> ExprRead
 }
 
 // Left and right of an operator.
-fn read_sides(table: &[u8], at: usize, depth: u64, variables: u64) -> ExprRead
-    requires { ⌜ (0 < depth) × (depth ≤ 32) ⌝ }
+fn read_sides(table: &[u8], at: usize, depth: u64, variables: u64, sets: &mut [u64; 64]) -> ExprRead
+    requires { ⌜ (0 < depth) × (depth ≤ 32) × (variables ≤ 1024) ⌝ }
     ensures said { λ r. ⌜ r ≡ sidesAt depth variables (now (table .entry)) at ⌝ }
+    ensures uses { λ r. ⌜ now (sets .exit) ≡ sidesUse depth variables (now (table .entry)) at (now (sets .entry)) ⌝ }
     ensures within { λ r. ⌜ Within r depth ⌝ }
 {
-    match read_expr(table, at, depth - 1, variables) {
-        ExprRead::Expr(left) => match read_expr(table, left.next, depth - 1, variables) {
+    match read_expr(table, at, depth - 1, variables, sets) {
+        ExprRead::Expr(left) => match read_expr(table, left.next, depth - 1, variables, sets) {
             ExprRead::Expr(right) => join(left, right),
             ExprRead::Refused(n, p) => ExprRead::Refused(n, p),
         },
@@ -107,9 +122,16 @@ fn read_sides(table: &[u8], at: usize, depth: u64, variables: u64) -> ExprRead
 }
 
 // An expression; the depth left falls at each call.
-pub fn read_expr(table: &[u8], at: usize, depth: u64, variables: u64) -> ExprRead
-    requires { ⌜ depth ≤ 32 ⌝ }
+pub fn read_expr(
+    table: &[u8],
+    at: usize,
+    depth: u64,
+    variables: u64,
+    sets: &mut [u64; 64],
+) -> ExprRead
+    requires { ⌜ (depth ≤ 32) × (variables ≤ 1024) ⌝ }
     ensures said { λ r. ⌜ r ≡ exprAt depth variables (now (table .entry)) at ⌝ }
+    ensures uses { λ r. ⌜ now (sets .exit) ≡ exprUses depth variables (now (table .entry)) at (now (sets .entry)) ⌝ }
     ensures within { λ r. ⌜ Within r depth ⌝ }
 {
     if depth == 0 {
@@ -118,13 +140,19 @@ pub fn read_expr(table: &[u8], at: usize, depth: u64, variables: u64) -> ExprRea
     match numbers::read_between(table, at, 0, crate::kinds::LAST_EXPRESSION) {
         numbers::Item::Item(kind, next) => {
             if kind < crate::kinds::NOT {
-                return read_leaf(table, next, kind, variables);
+                return read_leaf(table, next, kind, variables, sets);
             }
             if kind == crate::kinds::NOT {
-                return read_expr(table, next, depth - 1, variables);
+                return read_expr(table, next, depth - 1, variables, sets);
             }
             match numbers::read_between(table, next, 0, crate::kinds::LAST_OPERATOR) {
-                numbers::Item::Item(operator, after) => read_sides(table, after, depth, variables),
+                numbers::Item::Item(operator, after) => read_sides(
+                    table,
+                    after,
+                    depth,
+                    variables,
+                    sets,
+                ),
                 numbers::Item::Refused(n, p) => ExprRead::Refused(n, p),
             }
         }

@@ -3,8 +3,12 @@ ghost use mathlib.Core.Path.{_≡_};
 ghost use Prim.Native.Nat.{_+_, _<_, _≤_};
 ghost use lib.ListN.{length};
 ghost use Rattle.table.specs.Stmts.{firstOf, leaf, asked, wholeAt, valueAt, takenAt, simpleAt, guardAt, headAt, behind, withStmt};
-ghost use Rattle.table.specs.Stmts.{added, gathered, parOf, declaring, SmallWords, Fits};
+ghost use Rattle.table.specs.Stmts.{nothing, added, gathered, parOf, declaring, SmallWords, Numbered, Fits};
 ghost use Rattle.table.specs.Stmts.{partIn, mostAt, parAt, declaredAt, partsAt, stmtAt};
+ghost use Rattle.table.specs.Stmts.{takenUses, simpleUses, guardUses, headUses, partUsesIn, mostUsesAt, parUsesAt, declaredUses};
+ghost use Rattle.table.specs.Stmts.{partsUse, stmtUses};
+ghost use Rattle.table.specs.Exprs.{exprUses};
+ghost use Rattle.table.specs.Sets.{Exact};
 ghost use Rattle.table.specs.declared.stmt.StmtRead.the-variants.{Stmt, Refused as NoStmt};
 ghost use Rattle.table.specs.declared.stmt.SumRead.the-variants.{Sum as Total};
 ghost use Rattle.numbers.specs.Items.{withItem};
@@ -93,11 +97,19 @@ fn ask(kind: u64, stored: u64) -> u64
 }
 
 // An expression of a statement that stands in no other.
-fn read_whole(table: &[u8], at: usize, kind: u64, depth: u64, variables: u64) -> HeadRead
-    requires { ⌜ depth ≤ 32 ⌝ }
-    ensures { λ r. ⌜ r ≡ wholeAt kind depth variables (now (table .entry)) at ⌝ }
+fn read_whole(
+    table: &[u8],
+    at: usize,
+    kind: u64,
+    depth: u64,
+    variables: u64,
+    sets: &mut [u64; 64],
+) -> HeadRead
+    requires { ⌜ (depth ≤ 32) × (variables ≤ 1024) ⌝ }
+    ensures said { λ r. ⌜ r ≡ wholeAt kind depth variables (now (table .entry)) at ⌝ }
+    ensures uses { λ r. ⌜ now (sets .exit) ≡ exprUses depth variables (now (table .entry)) at (now (sets .entry)) ⌝ }
 {
-    match crate::expr::read_expr(table, at, depth, variables) {
+    match crate::expr::read_expr(table, at, depth, variables, sets) {
         crate::expr::ExprRead::Expr(e) => HeadRead::Head(e.next, ask(kind, e.stored)),
         crate::expr::ExprRead::Refused(n, p) => HeadRead::Refused(n, p),
     }
@@ -111,20 +123,23 @@ fn read_value(
     least: u64,
     depth: u64,
     variables: u64,
+    sets: &mut [u64; 64],
 ) -> StmtRead
-    requires { ⌜ depth ≤ 32 ⌝ }
-    ensures { λ r. ⌜ r ≡ valueAt kind least depth variables (now (table .entry)) at ⌝ }
+    requires { ⌜ (depth ≤ 32) × (variables ≤ 1024) ⌝ }
+    ensures said { λ r. ⌜ r ≡ valueAt kind least depth variables (now (table .entry)) at ⌝ }
+    ensures uses { λ r. ⌜ now (sets .exit) ≡ exprUses depth variables (now (table .entry)) at (now (sets .entry)) ⌝ }
 {
-    match read_whole(table, at, kind, depth, variables) {
+    match read_whole(table, at, kind, depth, variables, sets) {
         HeadRead::Head(next, words) => leaf_part(next, crate::expr::larger(least, words)),
         HeadRead::Refused(n, p) => StmtRead::Refused(n, p),
     }
 }
 
 // A channel to input from and a variable, behind what has been read.
-fn read_input(table: &[u8], at: usize, names: Names, words: u64) -> HeadRead
-    requires { ⌜ (names .inputs ≤ 8) × (names .outputs ≤ 8) ⌝ }
-    ensures { λ r. ⌜ r ≡ takenAt names (now (table .entry)) at words ⌝ }
+fn read_input(table: &[u8], at: usize, names: Names, words: u64, sets: &mut [u64; 64]) -> HeadRead
+    requires { ⌜ Numbered names ⌝ }
+    ensures said { λ r. ⌜ r ≡ takenAt names (now (table .entry)) at words ⌝ }
+    ensures uses { λ r. ⌜ now (sets .exit) ≡ takenUses names (now (table .entry)) at (now (sets .entry)) ⌝ }
 {
     match numbers::read_name(
         table,
@@ -140,7 +155,11 @@ fn read_input(table: &[u8], at: usize, names: Names, words: u64) -> HeadRead
             0,
             0,
         ) {
-            numbers::Item::Item(variable, last) => HeadRead::Head(last, words),
+            numbers::Item::Item(variable, last) => {
+                crate::usage::mark(sets, crate::usage::INPUTS, channel);
+                crate::usage::change(sets, variable);
+                HeadRead::Head(last, words)
+            }
             numbers::Item::Refused(n, p) => HeadRead::Refused(n, p),
         },
         numbers::Item::Refused(n, p) => HeadRead::Refused(n, p),
@@ -148,49 +167,66 @@ fn read_input(table: &[u8], at: usize, names: Names, words: u64) -> HeadRead
 }
 
 // The kinds before VAR: SKIP, STOP, assign, input, output.
-fn read_simple(table: &[u8], at: usize, kind: u64, depth: u64, names: Names) -> StmtRead
-    requires { ⌜ (depth ≤ 32) × (names .inputs ≤ 8) × (names .outputs ≤ 8) ⌝ }
-    ensures { λ r. ⌜ r ≡ simpleAt kind depth names (now (table .entry)) at ⌝ }
+fn read_simple(
+    table: &[u8],
+    at: usize,
+    kind: u64,
+    depth: u64,
+    names: Names,
+    sets: &mut [u64; 64],
+) -> StmtRead
+    requires { ⌜ (depth ≤ 32) × Numbered names ⌝ }
+    ensures said { λ r. ⌜ r ≡ simpleAt kind depth names (now (table .entry)) at ⌝ }
+    ensures uses { λ r. ⌜ now (sets .exit) ≡ simpleUses kind depth names (now (table .entry)) at (now (sets .entry)) ⌝ }
 {
     if kind < crate::kinds::ASSIGN {
         return leaf_part(at, 2);
     }
     if kind == crate::kinds::ASSIGN {
         return match numbers::read_name(table, at, names.variables, 0, 0) {
-            numbers::Item::Item(variable, next) => read_value(
-                table,
-                next,
-                crate::kinds::ASSIGN,
-                2,
-                depth,
-                names.variables,
-            ),
+            numbers::Item::Item(target, next) => {
+                crate::usage::change(sets, target);
+                read_value(
+                    table,
+                    next,
+                    crate::kinds::ASSIGN,
+                    2,
+                    depth,
+                    names.variables,
+                    sets,
+                )
+            }
             numbers::Item::Refused(n, p) => StmtRead::Refused(n, p),
         };
     }
     if kind == crate::kinds::INPUT {
-        return match read_input(table, at, names, 3) {
+        return match read_input(table, at, names, 3, sets) {
             HeadRead::Head(next, words) => leaf_part(next, words),
             HeadRead::Refused(n, p) => StmtRead::Refused(n, p),
         };
     }
     match numbers::read_name(table, at, names.channels, 0, names.inputs) {
-        numbers::Item::Item(channel, next) => read_value(
-            table,
-            next,
-            crate::kinds::OUTPUT,
-            4,
-            depth,
-            names.variables,
-        ),
+        numbers::Item::Item(channel, next) => {
+            crate::usage::mark(sets, crate::usage::OUTPUTS, channel);
+            read_value(
+                table,
+                next,
+                crate::kinds::OUTPUT,
+                4,
+                depth,
+                names.variables,
+                sets,
+            )
+        }
         numbers::Item::Refused(n, p) => StmtRead::Refused(n, p),
     }
 }
 
 // A guard: its kind, its condition, and if it waits for input its channel and its variable.
-fn read_guard(table: &[u8], at: usize, depth: u64, names: Names) -> HeadRead
-    requires { ⌜ (depth ≤ 32) × (names .inputs ≤ 8) × (names .outputs ≤ 8) ⌝ }
-    ensures { λ r. ⌜ r ≡ guardAt depth names (now (table .entry)) at ⌝ }
+fn read_guard(table: &[u8], at: usize, depth: u64, names: Names, sets: &mut [u64; 64]) -> HeadRead
+    requires { ⌜ (depth ≤ 32) × Numbered names ⌝ }
+    ensures said { λ r. ⌜ r ≡ guardAt depth names (now (table .entry)) at ⌝ }
+    ensures uses { λ r. ⌜ now (sets .exit) ≡ guardUses depth names (now (table .entry)) at (now (sets .entry)) ⌝ }
 {
     match numbers::read_between(table, at, 0, crate::kinds::LAST_GUARD) {
         numbers::Item::Item(kind, next) => match read_whole(
@@ -199,10 +235,11 @@ fn read_guard(table: &[u8], at: usize, depth: u64, names: Names) -> HeadRead
             crate::kinds::ALT,
             depth,
             names.variables,
+            sets,
         ) {
             HeadRead::Head(last, words) => {
                 if kind == crate::kinds::INPUT_GUARD {
-                    read_input(table, last, names, words)
+                    read_input(table, last, names, words, sets)
                 } else {
                     HeadRead::Head(last, words)
                 }
@@ -214,17 +251,25 @@ fn read_guard(table: &[u8], at: usize, depth: u64, names: Names) -> HeadRead
 }
 
 // What stands before the statement of a part: nothing (SEQ, PAR), a condition (IF, WHILE), a guard (ALT).
-fn read_head(table: &[u8], at: usize, kind: u64, depth: u64, names: Names) -> HeadRead
-    requires { ⌜ (depth ≤ 32) × (names .inputs ≤ 8) × (names .outputs ≤ 8) ⌝ }
-    ensures { λ r. ⌜ r ≡ headAt kind depth names (now (table .entry)) at ⌝ }
+fn read_head(
+    table: &[u8],
+    at: usize,
+    kind: u64,
+    depth: u64,
+    names: Names,
+    sets: &mut [u64; 64],
+) -> HeadRead
+    requires { ⌜ (depth ≤ 32) × Numbered names ⌝ }
+    ensures said { λ r. ⌜ r ≡ headAt kind depth names (now (table .entry)) at ⌝ }
+    ensures uses { λ r. ⌜ now (sets .exit) ≡ headUses kind depth names (now (table .entry)) at (now (sets .entry)) ⌝ }
 {
     if kind < crate::kinds::IF {
         return HeadRead::Head(at, 0);
     }
     if kind < crate::kinds::ALT {
-        return read_whole(table, at, kind, depth, names.variables);
+        return read_whole(table, at, kind, depth, names.variables, sets);
     }
-    read_guard(table, at, depth, names)
+    read_guard(table, at, depth, names, sets)
 }
 
 // A refusal for the whole statement.
@@ -234,6 +279,20 @@ fn no_stmt(item: numbers::Item) -> StmtRead
     match item {
         numbers::Item::Item(v, next) => leaf_part(next, 2),
         numbers::Item::Refused(n, p) => StmtRead::Refused(n, p),
+    }
+}
+
+// What is counted of no parts, from a place on.
+fn no_parts(at: usize) -> Sum
+    ensures { λ r. ⌜ r ≡ nothing at ⌝ }
+{
+    Sum {
+        next: at,
+        most: 0,
+        sum: 0,
+        live: 0,
+        all: 0,
+        clash: First::Nowhere,
     }
 }
 
@@ -278,10 +337,13 @@ fn close_par(place: usize, sum: Sum, bad: bool) -> StmtRead
     requires { ⌜ sum .sum ≤ 32000000 ⌝ }
     ensures { λ r. ⌜ r ≡ parOf place sum bad ⌝ }
 {
-    let mut clash = sum.clash;
-    if bad {
-        clash = First::At(place);
-    }
+    let own = if bad {
+        First::At(place)
+    } else {
+        First::Nowhere
+    };
+    let inner = sum.clash;
+    let clash = earlier(own, inner);
     let processes = crate::expr::larger(1, sum.all);
     StmtRead::Stmt(Part {
         next: sum.next,
@@ -330,33 +392,46 @@ fn in_scope(count: u64, read: StmtRead) -> StmtRead
 }
 
 // One part of a SEQ, an IF, a WHILE or an ALT: its head, then its statement.
-fn read_part(table: &[u8], at: usize, kind: u64, depth: u64, names: Names) -> StmtRead
-    requires { ⌜ Fits names depth × (length (now table) ≤ 16384) ⌝ }
-    ensures { λ r. ⌜ r ≡ partIn kind depth names (now (table .entry)) at ⌝ }
+fn read_part(
+    table: &[u8],
+    at: usize,
+    kind: u64,
+    depth: u64,
+    names: Names,
+    sets: &mut [u64; 64],
+) -> StmtRead
+    requires { ⌜ Fits names depth × (names .channels ≤ 1024) × (length (now table) ≤ 16384) ⌝ }
+    ensures said { λ r. ⌜ r ≡ partIn kind depth names (now (table .entry)) at ⌝ }
+    ensures uses { λ r. ⌜ now (sets .exit) ≡ partUsesIn kind depth names (now (table .entry)) at (now (sets .entry)) ⌝ }
 {
-    match read_head(table, at, kind, depth, names) {
-        HeadRead::Head(next, words) => behind_head(words, read_stmt(table, next, depth, names)),
+    match read_head(table, at, kind, depth, names, sets) {
+        HeadRead::Head(next, words) => behind_head(
+            words,
+            read_stmt(table, next, depth, names, sets),
+        ),
         HeadRead::Refused(n, p) => StmtRead::Refused(n, p),
     }
 }
 
 // The parts of a SEQ, an IF, a WHILE or an ALT.
-fn read_most(table: &[u8], at: usize, kind: u64, count: u64, depth: u64, names: Names) -> StmtRead
-    requires { ⌜ Fits names depth × (length (now table) ≤ 16384) × (count ≤ 32) ⌝ }
-    ensures { λ r. ⌜ r ≡ mostAt kind count depth names (now (table .entry)) at ⌝ }
+fn read_most(
+    table: &[u8],
+    at: usize,
+    kind: u64,
+    count: u64,
+    depth: u64,
+    names: Names,
+    sets: &mut [u64; 64],
+) -> StmtRead
+    requires { ⌜ Fits names depth × (names .channels ≤ 1024) × (length (now table) ≤ 16384) × (count ≤ 32) ⌝ }
+    ensures said { λ r. ⌜ r ≡ mostAt kind count depth names (now (table .entry)) at ⌝ }
+    ensures uses { λ r. ⌜ now (sets .exit) ≡ mostUsesAt kind count depth names (now (table .entry)) at (now (sets .entry)) ⌝ }
 {
-    let mut sum = Sum {
-        next: at,
-        most: 0,
-        sum: 0,
-        live: 0,
-        all: 0,
-        clash: First::Nowhere,
-    };
+    let mut sum = no_parts(at);
     let mut i: u64 = 0;
     while i < count {
         let from = sum.next;
-        match read_part(table, from, kind, depth, names) {
+        match read_part(table, from, kind, depth, names, sets) {
             StmtRead::Stmt(p) => {
                 sum = add(sum, p);
                 i += 1;
@@ -369,35 +444,33 @@ fn read_most(table: &[u8], at: usize, kind: u64, count: u64, depth: u64, names: 
     gather(kind, sum)
 }
 
-// The branches of the PAR at a place. Each branch is checked over its own stretch of the table.
-fn read_par(table: &[u8], place: usize, at: usize, count: u64, depth: u64, names: Names) -> StmtRead
+// The branches of the PAR at a place. Each is read once, with sets of its own, and the check sees these alone.
+fn read_par(
+    table: &[u8],
+    place: usize,
+    at: usize,
+    count: u64,
+    depth: u64,
+    names: Names,
+    sets: &mut [u64; 64],
+) -> StmtRead
     requires { ⌜ Fits names depth × (names .channels ≤ 1024) × (length (now table) ≤ 16384) × (count ≤ 16) ⌝ }
-    ensures { λ r. ⌜ r ≡ parAt place count depth names (now (table .entry)) at ⌝ }
+    ensures said { λ r. ⌜ r ≡ parAt place count depth names (now (table .entry)) at ⌝ }
+    ensures uses { λ r. ⌜ now (sets .exit) ≡ parUsesAt count depth names (now (table .entry)) at (now (sets .entry)) ⌝ }
 {
-    let mut sum = Sum {
-        next: at,
-        most: 0,
-        sum: 0,
-        live: 0,
-        all: 0,
-        clash: First::Nowhere,
-    };
-    let mut before: [u8; 4096] = [0; 4096];
+    let mut sum = no_parts(at);
+    let mut before: [u64; 64] = [0; 64];
     let mut bad = false;
     let mut i: u64 = 0;
     while i < count {
         let from = sum.next;
-        match read_stmt(table, from, depth, names) {
+        let mut branch: [u64; 64] = [0; 64];
+        match read_stmt(table, from, depth, names, &mut branch) {
             StmtRead::Stmt(p) => {
-                let to = p.next;
-                bad = crate::usage::check_branch(
-                    &table[from..to],
-                    depth,
-                    &mut before,
-                    names.variables,
-                    names.channels,
-                    bad,
-                );
+                if crate::usage::clash(&before, &branch) {
+                    bad = true;
+                }
+                crate::usage::merge(&mut before, &branch);
                 sum = add(sum, p);
                 i += 1;
             }
@@ -406,13 +479,22 @@ fn read_par(table: &[u8], place: usize, at: usize, count: u64, depth: u64, names
             }
         }
     }
+    crate::usage::merge(sets, &before);
     close_par(place, sum, bad)
 }
 
 // VAR and CHAN: a count and a statement in which so many more names are in scope.
-fn read_declaration(table: &[u8], at: usize, kind: u64, depth: u64, names: Names) -> StmtRead
+fn read_declaration(
+    table: &[u8],
+    at: usize,
+    kind: u64,
+    depth: u64,
+    names: Names,
+    sets: &mut [u64; 64],
+) -> StmtRead
     requires { ⌜ (0 < depth) × Fits names depth × (length (now table) ≤ 16384) ⌝ }
-    ensures { λ r. ⌜ r ≡ declaredAt kind depth names (now (table .entry)) at ⌝ }
+    ensures said { λ r. ⌜ r ≡ declaredAt kind depth names (now (table .entry)) at ⌝ }
+    ensures uses { λ r. ⌜ now (sets .exit) ≡ declaredUses kind depth names (now (table .entry)) at (now (sets .entry)) ⌝ }
 {
     match numbers::read_between(table, at, 1, model::limits::NAMES) {
         numbers::Item::Item(count, next) => {
@@ -422,7 +504,9 @@ fn read_declaration(table: &[u8], at: usize, kind: u64, depth: u64, names: Names
             } else {
                 more.channels = names.channels + count;
             }
-            in_scope(count, read_stmt(table, next, depth - 1, more))
+            let read = read_stmt(table, next, depth - 1, more, sets);
+            crate::usage::leave(sets, kind, names.variables, names.channels);
+            in_scope(count, read)
         }
         numbers::Item::Refused(n, p) => StmtRead::Refused(n, p),
     }
@@ -436,12 +520,14 @@ fn read_parts(
     kind: u64,
     depth: u64,
     names: Names,
+    sets: &mut [u64; 64],
 ) -> StmtRead
     requires { ⌜ (0 < depth) × Fits names depth × (length (now table) ≤ 16384) ⌝ }
-    ensures { λ r. ⌜ r ≡ partsAt place kind depth names (now (table .entry)) at ⌝ }
+    ensures said { λ r. ⌜ r ≡ partsAt place kind depth names (now (table .entry)) at ⌝ }
+    ensures uses { λ r. ⌜ now (sets .exit) ≡ partsUse kind depth names (now (table .entry)) at (now (sets .entry)) ⌝ }
 {
     if kind == crate::kinds::WHILE {
-        return read_most(table, at, kind, 1, depth - 1, names);
+        return read_most(table, at, kind, 1, depth - 1, names, sets);
     }
     let most = if kind == crate::kinds::PAR {
         model::limits::BRANCHES
@@ -451,9 +537,9 @@ fn read_parts(
     match numbers::read_between(table, at, 0, most) {
         numbers::Item::Item(count, next) => {
             if kind == crate::kinds::PAR {
-                read_par(table, place, next, count, depth - 1, names)
+                read_par(table, place, next, count, depth - 1, names, sets)
             } else {
-                read_most(table, next, kind, count, depth - 1, names)
+                read_most(table, next, kind, count, depth - 1, names, sets)
             }
         }
         numbers::Item::Refused(n, p) => StmtRead::Refused(n, p),
@@ -461,9 +547,17 @@ fn read_parts(
 }
 
 // A statement; the depth left falls at each call.
-pub fn read_stmt(table: &[u8], at: usize, depth: u64, names: Names) -> StmtRead
+pub fn read_stmt(
+    table: &[u8],
+    at: usize,
+    depth: u64,
+    names: Names,
+    sets: &mut [u64; 64],
+) -> StmtRead
     requires { ⌜ Fits names depth × (length (now table) ≤ 16384) ⌝ }
-    ensures { λ r. ⌜ r ≡ stmtAt depth names (now (table .entry)) at ⌝ }
+    ensures said { λ r. ⌜ r ≡ stmtAt depth names (now (table .entry)) at ⌝ }
+    ensures uses { λ r. ⌜ now (sets .exit) ≡ stmtUses depth names (now (table .entry)) at (now (sets .entry)) ⌝ }
+    ensures exact { λ r. ⌜ Exact depth names (now (table .entry)) at (now (sets .entry)) (now (sets .exit)) ⌝ }
 {
     if depth == 0 {
         return no_stmt(numbers::read_deep(table, at));
@@ -471,12 +565,12 @@ pub fn read_stmt(table: &[u8], at: usize, depth: u64, names: Names) -> StmtRead
     match numbers::read_between(table, at, 0, crate::kinds::LAST_STATEMENT) {
         numbers::Item::Item(kind, next) => {
             if kind < crate::kinds::VAR {
-                return read_simple(table, next, kind, depth - 1, names);
+                return read_simple(table, next, kind, depth - 1, names, sets);
             }
             if kind < crate::kinds::SEQ {
-                return read_declaration(table, next, kind, depth, names);
+                return read_declaration(table, next, kind, depth, names, sets);
             }
-            read_parts(table, at, next, kind, depth, names)
+            read_parts(table, at, next, kind, depth, names, sets)
         }
         numbers::Item::Refused(n, p) => StmtRead::Refused(n, p),
     }

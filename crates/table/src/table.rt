@@ -41,7 +41,8 @@ fn read_body(table: &[u8], at: usize, ins: u64, outs: u64) -> model::Reading
         inputs: ins,
         outputs: outs,
     };
-    match crate::stmt::read_stmt(table, at, model::limits::DEPTH, names) {
+    let mut sets: [u64; 64] = [0; 64];
+    match crate::stmt::read_stmt(table, at, model::limits::DEPTH, names, &mut sets) {
         crate::stmt::StmtRead::Stmt(part) => finish(ins, outs, table.len(), part),
         crate::stmt::StmtRead::Refused(n, p) => model::Reading::Refused(n, p),
     }

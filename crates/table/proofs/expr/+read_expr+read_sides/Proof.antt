@@ -24,7 +24,7 @@ use mathlib.Core.List.{List}
 use mathlib.Core.Path.{_≡_, refl, sym, _∙_}
 use lib.Dec.{ltb, eqb}
 use Rattle.numbers.specs.Items.{betweenAt, nameAt, deepAt, groupsAt, withNumber, withItem}
-use Rattle.table.specs.Exprs.{single, joined, exprAt, leafAt, sidesAt, Within}
+use Rattle.table.specs.Exprs.{single, joined, exprAt, leafAt, sidesAt, kept, leafUses, exprUses, sidesUse, Within}
 use Rattle.numbers.specs.declared.Item.{Item}
 use Rattle.numbers.specs.declared.Item.the-variants.{Item as Found, Refused}
 use Rattle.numbers.specs.declared.NumberRead.{NumberRead}
@@ -35,21 +35,29 @@ use Rattle.table.specs.declared.expr.Term.{Term}
 use Rattle.table.specs.declared.expr.ExprRead.{ExprRead}
 use Rattle.table.specs.declared.expr.ExprRead.the-variants.{Expr, Refused as NoExpr}
 
-none : (d vs : ℕ) (s : List ℕ) (at : ℕ) → d ≡ 0 → exprAt d vs s at ≡ withItem NoExpr (deepAt s at) (λ v n. single n)
-unfolding exprAt
-none d vs s at e = rw e
+-- with no depth left
+none : (d vs : ℕ) (s : List ℕ) (at : ℕ) (l : List ℕ) → d ≡ 0
+    → (exprAt d vs s at ≡ withItem NoExpr (deepAt s at) (λ v n. single n)) × (exprUses d vs s at l ≡ l)
+unfolding exprAt exprUses
+none d vs s at l e = (rw e, rw e)
 
--- what follows a kind, and `exprAt` unrolled once where there is depth left
+-- what follows a kind, and `exprAt` and `exprUses` unrolled once where there is depth left
 abbrev byKind : (d vs : ℕ) → List ℕ → ℕ → ℕ → ExprRead
 byKind d vs s k n =
     cond (ltb k 2) (leafAt k vs s n)
     (cond (eqb k 2) (exprAt (d - 1) vs s n) (withItem NoExpr (betweenAt 0 7 s n) (λ o m. sidesAt d vs s m)))
 
-turn : (d vs : ℕ) (s : List ℕ) (at : ℕ) → (d ≡ 0 → ⊥)
-    → exprAt d vs s at ≡ withItem NoExpr (betweenAt 0 3 s at) (λ k n. byKind d vs s k n)
-unfolding exprAt sidesAt
-turn zero vs s at p = absurd (p refl)
-turn (suc d) vs s at p = let e : suc d - 1 ≡ d = omega arith in rw e
+abbrev usesByKind : (d vs : ℕ) → List ℕ → List ℕ → ℕ → ℕ → List ℕ
+usesByKind d vs s l k n =
+    cond (ltb k 2) (leafUses k vs s n l)
+    (cond (eqb k 2) (exprUses (d - 1) vs s n l) (withItem (kept l) (betweenAt 0 7 s n) (λ o m. sidesUse d vs s m l)))
+
+turn : (d vs : ℕ) (s : List ℕ) (at : ℕ) (l : List ℕ) → (d ≡ 0 → ⊥)
+    → (exprAt d vs s at ≡ withItem NoExpr (betweenAt 0 3 s at) (λ k n. byKind d vs s k n))
+    × (exprUses d vs s at l ≡ withItem (kept l) (betweenAt 0 3 s at) (λ k n. usesByKind d vs s l k n))
+unfolding exprAt sidesAt exprUses sidesUse
+turn zero vs s at l p = absurd (p refl)
+turn (suc d) vs s at l p = let e : suc d - 1 ≡ d = omega arith in (rw e, rw e)
 
 -- what is counted of a refusal, a leaf, an expression one level in and an operator
 deep-within : (at d : ℕ) (x : NumberRead) → Within (withItem NoExpr (withNumber (Refused 2 at) x (λ v n. Refused 4 at)) (λ v n. single n)) d
@@ -74,26 +82,26 @@ joined-within d l r p q =
     let o = orderOf (l .registers) (r .registers) in
     (sides-three (l .registers) (r .registers), omega (arith, p .1, q .1, sides-hold o (l .stored) (r .stored)))
 
-abbrev μ-read-expr : Measures 1 read-expr-kinds.ps ℕ
+abbrev μ-read-expr : Measures 2 read-expr-kinds.ps ℕ
 μ-read-expr κs a = 2 * a .1 .1 .0
 
-abbrev μ-read-sides : Measures 1 read-sides-kinds.ps ℕ
+abbrev μ-read-sides : Measures 2 read-sides-kinds.ps ℕ
 μ-read-sides κs a = 2 * a .1 .1 .0 - 1
 
-abbrev read-expr-at : ℕ → In 1 read-expr-kinds.ps
-read-expr-at t = and 1 read-expr-kinds.ps (is 1 read-expr-kinds.ps μ-read-expr t) read-expr.Pre
+abbrev read-expr-at : ℕ → In 2 read-expr-kinds.ps
+read-expr-at t = and 2 read-expr-kinds.ps (is 2 read-expr-kinds.ps μ-read-expr t) read-expr.Pre
 
-abbrev read-expr-below : ℕ → In 1 read-expr-kinds.ps
+abbrev read-expr-below : ℕ → In 2 read-expr-kinds.ps
 read-expr-below t =
-    and 1 read-expr-kinds.ps (falls 1 read-expr-kinds.ps _<_ μ-read-expr t) read-expr.Pre
+    and 2 read-expr-kinds.ps (falls 2 read-expr-kinds.ps _<_ μ-read-expr t) read-expr.Pre
 
-abbrev read-sides-at : ℕ → In 1 read-sides-kinds.ps
+abbrev read-sides-at : ℕ → In 2 read-sides-kinds.ps
 read-sides-at t =
-    and 1 read-sides-kinds.ps (is 1 read-sides-kinds.ps μ-read-sides t) read-sides.Pre
+    and 2 read-sides-kinds.ps (is 2 read-sides-kinds.ps μ-read-sides t) read-sides.Pre
 
-abbrev read-sides-below : ℕ → In 1 read-sides-kinds.ps
+abbrev read-sides-below : ℕ → In 2 read-sides-kinds.ps
 read-sides-below t =
-    and 1 read-sides-kinds.ps (falls 1 read-sides-kinds.ps _<_ μ-read-sides t) read-sides.Pre
+    and 2 read-sides-kinds.ps (falls 2 read-sides-kinds.ps _<_ μ-read-sides t) read-sides.Pre
 
 abbrev read-expr-claims : ℕ → read-expr-lts.Claims
 read-expr-claims t = (
@@ -118,115 +126,132 @@ read-sides-claims t = (read-expr-below t, read-expr.Post, join-reads.Asked, join
 first : {t : ℕ} {x : Item} (c : read-expr-lts.After-read-between (read-expr-claims t) (read-expr-at t) read-expr.Post)
     → c .read-between .result ≡ x
     → let a = c .before .before .before .args in
-    exprAt (a .depth) (a .variables) (a .table .now) (a .at) ≡ withItem NoExpr x (byKind (a .depth) (a .variables) (a .table .now))
-first c e = turn _ _ _ _ (c .before .if1 .left) ∙ simp (sym (c .read-between .ensures) ∙ e)
+    (exprAt (a .depth) (a .variables) (a .table .now) (a .at) ≡ withItem NoExpr x (byKind (a .depth) (a .variables) (a .table .now)))
+    × (exprUses (a .depth) (a .variables) (a .table .now) (a .at) (a .sets .now)
+    ≡ withItem (kept (a .sets .now)) x (usesByKind (a .depth) (a .variables) (a .table .now) (a .sets .now)))
+first c e =
+    let u = turn _ _ _ _ _ (c .before .if1 .left) in
+    let f = sym (c .read-between .ensures) ∙ e in (u .0 ∙ simp f, u .1 ∙ simp f)
 
 second : {t : ℕ} {x : Item} (c : read-expr-lts.After-read-between2 (read-expr-claims t) (read-expr-at t) read-expr.Post)
     → c .read-between2 .result ≡ x
     → let a = c .before .before .before .before .before .before .before .before .before .args in
-    exprAt (a .depth) (a .variables) (a .table .now) (a .at)
-    ≡ withItem NoExpr x (λ o m. sidesAt (a .depth) (a .variables) (a .table .now) m)
+    (exprAt (a .depth) (a .variables) (a .table .now) (a .at)
+    ≡ withItem NoExpr x (λ o m. sidesAt (a .depth) (a .variables) (a .table .now) m))
+    × (exprUses (a .depth) (a .variables) (a .table .now) (a .at) (a .sets .now)
+    ≡ withItem (kept (a .sets .now)) x (λ o m. sidesUse (a .depth) (a .variables) (a .table .now) m (a .sets .now)))
 second c e =
     let k = c .before .before .before .before in
-    first (k .before .before) (k .kind .given .1)
-    ∙ simp (le-ltb _ _ (c .before .before .if2 .left), ne-eqb _ _ (c .before .if3 .left), sym (c .read-between2 .ensures) ∙ e)
+    let h = first (k .before .before) (k .kind .given .1) in
+    let f = le-ltb _ _ (c .before .before .if2 .left) in
+    let g = ne-eqb _ _ (c .before .if3 .left) in
+    let o = sym (c .read-between2 .ensures) ∙ e in (h .0 ∙ simp (f, g, o), h .1 ∙ simp (f, g, o))
 
 read-expr-returns : (t : ℕ) → read-expr-lts.Need-returns (read-expr-claims t) (read-expr-at t) read-expr.Post
 unfolding deepAt
 read-expr-returns t c =
-    let a = c .before .before .before .before .args in (
-      sym (none _ _ _ _ (c .before .before .if1 .taken) ∙ simp (c .no-expr .ensures, c .before .read-deep .ensures)),
-      rw (c .no-expr .ensures, c .before .read-deep .ensures) (deep-within _ (a .depth) (groupsAt 5 (a .table .now) (a .at))),
+    let a = c .before .before .before .before .args in
+    let h = none _ _ _ _ _ (c .before .before .if1 .taken) in (
+      sym (h .0 ∙ simp (c .no-expr .ensures, c .before .read-deep .ensures)),
+      (sym (h .1), rw (c .no-expr .ensures, c .before .read-deep .ensures) (deep-within _ (a .depth) (groupsAt 5 (a .table .now) (a .at)))),
     )
 
 read-expr-returns-2 : (t : ℕ) → read-expr-lts.Need-returns-2 (read-expr-claims t) (read-expr-at t) read-expr.Post
 read-expr-returns-2 t c =
-    let k = c .before .before .before in (
-      c .read-leaf .ensures ∙ sym (first (k .before .before) (k .kind .given .1) ∙ simp (lt-ltb _ _ (c .before .if2 .taken))),
-      rw (c .read-leaf .ensures) (leaf-within _ _ _ _ _ (c .before .before .before .before .before .before .if1 .left)),
+    let k = c .before .before .before .before in
+    let h = first (k .before .before) (k .kind .given .1) in
+    let f = lt-ltb _ _ (c .before .before .if2 .taken) in (
+      c .read-leaf .ensures .0 ∙ sym (h .0 ∙ simp f),
+      (
+        c .read-leaf .ensures .1 ∙ sym (h .1 ∙ simp f),
+        rw (c .read-leaf .ensures .0) (leaf-within _ _ _ _ _ (k .before .before .before .if1 .left)),
+      ),
     )
 
 read-expr-read-expr-requires : (t : ℕ) → read-expr-lts.Need-read-expr-requires (read-expr-claims t) (read-expr-at t) read-expr.Post
 read-expr-read-expr-requires t c κs =
-    (omega (arith, c .before .before .before .before .before .before .before .before .pre .0), omega arith)
+    (omega (arith, c .before .before .before .before .before .before .before .before .before .pre .0), omega arith)
 
 read-expr-returns-3 : (t : ℕ) → read-expr-lts.Need-returns-3 (read-expr-claims t) (read-expr-at t) read-expr.Post
 read-expr-returns-3 t c =
-    let k = c .before .before .before .before in
-    let a = c .before .before .before .before .before .before .before .before .before .args in (
-      c .read-expr .ensures .0
-          ∙ sym (first (k .before .before) (k .kind .given .1)
-          ∙ simp (le-ltb _ _ (c .before .before .if2 .left), eq-eqb _ _ (c .before .if3 .taken))),
-      within-more (a .depth) (c .read-expr .result) (c .read-expr .ensures .1),
+    let k = c .before .before .before .before .before in
+    let h = first (k .before .before) (k .kind .given .1) in
+    let f = le-ltb _ _ (c .before .before .before .if2 .left) in
+    let g = eq-eqb _ _ (c .before .before .if3 .taken) in (
+      c .read-expr .ensures .0 ∙ sym (h .0 ∙ simp (f, g)),
+      (
+        c .read-expr .ensures .1 .0 ∙ sym (h .1 ∙ simp (f, g)),
+        within-more (k .before .before .before .before .before .args .depth) (c .read-expr .result) (c .read-expr .ensures .1 .1),
+      ),
     )
 
 read-expr-read-sides-requires : (t : ℕ) → read-expr-lts.Need-read-sides-requires (read-expr-claims t) (read-expr-at t) read-expr.Post
-read-expr-read-sides-requires t c κs = (
-  omega (arith, c .before .before .before .before .before .before .before .before .before .before .before .before .pre .0),
-  (omega arith, omega arith),
-)
+read-expr-read-sides-requires t c κs =
+    let k = c .before .before .before .before .before .before .before .before .before .before .before .before .before in
+    (omega (arith, k .pre .0), (omega arith, omega arith, omega arith))
 
 read-expr-returns-4 : (t : ℕ) → read-expr-lts.Need-returns-4 (read-expr-claims t) (read-expr-at t) read-expr.Post
-read-expr-returns-4 t c = (
-  c .read-sides .ensures .0 ∙ sym (second (c .before .before .before .before) (c .before .before .operator .given .1)),
-  c .read-sides .ensures .1,
-)
+read-expr-returns-4 t c =
+    let o = c .before .before .before in
+    let h = second (o .before .before) (o .operator .given .1) in
+    let r = c .read-sides .ensures in (r .0 ∙ sym (h .0), (r .1 .0 ∙ sym (h .1), r .1 .1))
 
 read-expr-returns-5 : (t : ℕ) → read-expr-lts.Need-returns-5 (read-expr-claims t) (read-expr-at t) read-expr.Post
-read-expr-returns-5 t c = (sym (second (c .before .before .before) (c .before .n .given .1)), tt)
+read-expr-returns-5 t c =
+    let h = second (c .before .before .before) (c .before .n .given .1) in (sym (h .0), (sym (h .1), tt))
 
 read-expr-returns-6 : (t : ℕ) → read-expr-lts.Need-returns-6 (read-expr-claims t) (read-expr-at t) read-expr.Post
-read-expr-returns-6 t c = (sym (first (c .before .before .before) (c .before .n2 .given .1)), tt)
+read-expr-returns-6 t c =
+    let h = first (c .before .before .before) (c .before .n2 .given .1) in (sym (h .0), (sym (h .1), tt))
 
 read-sides-read-expr-requires : (t : ℕ) → read-sides-lts.Need-read-expr-requires (read-sides-claims t) (read-sides-at t) read-sides.Post
-read-sides-read-expr-requires t c κs = (omega (arith, c .before .pre .0), omega arith)
+read-sides-read-expr-requires t c κs = (omega (arith, c .before .before .pre .0), omega arith)
 
 read-sides-read-expr-requires-2 : (t : ℕ) → read-sides-lts.Need-read-expr-requires-2 (read-sides-claims t) (read-sides-at t) read-sides.Post
-read-sides-read-expr-requires-2 t c κs = (omega (arith, c .before .before .before .before .before .pre .0), omega arith)
+read-sides-read-expr-requires-2 t c κs =
+    (omega (arith, c .before .before .before .before .before .before .before .pre .0), omega arith)
 
 -- what is counted of the left side
 left-within : {t : ℕ} (c : read-sides-lts.After-left (read-sides-claims t) (read-sides-at t) read-sides.Post)
-    → Within (Expr (c .left .given .0 .0)) (c .before .before .before .before .args .depth - 1)
-left-within c = rw (c .left .given .1) at (c .before .before .read-expr .ensures .1)
+    → Within (Expr (c .left .given .0 .0)) (c .before .before .before .before .before .args .depth - 1)
+left-within c = rw (c .left .given .1) at (c .before .before .read-expr .ensures .1 .1)
 
 read-sides-join-requires : (t : ℕ) → read-sides-lts.Need-join-requires (read-sides-claims t) (read-sides-at t) read-sides.Post
 read-sides-join-requires t c κs =
-    let l = left-within (c .before .before .before .before .before) in
-    let r = rw (c .before .right .given .1) at (c .before .before .before .read-expr2 .ensures .1) in (l .0, r .0, omega (arith, l .1))
+    let l = left-within (c .before .before .before .before .before .before) in
+    let r = rw (c .before .right .given .1) at (c .before .before .before .read-expr2 .ensures .1 .1) in (l .0, r .0, omega (arith, l .1))
 
 read-sides-returns : (t : ℕ) → read-sides-lts.Need-returns (read-sides-claims t) (read-sides-at t) read-sides.Post
-unfolding sidesAt
+unfolding sidesAt sidesUse
 read-sides-returns t c =
-    let k = c .before .before .before .before .before .before in
-    let j = c .before .before .before .before .read-expr2 in
+    let k = c .before .before .before .before .before .before .before in
+    let i = k .before .before .read-expr .ensures in
+    let j = c .before .before .before .before .read-expr2 .ensures in
+    let e = sym (i .0) ∙ k .left .given .1 in
+    let f = c .before .before .right .given .1 in
     let l = left-within k in
-    let r = rw (c .before .before .right .given .1) at (j .ensures .1) in (
-      simp (
-        ← k .before .before .read-expr .ensures .0,
-        k .left .given .1,
-        ← j .ensures .0,
-        c .before .before .right .given .1,
-        c .join .ensures,
+    let r = rw f at (j .1 .1) in (
+      simp (e, ← j .0, f, c .join .ensures),
+      (
+        simp (e, j .1 .0, i .1 .0),
+        rw (c .join .ensures) (joined-within _ (k .left .given .0 .0) (c .before .before .right .given .0 .0) l r),
       ),
-      rw (c .join .ensures) (joined-within _ (k .left .given .0 .0) (c .before .before .right .given .0 .0) l r),
     )
 
 read-sides-returns-2 : (t : ℕ) → read-sides-lts.Need-returns-2 (read-sides-claims t) (read-sides-at t) read-sides.Post
-unfolding sidesAt
+unfolding sidesAt sidesUse
 read-sides-returns-2 t c =
-    let k = c .before .before .before .before .before in (
-      simp (
-        ← k .before .before .read-expr .ensures .0,
-        k .left .given .1,
-        ← c .before .before .before .read-expr2 .ensures .0,
-        c .before .n .given .1,
-      ),
-      tt,
-    )
+    let k = c .before .before .before .before .before .before in
+    let i = k .before .before .read-expr .ensures in
+    let j = c .before .before .before .read-expr2 .ensures in
+    let e = sym (i .0) ∙ k .left .given .1 in
+    (simp (e, ← j .0, c .before .n .given .1), (simp (e, j .1 .0, i .1 .0), tt))
 
 read-sides-returns-3 : (t : ℕ) → read-sides-lts.Need-returns-3 (read-sides-claims t) (read-sides-at t) read-sides.Post
-unfolding sidesAt
-read-sides-returns-3 t c = (simp (sym (c .before .before .before .read-expr .ensures .0) ∙ c .before .n2 .given .1), tt)
+unfolding sidesAt sidesUse
+read-sides-returns-3 t c =
+    let i = c .before .before .before .read-expr .ensures in
+    let e = sym (i .0) ∙ c .before .n2 .given .1 in (simp e, (simp (e, i .1 .0), tt))
 
 pub +read-expr+read-sides-spec : {M : Type 1} → statement M
 +read-expr+read-sides-spec = close μ-read-expr μ-read-sides (λ t. read-expr-lts.spec (read-expr-claims t)

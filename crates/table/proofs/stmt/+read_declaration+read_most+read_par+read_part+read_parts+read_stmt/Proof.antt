@@ -29,36 +29,41 @@ use Rattle.table.proofs.stmt.behind_head.Reads as behind-head-reads
 use Rattle.table.proofs.stmt.close_par.Reads as close-par-reads
 use Rattle.table.proofs.stmt.gather.Reads as gather-reads
 use Rattle.table.proofs.stmt.in_scope.Reads as in-scope-reads
+use Rattle.table.proofs.stmt.no_parts.Reads as no-parts-reads
 use Rattle.table.proofs.stmt.no_stmt.Reads as no-stmt-reads
 use Rattle.table.proofs.stmt.read_head.Reads as read-head-reads
 use Rattle.table.proofs.stmt.read_simple.Reads as read-simple-reads
-use Rattle.table.proofs.usage.check_branch.Reads as check-branch-reads
+use Rattle.table.proofs.usage.clash.Reads as clash-reads
+use Rattle.table.proofs.usage.leave.Reads as leave-reads
+use Rattle.table.proofs.usage.merge.Reads as merge-reads
 use cycle.+read_declaration+read_most+read_par+read_part+read_parts+read_stmt.{statement}
 use cycle.+read_declaration+read_most+read_par+read_part+read_parts+read_stmt.Tie.{close}
 use borrow.Author.Needs.{needs}
 use borrow.Author.Tests.{lt-ltb, le-ltb, eq-eqb, ne-eqb}
 use native.Mathlib.Omega.{arith}
-use mathlib.Core.Bool.{Bool, cond}
-use mathlib.Core.List.{List, [], _∷_}
+use mathlib.Core.Bool.{cond, _||_, or-true, or-false}
+use mathlib.Core.List.{List}
 use mathlib.Core.Logic.{⊎-elim}
-use mathlib.Core.Path.{_≡_, refl, ap, sym, _∙_}
+use mathlib.Core.Path.{_≡_, refl, sym, _∙_}
 use lib.Dec.{ltb, eqb}
-use lib.ListN.{length, take, drop}
-use lib.Seq.{take-nil}
-use Rattle.table.specs.Uses.{checked, checkedAt}
+use lib.ListN.{length}
+use Rattle.table.specs.Uses.{noNames, clashing}
+use Rattle.table.specs.Exprs.{kept}
 use Rattle.numbers.specs.Items.{betweenAt, deepAt, withItem}
-use Rattle.table.specs.Stmts.{stmtAt, partIn, partAt, mostAt, parAt, declaredAt, partsAt, simpleAt, mostFrom, branchesFrom, withStmt}
-use Rattle.table.specs.Stmts.{leaf, nothing, added, parOf, Branches, joinedBy, noBranches, moreNames}
-use Rattle.table.specs.Stmts.{Fits, SmallWords}
+use Rattle.table.specs.Stmts.{stmtAt, partIn, partAt, mostAt, parAt, declaredAt, partsAt, simpleAt, mostFrom, withStmt}
+use Rattle.table.specs.Stmts.{stmtUses, partUsesIn, partUses, mostUsesAt, parUsesAt, declaredUses, partsUse, simpleUses, mostUse}
+use Rattle.table.specs.Stmts.{branchesAt, branchesFrom, all, stopped, Branches, joinedBy, noBranches}
+use Rattle.table.specs.Stmts.{leaf, nothing, added, moreNames, Fits, SmallWords}
 use Rattle.numbers.specs.declared.Item.{Item}
 use Rattle.table.specs.declared.stmt.Names.{Names}
-use Rattle.table.specs.declared.stmt.Part.{Part}
 use Rattle.table.specs.declared.stmt.StmtRead.{StmtRead}
 use Rattle.table.specs.declared.stmt.StmtRead.the-variants.{Stmt, Refused as NoStmt}
 use Rattle.table.specs.declared.stmt.Sum.{Sum}
 use Rattle.table.specs.declared.stmt.SumRead.{SumRead}
 use Rattle.table.specs.declared.stmt.SumRead.the-variants.{Sum as Total, Refused as NoSum}
 use Rattle.model.proofs.Cases.{of-cond}
+use Rattle.table.specs.Sets.{Exact}
+use Rattle.table.proofs.SameStmt.{exact-uses}
 use Rattle.table.proofs.Small.{Small, count-most, stmt-small, stmt-counts, part-counts}
 
 -- more names fit where there is depth left, and what is counted in a table fits
@@ -78,152 +83,151 @@ small-words : (x : StmtRead) (at len : ℕ) → len ≤ 16384 → Small at len x
 small-words (Stmt p) at len h f = omega arith
 small-words (NoStmt k p) at len h f = tt
 
--- one more branch, over its stretch as the code has it
-stretch : (f t : ℕ) (l : List ℕ) → drop f (take t l) ≡ take (t - f) (drop f l)
-stretch zero t l = let e : t - 0 ≡ t = omega arith in rw e
-stretch (suc f) zero l = let e : 0 - suc f ≡ 0 = omega arith in rw e
-stretch (suc f) (suc t) [] = sym (take-nil (suc t - suc f))
-stretch (suc f) (suc t) (x ∷ l) = let e : suc t - suc f ≡ t - f = omega arith in rw e (stretch f t l)
-
-joined-is : {t : Sum} {l : List ℕ} {r : Bool} (d : ℕ) (w : Names) (s : List ℕ) (b : Branches) (p : Part)
-    → t ≡ added (b .total) p
-    → checked r l
-    ≡ checkedAt d (w .variables) (w .channels) (take (p .next - b .total .next) (drop (b .total .next) s)) (b .before) (b .bad)
-    → joinedBy d w s b p ≡ record { total = t; before = l; bad = r }
-joined-is d w s b p e f = rw (e, stretch (b .total .next) (p .next) s, ← f)
-
--- `stmtAt` at depth 0, and unrolled once where there is depth left
-none : (d : ℕ) (w : Names) (s : List ℕ) (at : ℕ) → d ≡ 0 → stmtAt d w s at ≡ withItem NoStmt (deepAt s at) (λ v n. leaf n 2)
-unfolding stmtAt
-none d w s at e = rw e
+-- `stmtAt` and `stmtUses` at depth 0, and unrolled once where there is depth left
+none : (d : ℕ) (w : Names) (s : List ℕ) (at : ℕ) (l : List ℕ) → d ≡ 0
+    → (stmtAt d w s at ≡ withItem NoStmt (deepAt s at) (λ v n. leaf n 2)) × (stmtUses d w s at l ≡ l)
+unfolding stmtAt stmtUses
+none d w s at l e = (rw e, rw e)
 
 abbrev byKind : (d : ℕ) → Names → List ℕ → (at : ℕ) → ℕ → ℕ → StmtRead
 byKind d w s at k n =
     cond (ltb k 5) (simpleAt k (d - 1) w s n) (cond (ltb k 7) (declaredAt k d w s n) (partsAt at k d w s n))
 
-turn : (d : ℕ) (w : Names) (s : List ℕ) (at : ℕ) → (d ≡ 0 → ⊥)
-    → stmtAt d w s at ≡ withItem NoStmt (betweenAt 0 11 s at) (λ k n. byKind d w s at k n)
-unfolding stmtAt declaredAt partsAt mostAt parAt
-turn zero w s at p = absurd (p refl)
-turn (suc d) w s at p = let e : suc d - 1 ≡ d = omega arith in rw e
+abbrev usesByKind : (d : ℕ) → Names → List ℕ → List ℕ → ℕ → ℕ → List ℕ
+usesByKind d w s l k n =
+    cond (ltb k 5) (simpleUses k (d - 1) w s n l) (cond (ltb k 7) (declaredUses k d w s n l) (partsUse k d w s n l))
+
+turn : (d : ℕ) (w : Names) (s : List ℕ) (at : ℕ) (l : List ℕ) → (d ≡ 0 → ⊥)
+    → (stmtAt d w s at ≡ withItem NoStmt (betweenAt 0 11 s at) (λ k n. byKind d w s at k n))
+    × (stmtUses d w s at l ≡ withItem (kept l) (betweenAt 0 11 s at) (λ k n. usesByKind d w s l k n))
+unfolding stmtAt stmtUses declaredAt declaredUses partsAt partsUse mostAt mostUsesAt parAt parUsesAt branchesAt
+turn zero w s at l p = absurd (p refl)
+turn (suc d) w s at l p = let e : suc d - 1 ≡ d = omega arith in (rw e, rw e)
 
 -- the parts and the branches that are left: none, or one and the others
 abbrev mostLeft : (left kind depth : ℕ) → Names → List ℕ → Sum → SumRead
 mostLeft i k d w s t = mostFrom i k d w (λ j. stmtAt d w s j) s t
 
-most-none : (i k d : ℕ) (w : Names) (s : List ℕ) (t : Sum) → i ≡ 0 → mostLeft i k d w s t ≡ Total t
-unfolding mostFrom
-most-none i k d w s t e = rw e
+abbrev usesLeft : (left kind depth : ℕ) → Names → List ℕ → (at : ℕ) → List ℕ → List ℕ
+usesLeft i k d w s at l = mostUse i k d w (λ j. stmtAt d w s j) (λ j m. stmtUses d w s j m) s at l
 
-most-turn : (i k d : ℕ) (w : Names) (s : List ℕ) (t : Sum) → 0 < i
-    → mostLeft i k d w s t ≡ withStmt NoSum (partIn k d w s (t .next)) (λ p. mostLeft (i - 1) k d w s (added t p))
-unfolding mostFrom partIn
-most-turn zero k d w s t h = absurd (omega arith)
-most-turn (suc i) k d w s t h = let e : suc i - 1 ≡ i = omega arith in rw e
+most-none : (i k d : ℕ) (w : Names) (s : List ℕ) (t : Sum) (l : List ℕ) → i ≡ 0
+    → (mostLeft i k d w s t ≡ Total t) × (usesLeft i k d w s (t .next) l ≡ l)
+unfolding mostFrom mostUse
+most-none i k d w s t l e = (rw e, rw e)
 
-abbrev branchesLeft : (left depth place : ℕ) → Names → List ℕ → Branches → StmtRead
-branchesLeft i d at w s b = branchesFrom i d at w (λ j. stmtAt d w s j) s b
+most-turn : (i k d : ℕ) (w : Names) (s : List ℕ) (t : Sum) (l : List ℕ) → 0 < i
+    → (mostLeft i k d w s t ≡ withStmt NoSum (partIn k d w s (t .next)) (λ p. mostLeft (i - 1) k d w s (added t p)))
+    × (usesLeft i k d w s (t .next) l
+    ≡ withStmt (kept (partUsesIn k d w s (t .next) l)) (partIn k d w s (t .next)) (λ p.
+    usesLeft (i - 1) k d w s (p .next) (partUsesIn k d w s (t .next) l)))
+unfolding mostFrom mostUse partIn partUsesIn
+most-turn zero k d w s t l h = absurd (omega arith)
+most-turn (suc i) k d w s t l h = let e : suc i - 1 ≡ i = omega arith in (rw e, rw e)
 
-branches-none : (i d at : ℕ) (w : Names) (s : List ℕ) (b : Branches) → i ≡ 0 → branchesLeft i d at w s b ≡ parOf at (b .total) (b .bad)
-unfolding branchesFrom
-branches-none i d at w s b e = rw e
+branches-none : (i d : ℕ) (w : Names) (s : List ℕ) (b : Branches) → i ≡ 0 → branchesAt i d w s b ≡ all b
+unfolding branchesAt branchesFrom
+branches-none i d w s b e = rw e
 
-branches-turn : (i d at : ℕ) (w : Names) (s : List ℕ) (b : Branches) → 0 < i
-    → branchesLeft i d at w s b ≡ withStmt NoStmt (stmtAt d w s (b .total .next)) (λ p. branchesLeft (i - 1) d at w s (joinedBy d w s b p))
-unfolding branchesFrom
-branches-turn zero d at w s b h = absurd (omega arith)
-branches-turn (suc i) d at w s b h = let e : suc i - 1 ≡ i = omega arith in rw e
+branches-turn : (i d : ℕ) (w : Names) (s : List ℕ) (b : Branches) → 0 < i
+    → branchesAt i d w s b
+    ≡ withStmt stopped (stmtAt d w s (b .total .next)) (λ p.
+    branchesAt (i - 1) d w s (joinedBy (stmtUses d w s (b .total .next) noNames) b p))
+unfolding branchesAt branchesFrom
+branches-turn zero d w s b h = absurd (omega arith)
+branches-turn (suc i) d w s b h = let e : suc i - 1 ≡ i = omega arith in rw e
 
-abbrev μ-read-declaration : Measures 1 read-declaration-kinds.ps ℕ
+abbrev μ-read-declaration : Measures 2 read-declaration-kinds.ps ℕ
 μ-read-declaration κs a = 6 * a .1 .1 .1 .0 - 1
 
-abbrev μ-read-most : Measures 1 read-most-kinds.ps ℕ
+abbrev μ-read-most : Measures 2 read-most-kinds.ps ℕ
 μ-read-most κs a = 6 * a .1 .1 .1 .1 .0 + 2
 
-abbrev μ-read-par : Measures 1 read-par-kinds.ps ℕ
+abbrev μ-read-par : Measures 2 read-par-kinds.ps ℕ
 μ-read-par κs a = 6 * a .1 .1 .1 .1 .0 + 2
 
-abbrev μ-read-part : Measures 1 read-part-kinds.ps ℕ
+abbrev μ-read-part : Measures 2 read-part-kinds.ps ℕ
 μ-read-part κs a = 6 * a .1 .1 .1 .0 + 1
 
-abbrev μ-read-parts : Measures 1 read-parts-kinds.ps ℕ
+abbrev μ-read-parts : Measures 2 read-parts-kinds.ps ℕ
 μ-read-parts κs a = 6 * a .1 .1 .1 .1 .0 - 1
 
-abbrev μ-read-stmt : Measures 1 read-stmt-kinds.ps ℕ
+abbrev μ-read-stmt : Measures 2 read-stmt-kinds.ps ℕ
 μ-read-stmt κs a = 6 * a .1 .1 .0
 
 abbrev read-most-Inv-loop : read-most-lts.InvT-loop
-read-most-Inv-loop table at kind count depth names sum₀ i₀ sum i =
+read-most-Inv-loop table at kind count depth names sets₀ sum₀ i₀ sets sum i =
     (mostLeft count kind depth names table (nothing at) ≡ mostLeft (count - i) kind depth names table sum)
+    × (usesLeft count kind depth names table at sets₀ ≡ usesLeft (count - i) kind depth names table (sum .next) sets)
     × (i ≤ count)
     × (sum .sum ≤ 1000000 * i)
     × (sum .all ≤ 1000000 * i)
 
 abbrev read-most-μ-loop : read-most-lts.MeasureT-loop
-read-most-μ-loop table at kind count depth names sum₀ i₀ sum i = count - i
+read-most-μ-loop table at kind count depth names sets₀ sum₀ i₀ sets sum i = count - i
 
 abbrev read-par-Inv-loop : read-par-lts.InvT-loop
-read-par-Inv-loop table place at count depth names sum₀ before₀ bad₀ i₀ sum before bad i =
-    (branchesLeft count depth place names table (noBranches at)
-    ≡ branchesLeft (count - i) depth place names table (record { total = sum; before = before; bad = bad }))
+read-par-Inv-loop table place at count depth names sets sum₀ before₀ bad₀ i₀ sum before bad i =
+    (branchesAt count depth names table (noBranches at)
+    ≡ branchesAt (count - i) depth names table (record { total = sum; before = before; bad = bad }))
     × (i ≤ count)
     × (sum .sum ≤ 1000000 * i)
     × (sum .all ≤ 1000000 * i)
 
 abbrev read-par-μ-loop : read-par-lts.MeasureT-loop
-read-par-μ-loop table place at count depth names sum₀ before₀ bad₀ i₀ sum before bad i = count - i
+read-par-μ-loop table place at count depth names sets sum₀ before₀ bad₀ i₀ sum before bad i = count - i
 
-abbrev read-declaration-at : ℕ → In 1 read-declaration-kinds.ps
+abbrev read-declaration-at : ℕ → In 2 read-declaration-kinds.ps
 read-declaration-at t =
     and
-    1
+    2
     read-declaration-kinds.ps
-    (is 1 read-declaration-kinds.ps μ-read-declaration t)
+    (is 2 read-declaration-kinds.ps μ-read-declaration t)
     read-declaration.Pre
 
-abbrev read-declaration-below : ℕ → In 1 read-declaration-kinds.ps
+abbrev read-declaration-below : ℕ → In 2 read-declaration-kinds.ps
 read-declaration-below t =
     and
-    1
+    2
     read-declaration-kinds.ps
-    (falls 1 read-declaration-kinds.ps _<_ μ-read-declaration t)
+    (falls 2 read-declaration-kinds.ps _<_ μ-read-declaration t)
     read-declaration.Pre
 
-abbrev read-most-at : ℕ → In 1 read-most-kinds.ps
-read-most-at t = and 1 read-most-kinds.ps (is 1 read-most-kinds.ps μ-read-most t) read-most.Pre
+abbrev read-most-at : ℕ → In 2 read-most-kinds.ps
+read-most-at t = and 2 read-most-kinds.ps (is 2 read-most-kinds.ps μ-read-most t) read-most.Pre
 
-abbrev read-most-below : ℕ → In 1 read-most-kinds.ps
+abbrev read-most-below : ℕ → In 2 read-most-kinds.ps
 read-most-below t =
-    and 1 read-most-kinds.ps (falls 1 read-most-kinds.ps _<_ μ-read-most t) read-most.Pre
+    and 2 read-most-kinds.ps (falls 2 read-most-kinds.ps _<_ μ-read-most t) read-most.Pre
 
-abbrev read-par-at : ℕ → In 1 read-par-kinds.ps
-read-par-at t = and 1 read-par-kinds.ps (is 1 read-par-kinds.ps μ-read-par t) read-par.Pre
+abbrev read-par-at : ℕ → In 2 read-par-kinds.ps
+read-par-at t = and 2 read-par-kinds.ps (is 2 read-par-kinds.ps μ-read-par t) read-par.Pre
 
-abbrev read-par-below : ℕ → In 1 read-par-kinds.ps
+abbrev read-par-below : ℕ → In 2 read-par-kinds.ps
 read-par-below t =
-    and 1 read-par-kinds.ps (falls 1 read-par-kinds.ps _<_ μ-read-par t) read-par.Pre
+    and 2 read-par-kinds.ps (falls 2 read-par-kinds.ps _<_ μ-read-par t) read-par.Pre
 
-abbrev read-part-at : ℕ → In 1 read-part-kinds.ps
-read-part-at t = and 1 read-part-kinds.ps (is 1 read-part-kinds.ps μ-read-part t) read-part.Pre
+abbrev read-part-at : ℕ → In 2 read-part-kinds.ps
+read-part-at t = and 2 read-part-kinds.ps (is 2 read-part-kinds.ps μ-read-part t) read-part.Pre
 
-abbrev read-part-below : ℕ → In 1 read-part-kinds.ps
+abbrev read-part-below : ℕ → In 2 read-part-kinds.ps
 read-part-below t =
-    and 1 read-part-kinds.ps (falls 1 read-part-kinds.ps _<_ μ-read-part t) read-part.Pre
+    and 2 read-part-kinds.ps (falls 2 read-part-kinds.ps _<_ μ-read-part t) read-part.Pre
 
-abbrev read-parts-at : ℕ → In 1 read-parts-kinds.ps
+abbrev read-parts-at : ℕ → In 2 read-parts-kinds.ps
 read-parts-at t =
-    and 1 read-parts-kinds.ps (is 1 read-parts-kinds.ps μ-read-parts t) read-parts.Pre
+    and 2 read-parts-kinds.ps (is 2 read-parts-kinds.ps μ-read-parts t) read-parts.Pre
 
-abbrev read-parts-below : ℕ → In 1 read-parts-kinds.ps
+abbrev read-parts-below : ℕ → In 2 read-parts-kinds.ps
 read-parts-below t =
-    and 1 read-parts-kinds.ps (falls 1 read-parts-kinds.ps _<_ μ-read-parts t) read-parts.Pre
+    and 2 read-parts-kinds.ps (falls 2 read-parts-kinds.ps _<_ μ-read-parts t) read-parts.Pre
 
-abbrev read-stmt-at : ℕ → In 1 read-stmt-kinds.ps
-read-stmt-at t = and 1 read-stmt-kinds.ps (is 1 read-stmt-kinds.ps μ-read-stmt t) read-stmt.Pre
+abbrev read-stmt-at : ℕ → In 2 read-stmt-kinds.ps
+read-stmt-at t = and 2 read-stmt-kinds.ps (is 2 read-stmt-kinds.ps μ-read-stmt t) read-stmt.Pre
 
-abbrev read-stmt-below : ℕ → In 1 read-stmt-kinds.ps
+abbrev read-stmt-below : ℕ → In 2 read-stmt-kinds.ps
 read-stmt-below t =
-    and 1 read-stmt-kinds.ps (falls 1 read-stmt-kinds.ps _<_ μ-read-stmt t) read-stmt.Pre
+    and 2 read-stmt-kinds.ps (falls 2 read-stmt-kinds.ps _<_ μ-read-stmt t) read-stmt.Pre
 
 abbrev read-declaration-claims : ℕ → read-declaration-lts.Claims
 read-declaration-claims t = (
@@ -231,12 +235,16 @@ read-declaration-claims t = (
   read-between-reads.Learnt,
   read-stmt-below t,
   read-stmt.Post,
+  leave-reads.Asked,
+  leave-reads.Learnt,
   in-scope-reads.Asked,
   in-scope-reads.Learnt,
 )
 
 abbrev read-most-claims : ℕ → read-most-lts.Claims
 read-most-claims t = (
+  no-parts-reads.Asked,
+  no-parts-reads.Learnt,
   read-part-below t,
   read-part.Post,
   add-reads.Asked,
@@ -247,10 +255,14 @@ read-most-claims t = (
 
 abbrev read-par-claims : ℕ → read-par-lts.Claims
 read-par-claims t = (
+  no-parts-reads.Asked,
+  no-parts-reads.Learnt,
   read-stmt-below t,
   read-stmt.Post,
-  check-branch-reads.Asked,
-  check-branch-reads.Learnt,
+  clash-reads.Asked,
+  clash-reads.Learnt,
+  merge-reads.Asked,
+  merge-reads.Learnt,
   add-reads.Asked,
   add-reads.Learnt,
   close-par-reads.Asked,
@@ -295,14 +307,14 @@ read-stmt-claims t = (
 
 -- what is counted of the part and of the branch that is read
 part : {t : ℕ} (c : read-most-lts.After-p (read-most-claims t) (read-most-at t) read-most.Post read-most-Inv-loop read-most-μ-loop)
-    → let k = c .before .before .before .before in
-    Small (k .loop .sum .next) (length (k .before .before .args .table .now)) (Stmt (c .p .given .0 .0))
-part c = part-counts _ _ _ _ _ (sym (c .before .before .read-part .ensures) ∙ c .p .given .1)
+    → let k = c .before .before .before .before .before in
+    Small (k .loop .sum .next) (length (k .before .before .before .args .table .now)) (Stmt (c .p .given .0 .0))
+part c = part-counts _ _ _ _ _ (sym (c .before .before .read-part .ensures .0) ∙ c .p .given .1)
 
 branch : {t : ℕ} (c : read-par-lts.After-p (read-par-claims t) (read-par-at t) read-par.Post read-par-Inv-loop read-par-μ-loop)
-    → let k = c .before .before .before .before in
-    Small (k .loop .sum .next) (length (k .before .before .args .table .now)) (Stmt (c .p .given .0 .0))
-branch c = stmt-counts _ _ _ _ (sym (c .before .before .read-stmt .ensures) ∙ c .p .given .1)
+    → let k = c .before .before .before .before .before in
+    Small (k .loop .sum .next) (length (k .before .before .before .args .table .now)) (Stmt (c .p .given .0 .0))
+branch c = stmt-counts _ _ _ _ (sym (c .before .before .read-stmt .ensures .0) ∙ c .p .given .1)
 
 -- the count of a declaration, and the names that are then in scope
 declared-count : {t : ℕ} (c : read-declaration-lts.After-count (read-declaration-claims t) (read-declaration-at t) read-declaration.Post)
@@ -329,48 +341,74 @@ parts-count c =
 first : {t : ℕ} {x : Item} (c : read-stmt-lts.After-read-between (read-stmt-claims t) (read-stmt-at t) read-stmt.Post)
     → c .read-between .result ≡ x
     → let a = c .before .before .before .args in
-    stmtAt (a .depth) (a .names) (a .table .now) (a .at) ≡ withItem NoStmt x (byKind (a .depth) (a .names) (a .table .now) (a .at))
-first c e = turn _ _ _ _ (c .before .if1 .left) ∙ simp (sym (c .read-between .ensures) ∙ e)
+    (stmtAt (a .depth) (a .names) (a .table .now) (a .at) ≡ withItem NoStmt x (byKind (a .depth) (a .names) (a .table .now) (a .at)))
+    × (stmtUses (a .depth) (a .names) (a .table .now) (a .at) (a .sets .now)
+    ≡ withItem (kept (a .sets .now)) x (usesByKind (a .depth) (a .names) (a .table .now) (a .sets .now)))
+first c e =
+    let u = turn _ _ _ _ _ (c .before .if1 .left) in
+    let f = sym (c .read-between .ensures) ∙ e in (u .0 ∙ simp f, u .1 ∙ simp f)
 
 second : {t : ℕ} {x : Item} (c : read-parts-lts.After-read-between (read-parts-claims t) (read-parts-at t) read-parts.Post)
     → c .read-between .result ≡ x
     → let a = c .before .before .before .before .args in
-    partsAt (a .place) (a .kind) (a .depth) (a .names) (a .table .now) (a .at)
+    (partsAt (a .place) (a .kind) (a .depth) (a .names) (a .table .now) (a .at)
     ≡ withItem NoStmt x (λ n m.
     cond (eqb (a .kind) 8) (parAt (a .place) n (a .depth - 1) (a .names) (a .table .now) m)
-    (mostAt (a .kind) n (a .depth - 1) (a .names) (a .table .now) m))
-unfolding partsAt
-second c e = simp (ne-eqb _ _ (c .before .before .if1 .left), ← most-is (c .before), sym (c .read-between .ensures) ∙ e)
+    (mostAt (a .kind) n (a .depth - 1) (a .names) (a .table .now) m)))
+    × (partsUse (a .kind) (a .depth) (a .names) (a .table .now) (a .at) (a .sets .now)
+    ≡ withItem (kept (a .sets .now)) x (λ n m.
+    cond (eqb (a .kind) 8) (parUsesAt n (a .depth - 1) (a .names) (a .table .now) m (a .sets .now))
+    (mostUsesAt (a .kind) n (a .depth - 1) (a .names) (a .table .now) m (a .sets .now))))
+unfolding partsAt partsUse
+second c e =
+    let f = ne-eqb _ _ (c .before .before .if1 .left) in
+    let g = sym (c .read-between .ensures) ∙ e in (simp (f, ← most-is (c .before), g), simp (f, ← most-is (c .before), g))
 
 -- what is to be answered once a part or a branch is read
 one-part : {t : ℕ} {x : StmtRead}
     (c : read-most-lts.After-read-part (read-most-claims t) (read-most-at t) read-most.Post read-most-Inv-loop read-most-μ-loop)
     → c .read-part .result ≡ x
-    → let a = c .before .before .before .before .args in
-    let l = c .before .before .loop in
-    mostLeft (a .count) (a .kind) (a .depth) (a .names) (a .table .now) (nothing (a .at))
-    ≡ withStmt NoSum x (λ p. mostLeft (a .count - (l .i + 1)) (a .kind) (a .depth) (a .names) (a .table .now) (added (l .sum) p))
+    → let a = c .before .before .before .before .before .before .args in
+    let l = c .before .before .before .loop in
+    let m = c .read-part .last .1 .1 .1 .1 .1 .0 in
+    (mostLeft (a .count) (a .kind) (a .depth) (a .names) (a .table .now) (nothing (a .at))
+    ≡ withStmt NoSum x (λ p. mostLeft (a .count - (l .i + 1)) (a .kind) (a .depth) (a .names) (a .table .now) (added (l .sum) p)))
+    × (usesLeft (a .count) (a .kind) (a .depth) (a .names) (a .table .now) (a .at) (a .sets .now)
+    ≡ withStmt (kept m) x (λ p. usesLeft (a .count - (l .i + 1)) (a .kind) (a .depth) (a .names) (a .table .now) (p .next) m))
 one-part c e =
-    let a = c .before .before .before .before .args in
-    let l = c .before .before .loop in
+    let a = c .before .before .before .before .before .before .args in
+    let l = c .before .before .before .loop in
     let h : 0 < a .count - l .i = omega arith in
     let z : a .count - l .i - 1 ≡ a .count - (l .i + 1) = omega arith in
-    l .inv .0 ∙ most-turn _ _ _ _ _ _ h ∙ simp (← c .read-part .ensures, e, z)
+    let u = most-turn _ _ _ _ _ _ _ h in
+    let r = c .read-part .ensures in (
+      l .inv .0 ∙ u .0 ∙ simp (← r .0, e, z),
+      l .inv .1 ∙ u .1 ∙ simp (← r .0, ← r .1, e, z),
+    )
 
 one-branch : {t : ℕ} {x : StmtRead}
     (c : read-par-lts.After-read-stmt (read-par-claims t) (read-par-at t) read-par.Post read-par-Inv-loop read-par-μ-loop)
     → c .read-stmt .result ≡ x
-    → let a = c .before .before .before .before .args in
-    let l = c .before .before .loop in
-    branchesLeft (a .count) (a .depth) (a .place) (a .names) (a .table .now) (noBranches (a .at))
-    ≡ withStmt NoStmt x (λ p. branchesLeft (a .count - (l .i + 1)) (a .depth) (a .place) (a .names) (a .table .now)
-    (joinedBy (a .depth) (a .names) (a .table .now) (record { total = l .sum; before = l .before; bad = l .bad }) p))
+    → let a = c .before .before .before .before .before .before .args in
+    let l = c .before .before .before .loop in
+    branchesAt (a .count) (a .depth) (a .names) (a .table .now) (noBranches (a .at))
+    ≡ withStmt stopped x (λ p. branchesAt (a .count - (l .i + 1)) (a .depth) (a .names) (a .table .now)
+    (joinedBy (c .read-stmt .last .1 .1 .1 .1 .0) (record { total = l .sum; before = l .before; bad = l .bad }) p))
 one-branch c e =
-    let a = c .before .before .before .before .args in
-    let l = c .before .before .loop in
+    let a = c .before .before .before .before .before .before .args in
+    let l = c .before .before .before .loop in
     let h : 0 < a .count - l .i = omega arith in
     let z : a .count - l .i - 1 ≡ a .count - (l .i + 1) = omega arith in
-    l .inv .0 ∙ branches-turn _ _ _ _ _ _ h ∙ simp (← c .read-stmt .ensures, e, z)
+    let r = c .read-stmt .ensures in l .inv .0 ∙ branches-turn _ _ _ _ _ h ∙ simp (← r .0, ← r .1 .0, e, z)
+
+-- whether branches clash, once one more is looked at
+bad-is : {t : ℕ} (c : read-par-lts.Joined1 (read-par-claims t) (read-par-at t) read-par.Post read-par-Inv-loop read-par-μ-loop)
+    → let r = c .before .before .before .before .before .before in
+    let l = r .before .before .before .before .loop in
+    c .if1 .bad ≡ (l .bad || clashing (l .before) (r .before .read-stmt .last .1 .1 .1 .1 .0))
+bad-is c =
+    let e = c .before .clash .ensures in
+    ⊎-elim (λ w. w .1 ∙ simp (← e, w .0 .taken, or-true)) (λ w. w .1 ∙ simp (← e, w .0 .left, or-false)) (c .if1 .came)
 
 read-declaration-add-more : (t : ℕ)
     → read-declaration-lts.Need-add-more (read-declaration-claims t) (read-declaration-at t) read-declaration.Post
@@ -383,42 +421,54 @@ read-declaration-add-more-2 t c = omega (arith, declared-count (c .before .befor
 read-declaration-read-stmt-requires : (t : ℕ)
     → read-declaration-lts.Need-read-stmt-requires (read-declaration-claims t) (read-declaration-at t) read-declaration.Post
 read-declaration-read-stmt-requires t c κs =
-    let o = c .before .before .before .before .before .before in
-    let n = declared-count (c .before .before) in
-    (omega (arith, o .pre .0), (rw (more-is c) (more-fits (o .args .kind) _ _ _ (o .pre .1 .0) n (o .pre .1 .1)), o .pre .1 .2))
+    let j = c .before in
+    let o = j .before .before .before .before .before .before in
+    let n = declared-count (j .before .before) in
+    (omega (arith, o .pre .0), (rw (more-is j) (more-fits (o .args .kind) _ _ _ (o .pre .1 .0) n (o .pre .1 .1)), o .pre .1 .2))
+
+read-declaration-leave-requires : (t : ℕ)
+    → read-declaration-lts.Need-leave-requires (read-declaration-claims t) (read-declaration-at t) read-declaration.Post
+read-declaration-leave-requires t c κs =
+    let o = c .before .before .before .before .before .before .before .before .before .pre .1 in
+    (omega (arith, o .0, o .1), omega (arith, o .0, o .1))
 
 read-declaration-in-scope-requires : (t : ℕ)
     → read-declaration-lts.Need-in-scope-requires (read-declaration-claims t) (read-declaration-at t) read-declaration.Post
 read-declaration-in-scope-requires t c κs =
-    let o = c .before .before .before .before .before .before .before in (
-      declared-count (c .before .before .before),
-      rw (c .read-stmt .ensures) (small-words (stmtAt _ _ _ _) _ _ (o .pre .1 .2) (stmt-small _ _ _ _)),
+    let n = c .before .before .before .before .before .before in
+    let o = n .before .before .before .before in (
+      declared-count n,
+      rw (c .before .before .read-stmt .ensures .0) (small-words (stmtAt _ _ _ _) _ _ (o .pre .1 .2) (stmt-small _ _ _ _)),
     )
 
 read-declaration-returns : (t : ℕ)
     → read-declaration-lts.Need-returns (read-declaration-claims t) (read-declaration-at t) read-declaration.Post
-unfolding declaredAt
+unfolding declaredAt declaredUses
 read-declaration-returns t c =
-    simp (
-      c .in-scope .ensures,
-      c .before .read-stmt .ensures,
-      more-is (c .before .before),
-      sym (c .before .before .before .before .before .before .read-between .ensures) ∙ c .before .before .before .before .count .given .1,
+    let r = c .before .before .before in
+    let j = r .before .before in
+    let n = j .before .before in
+    let e = sym (n .before .before .read-between .ensures) ∙ n .count .given .1 in (
+      simp (c .in-scope .ensures, r .read-stmt .ensures .0, more-is j, e),
+      simp (c .before .leave .ensures, r .read-stmt .ensures .1 .0, more-is j, e),
     )
 
 read-declaration-returns-2 : (t : ℕ)
     → read-declaration-lts.Need-returns-2 (read-declaration-claims t) (read-declaration-at t) read-declaration.Post
-unfolding declaredAt
-read-declaration-returns-2 t c = simp (sym (c .before .before .before .read-between .ensures) ∙ c .before .n .given .1)
+unfolding declaredAt declaredUses
+read-declaration-returns-2 t c =
+    let e = sym (c .before .before .before .read-between .ensures) ∙ c .before .n .given .1 in (simp e, simp e)
 
 read-most-loop-holds : (t : ℕ)
     → read-most-lts.Need-loop-holds (read-most-claims t) (read-most-at t) read-most.Post read-most-Inv-loop read-most-μ-loop
 read-most-loop-holds t c =
-    let e : c .before .args .count - 0 ≡ c .before .args .count = omega arith in (rw e refl, omega arith, omega arith, omega arith)
+    let e : c .before .before .args .count - 0 ≡ c .before .before .args .count = omega arith in
+    let n = c .no-parts .ensures in rw (n, e) (refl, refl, omega arith, omega arith, omega arith)
 
 read-most-read-part-requires : (t : ℕ)
     → read-most-lts.Need-read-part-requires (read-most-claims t) (read-most-at t) read-most.Post read-most-Inv-loop read-most-μ-loop
-read-most-read-part-requires t c κs = let o = c .before .before .before in (omega (arith, o .pre .0), (o .pre .1 .0, o .pre .1 .1))
+read-most-read-part-requires t c κs =
+    let o = c .before .before .before .before .before in (omega (arith, o .pre .0), (o .pre .1 .0, o .pre .1 .1, o .pre .1 .2))
 
 read-most-add-requires : (t : ℕ)
     → read-most-lts.Need-add-requires (read-most-claims t) (read-most-at t) read-most.Post read-most-Inv-loop read-most-μ-loop
@@ -429,8 +479,11 @@ read-most-loop-again : (t : ℕ)
     → read-most-lts.Need-loop-again (read-most-claims t) (read-most-at t) read-most.Post read-most-Inv-loop read-most-μ-loop
 read-most-loop-again t c =
     let p = c .before .before in
-    let h = part p in (
-      one-part (p .before .before) (p .p .given .1) ∙ simp (c .add .ensures),
+    let h = part p in
+    let short = p .before .before .before .before .before .before .before .before .pre .1 .2 in
+    let o = one-part (p .before .before) (p .p .given .1) in (
+      o .0 ∙ simp (c .add .ensures),
+      o .1 ∙ simp (c .add .ensures),
       omega arith,
       rw (c .add .ensures) (omega arith),
       rw (c .add .ensures) (omega arith),
@@ -438,67 +491,59 @@ read-most-loop-again t c =
 
 read-most-returns : (t : ℕ)
     → read-most-lts.Need-returns (read-most-claims t) (read-most-at t) read-most.Post read-most-Inv-loop read-most-μ-loop
-unfolding mostAt
-read-most-returns t c = simp (one-part (c .before .before .before) (c .before .n .given .1))
+unfolding mostAt mostUsesAt
+read-most-returns t c =
+    let o = one-part (c .before .before .before) (c .before .n .given .1) in (simp (o .0), sym (o .1))
 
 read-most-returns-2 : (t : ℕ)
     → read-most-lts.Need-returns-2 (read-most-claims t) (read-most-at t) read-most.Post read-most-Inv-loop read-most-μ-loop
-unfolding mostAt
+unfolding mostAt mostUsesAt
 read-most-returns-2 t c =
-    let z : c .before .before .before .before .args .count - c .before .before .loop .i ≡ 0 = omega arith in
-    c .gather .ensures ∙ simp (c .before .before .loop .inv .0 ∙ most-none _ _ _ _ _ _ z)
+    let l = c .before .before .loop in
+    let z : c .before .before .before .before .before .args .count - l .i ≡ 0 = omega arith in
+    let n = most-none _ _ _ _ _ _ _ z in (c .gather .ensures ∙ simp (l .inv .0 ∙ n .0), sym (l .inv .1 ∙ n .1))
 
 read-par-loop-holds : (t : ℕ)
     → read-par-lts.Need-loop-holds (read-par-claims t) (read-par-at t) read-par.Post read-par-Inv-loop read-par-μ-loop
 read-par-loop-holds t c =
-    let e : c .before .args .count - 0 ≡ c .before .args .count = omega arith in (rw e refl, omega arith, omega arith, omega arith)
+    let e : c .before .before .args .count - 0 ≡ c .before .before .args .count = omega arith in
+    let n = c .no-parts .ensures in rw (n, e) (refl, omega arith, omega arith, omega arith)
 
 read-par-read-stmt-requires : (t : ℕ)
     → read-par-lts.Need-read-stmt-requires (read-par-claims t) (read-par-at t) read-par.Post read-par-Inv-loop read-par-μ-loop
-read-par-read-stmt-requires t c κs = let o = c .before .before .before in (omega (arith, o .pre .0), (o .pre .1 .0, o .pre .1 .2))
-
-read-par-sub-check-branch : (t : ℕ)
-    → read-par-lts.Need-sub-check-branch (read-par-claims t) (read-par-at t) read-par.Post read-par-Inv-loop read-par-μ-loop
-read-par-sub-check-branch t c = let h = branch (c .before) in omega arith
-
-read-par-part-check-branch-start : (t : ℕ)
-    → read-par-lts.Need-part-check-branch-start (read-par-claims t) (read-par-at t) read-par.Post read-par-Inv-loop read-par-μ-loop
-read-par-part-check-branch-start t c =
-    let h = branch (c .before) in omega arith
-
-read-par-part-check-branch-end : (t : ℕ)
-    → read-par-lts.Need-part-check-branch-end (read-par-claims t) (read-par-at t) read-par.Post read-par-Inv-loop read-par-μ-loop
-read-par-part-check-branch-end t c =
-    let h = branch (c .before) in omega arith
-
-read-par-check-branch-requires : (t : ℕ)
-    → read-par-lts.Need-check-branch-requires (read-par-claims t) (read-par-at t) read-par.Post read-par-Inv-loop read-par-μ-loop
-read-par-check-branch-requires t c κs = (omega arith, c .before .before .before .before .before .before .before .before .before .pre .1 .1)
+read-par-read-stmt-requires t c κs =
+    let o = c .before .before .before .before .before in (omega (arith, o .pre .0), (o .pre .1 .0, o .pre .1 .2))
 
 read-par-add-requires : (t : ℕ)
     → read-par-lts.Need-add-requires (read-par-claims t) (read-par-at t) read-par.Post read-par-Inv-loop read-par-μ-loop
 read-par-add-requires t c κs =
-    let h = branch (c .before .before .before .before) in (omega arith, omega arith, omega arith, omega arith)
+    let h = branch (c .before .before .before .before .before .before .before .before) in
+    (omega arith, omega arith, omega arith, omega arith)
+
+read-par-add-i : (t : ℕ)
+    → read-par-lts.Need-add-i (read-par-claims t) (read-par-at t) read-par.Post read-par-Inv-loop read-par-μ-loop
+read-par-add-i t c =
+    let p = c .before .before .before .before .before .before .before .before .before in
+    let k = p .before .before .before .before .before in
+    record { fits = omega (arith, k .loop .inv .1, k .before .before .before .pre .1 .3) }
 
 read-par-loop-again : (t : ℕ)
     → read-par-lts.Need-loop-again (read-par-claims t) (read-par-at t) read-par.Post read-par-Inv-loop read-par-μ-loop
 read-par-loop-again t c =
-    let p = c .before .before .before .before .before in
+    let j = c .before .before .before .before in
+    let p = j .before .before .before .before .before in
     let h = branch p in
-    let a = c .before .before .before .before .before .before .before .before .before .before .before .args in
-    let l = c .before .before .before .before .before .before .before .before .before .loop in
-    let b : Branches = record { total = l .sum; before = l .before; bad = l .bad } in (
-      one-branch (p .before .before) (p .p .given .1)
-          ∙ ap (branchesLeft (a .count - (l .i + 1)) (a .depth) (a .place) (a .names) (a .table .now))
-          (joined-is (a .depth) (a .names) (a .table .now) b (p .p .given .0 .0) (c .add .ensures) (c .before .check-branch .ensures)),
+    let o = p .before .before .before .before .before .before .before .before .pre .1 .2 in (
+      one-branch (p .before .before) (p .p .given .1) ∙ simp (c .add .ensures, c .before .merge .ensures, bad-is j),
       omega arith,
       rw (c .add .ensures) (omega arith),
       rw (c .add .ensures) (omega arith),
     )
 
 read-par-returns : (t : ℕ) → read-par-lts.Need-returns (read-par-claims t) (read-par-at t) read-par.Post read-par-Inv-loop read-par-μ-loop
-unfolding parAt
-read-par-returns t c = sym (one-branch (c .before .before .before) (c .before .n .given .1))
+unfolding parAt parUsesAt
+read-par-returns t c =
+    let e = one-branch (c .before .before .before) (c .before .n .given .1) in (simp e, simp e)
 
 read-par-close-par-requires : (t : ℕ)
     → read-par-lts.Need-close-par-requires (read-par-claims t) (read-par-at t) read-par.Post read-par-Inv-loop read-par-μ-loop
@@ -506,96 +551,130 @@ read-par-close-par-requires t c κs = omega arith
 
 read-par-returns-2 : (t : ℕ)
     → read-par-lts.Need-returns-2 (read-par-claims t) (read-par-at t) read-par.Post read-par-Inv-loop read-par-μ-loop
-unfolding parAt
+unfolding parAt parUsesAt
 read-par-returns-2 t c =
-    let z : c .before .before .before .before .args .count - c .before .before .loop .i ≡ 0 = omega arith in
-    c .close-par .ensures ∙ sym (c .before .before .loop .inv .0 ∙ branches-none _ _ _ _ _ _ z)
+    let k = c .before .before .before .before .before in
+    let z : k .before .before .before .args .count - k .loop .i ≡ 0 = omega arith in
+    let e = k .loop .inv .0 ∙ branches-none _ _ _ _ _ z in
+    (c .close-par .ensures ∙ simp e, c .before .merge2 .ensures ∙ simp e)
 
 read-part-read-stmt-requires : (t : ℕ) → read-part-lts.Need-read-stmt-requires (read-part-claims t) (read-part-at t) read-part.Post
-read-part-read-stmt-requires t c κs = let o = c .before .before .before .before .before in (omega (arith, o .pre .0), o .pre .1)
+read-part-read-stmt-requires t c κs =
+    let o = c .before .before .before .before .before .before .before in (omega (arith, o .pre .0), (o .pre .1 .0, o .pre .1 .2))
 
 read-part-returns : (t : ℕ) → read-part-lts.Need-returns (read-part-claims t) (read-part-at t) read-part.Post
-unfolding partIn partAt
+unfolding partIn partAt partUsesIn partUses
 read-part-returns t c =
-    simp (
-      sym (c .before .before .before .before .before .read-head .ensures) ∙ c .before .before .before .next .given .1,
-      c .behind-head .ensures,
-      c .before .read-stmt .ensures,
-    )
+    let k = c .before .before .before .before in
+    let h = k .before .before .read-head .ensures in
+    let e = sym (h .0) ∙ k .next .given .1 in
+    let r = c .before .read-stmt .ensures in (simp (e, c .behind-head .ensures, r .0), simp (e, r .1 .0, h .1))
 
 read-part-returns-2 : (t : ℕ) → read-part-lts.Need-returns-2 (read-part-claims t) (read-part-at t) read-part.Post
-unfolding partIn partAt
-read-part-returns-2 t c = simp (sym (c .before .before .before .read-head .ensures) ∙ c .before .n .given .1)
+unfolding partIn partAt partUsesIn partUses
+read-part-returns-2 t c =
+    let h = c .before .before .before .read-head .ensures in
+    let e = sym (h .0) ∙ c .before .n .given .1 in (simp e, simp (e, h .1))
 
 read-parts-read-most-requires : (t : ℕ) → read-parts-lts.Need-read-most-requires (read-parts-claims t) (read-parts-at t) read-parts.Post
 read-parts-read-most-requires t c κs =
-    let o = c .before .before in (omega (arith, o .pre .0), (less-fits _ _ (o .pre .1 .1), o .pre .1 .2, omega arith))
+    let o = c .before .before .before in
+    (omega (arith, o .pre .0), (less-fits _ _ (o .pre .1 .1), omega arith, o .pre .1 .2, omega arith))
 
 read-parts-returns : (t : ℕ) → read-parts-lts.Need-returns (read-parts-claims t) (read-parts-at t) read-parts.Post
-unfolding partsAt
-read-parts-returns t c = simp (eq-eqb _ _ (c .before .if1 .taken), c .read-most .ensures)
+unfolding partsAt partsUse
+read-parts-returns t c =
+    let e = eq-eqb _ _ (c .before .before .if1 .taken) in (simp (e, c .read-most .ensures .0), simp (e, c .read-most .ensures .1))
 
 read-parts-read-par-requires : (t : ℕ) → read-parts-lts.Need-read-par-requires (read-parts-claims t) (read-parts-at t) read-parts.Post
 read-parts-read-par-requires t c κs =
-    let o = c .before .before .before .before .before .before .before .before in
-    let n = rw (eq-eqb _ _ (c .if3 .taken)) at (parts-count (c .before .before)) in
+    let k = c .before in
+    let o = k .before .before .before .before .before .before .before .before in
+    let n = rw (eq-eqb _ _ (k .if3 .taken)) at (parts-count (k .before .before)) in
     (omega (arith, o .pre .0), (less-fits _ _ (o .pre .1 .1), omega arith, o .pre .1 .2, n))
 
 read-parts-read-most-requires-2 : (t : ℕ) → read-parts-lts.Need-read-most-requires-2 (read-parts-claims t) (read-parts-at t) read-parts.Post
 read-parts-read-most-requires-2 t c κs =
-    let o = c .before .before .before .before .before .before .before .before in
-    let n = rw (ne-eqb _ _ (c .if3 .left)) at (parts-count (c .before .before)) in
-    (omega (arith, o .pre .0), (less-fits _ _ (o .pre .1 .1), o .pre .1 .2, n))
+    let k = c .before in
+    let o = k .before .before .before .before .before .before .before .before in
+    let n = rw (ne-eqb _ _ (k .if3 .left)) at (parts-count (k .before .before)) in
+    (omega (arith, o .pre .0), (less-fits _ _ (o .pre .1 .1), omega arith, o .pre .1 .2, n))
 
 read-parts-returns-2 : (t : ℕ) → read-parts-lts.Need-returns-2 (read-parts-claims t) (read-parts-at t) read-parts.Post
 read-parts-returns-2 t c =
-    c .read-par .ensures
-    ∙ sym (second (c .before .before .before .before .before) (c .before .before .before .count .given .1)
-    ∙ simp (eq-eqb _ _ (c .before .if3 .taken)))
+    let k = c .before .before .before .before in
+    let h = second (k .before .before) (k .count .given .1) in
+    let e = eq-eqb _ _ (c .before .before .if3 .taken) in
+    (c .read-par .ensures .0 ∙ sym (h .0 ∙ simp e), c .read-par .ensures .1 ∙ sym (h .1 ∙ simp e))
 
 read-parts-returns-3 : (t : ℕ) → read-parts-lts.Need-returns-3 (read-parts-claims t) (read-parts-at t) read-parts.Post
 read-parts-returns-3 t c =
-    c .read-most2 .ensures
-    ∙ sym (second (c .before .before .before .before .before) (c .before .before .before .count .given .1)
-    ∙ simp (ne-eqb _ _ (c .before .if3 .left)))
+    let k = c .before .before .before .before in
+    let h = second (k .before .before) (k .count .given .1) in
+    let e = ne-eqb _ _ (c .before .before .if3 .left) in
+    (c .read-most2 .ensures .0 ∙ sym (h .0 ∙ simp e), c .read-most2 .ensures .1 ∙ sym (h .1 ∙ simp e))
 
 read-parts-returns-4 : (t : ℕ) → read-parts-lts.Need-returns-4 (read-parts-claims t) (read-parts-at t) read-parts.Post
-read-parts-returns-4 t c = sym (second (c .before .before .before) (c .before .n .given .1))
+read-parts-returns-4 t c = let h = second (c .before .before .before) (c .before .n .given .1) in (sym (h .0), sym (h .1))
+
+-- the sets that a statement leaves are exactly its usage
+with-exact : {t : ℕ} {r : StmtRead} {m : List ℕ}
+    (c : read-stmt-lts.After-shared-slice-known (read-stmt-claims t) (read-stmt-at t) read-stmt.Post)
+    → let a = c .before .args in
+    r ≡ stmtAt (a .depth) (a .names) (a .table .now) (a .at)
+    → m ≡ stmtUses (a .depth) (a .names) (a .table .now) (a .at) (a .sets .now)
+    → (r ≡ stmtAt (a .depth) (a .names) (a .table .now) (a .at))
+    × ((m ≡ stmtUses (a .depth) (a .names) (a .table .now) (a .at) (a .sets .now))
+    × Exact (a .depth) (a .names) (a .table .now) (a .at) (a .sets .now) m)
+with-exact c e f =
+    (e, (f, rw f (exact-uses _ _ _ _ _ (λ i. c .shared-slice-known .given i .fits) (c .before .pre .1 .0))))
 
 read-stmt-returns : (t : ℕ) → read-stmt-lts.Need-returns (read-stmt-claims t) (read-stmt-at t) read-stmt.Post
-read-stmt-returns t c = sym (none _ _ _ _ (c .before .before .if1 .taken) ∙ simp (c .no-stmt .ensures, c .before .read-deep .ensures))
+read-stmt-returns t c =
+    let h = none _ _ _ _ _ (c .before .before .if1 .taken) in
+    with-exact (c .before .before .before) (sym (h .0 ∙ simp (c .no-stmt .ensures, c .before .read-deep .ensures))) (sym (h .1))
 
 read-stmt-returns-2 : (t : ℕ) → read-stmt-lts.Need-returns-2 (read-stmt-claims t) (read-stmt-at t) read-stmt.Post
 read-stmt-returns-2 t c =
-    c .read-simple .ensures
-    ∙ sym (first (c .before .before .before .before .before) (c .before .before .before .kind .given .1)
-    ∙ simp (lt-ltb _ _ (c .before .if2 .taken)))
+    let k = c .before .before .before .before in
+    let h = first (k .before .before) (k .kind .given .1) in
+    let e = lt-ltb _ _ (c .before .before .if2 .taken) in
+    with-exact (k .before .before .before .before) (c .read-simple .ensures .0 ∙ sym (h .0 ∙ simp e))
+    (c .read-simple .ensures .1 ∙ sym (h .1 ∙ simp e))
 
 read-stmt-read-declaration-requires : (t : ℕ)
     → read-stmt-lts.Need-read-declaration-requires (read-stmt-claims t) (read-stmt-at t) read-stmt.Post
 read-stmt-read-declaration-requires t c κs =
-    let o = c .before .before .before .before .before .before .before .before in
+    let o = c .before .before .before .before .before .before .before .before .before in
     (omega (arith, o .pre .0), (omega arith, o .pre .1 .0, o .pre .1 .1))
 
 read-stmt-returns-3 : (t : ℕ) → read-stmt-lts.Need-returns-3 (read-stmt-claims t) (read-stmt-at t) read-stmt.Post
 read-stmt-returns-3 t c =
-    c .read-declaration .ensures
-    ∙ sym (first (c .before .before .before .before .before .before) (c .before .before .before .before .kind .given .1)
-    ∙ simp (le-ltb _ _ (c .before .before .if2 .left), lt-ltb _ _ (c .before .if3 .taken)))
+    let k = c .before .before .before .before .before in
+    let h = first (k .before .before) (k .kind .given .1) in
+    let e = le-ltb _ _ (c .before .before .before .if2 .left) in
+    let f = lt-ltb _ _ (c .before .before .if3 .taken) in
+    with-exact (k .before .before .before .before) (c .read-declaration .ensures .0 ∙ sym (h .0 ∙ simp (e, f)))
+    (c .read-declaration .ensures .1 ∙ sym (h .1 ∙ simp (e, f)))
 
 read-stmt-read-parts-requires : (t : ℕ) → read-stmt-lts.Need-read-parts-requires (read-stmt-claims t) (read-stmt-at t) read-stmt.Post
 read-stmt-read-parts-requires t c κs =
-    let o = c .before .before .before .before .before .before .before .before in
+    let o = c .before .before .before .before .before .before .before .before .before in
     (omega (arith, o .pre .0), (omega arith, o .pre .1 .0, o .pre .1 .1))
 
 read-stmt-returns-4 : (t : ℕ) → read-stmt-lts.Need-returns-4 (read-stmt-claims t) (read-stmt-at t) read-stmt.Post
 read-stmt-returns-4 t c =
-    c .read-parts .ensures
-    ∙ sym (first (c .before .before .before .before .before .before) (c .before .before .before .before .kind .given .1)
-    ∙ simp (le-ltb _ _ (c .before .before .if2 .left), le-ltb _ _ (c .before .if3 .left)))
+    let k = c .before .before .before .before .before in
+    let h = first (k .before .before) (k .kind .given .1) in
+    let e = le-ltb _ _ (c .before .before .before .if2 .left) in
+    let f = le-ltb _ _ (c .before .before .if3 .left) in
+    with-exact (k .before .before .before .before) (c .read-parts .ensures .0 ∙ sym (h .0 ∙ simp (e, f)))
+    (c .read-parts .ensures .1 ∙ sym (h .1 ∙ simp (e, f)))
 
 read-stmt-returns-5 : (t : ℕ) → read-stmt-lts.Need-returns-5 (read-stmt-claims t) (read-stmt-at t) read-stmt.Post
-read-stmt-returns-5 t c = sym (first (c .before .before .before) (c .before .n .given .1))
+read-stmt-returns-5 t c =
+    let k = c .before .before .before in
+    let h = first k (c .before .n .given .1) in with-exact (k .before .before) (sym (h .0)) (sym (h .1))
 
 pub +read-declaration+read-most+read-par+read-part+read-parts+read-stmt-spec :
     {M : Type 1} → statement M
@@ -607,14 +686,7 @@ pub +read-declaration+read-most+read-par+read-part+read-parts+read-stmt-spec :
     μ-read-part
     μ-read-parts
     μ-read-stmt
-    (λ t. read-declaration-lts.spec (
-      read-between-reads.Asked,
-      read-between-reads.Learnt,
-      read-stmt-below t,
-      read-stmt.Post,
-      in-scope-reads.Asked,
-      in-scope-reads.Learnt,
-    )
+    (λ t. read-declaration-lts.spec (read-declaration-claims t)
     (read-declaration-at t)
     read-declaration.Post
     (λ c κs. search needs)
@@ -623,22 +695,17 @@ pub +read-declaration+read-most+read-par+read-part+read-parts+read-stmt-spec :
     (read-declaration-add-more-2 t)
     (λ c. search needs)
     (read-declaration-read-stmt-requires t)
+    (read-declaration-leave-requires t)
     (read-declaration-in-scope-requires t)
     (λ c. search needs)
     (read-declaration-returns t)
     (read-declaration-returns-2 t))
-    (λ t. read-most-lts.spec (
-      read-part-below t,
-      read-part.Post,
-      add-reads.Asked,
-      add-reads.Learnt,
-      gather-reads.Asked,
-      gather-reads.Learnt,
-    )
+    (λ t. read-most-lts.spec (read-most-claims t)
     (read-most-at t)
     read-most.Post
     read-most-Inv-loop
     read-most-μ-loop
+    (λ c κs. search needs)
     (read-most-loop-holds t)
     (read-most-read-part-requires t)
     (λ c. search needs)
@@ -650,43 +717,27 @@ pub +read-declaration+read-most+read-par+read-part+read-parts+read-stmt-spec :
     (read-most-returns t)
     (λ c κs. search needs)
     (read-most-returns-2 t))
-    (λ t. read-par-lts.spec (
-      read-stmt-below t,
-      read-stmt.Post,
-      check-branch-reads.Asked,
-      check-branch-reads.Learnt,
-      add-reads.Asked,
-      add-reads.Learnt,
-      close-par-reads.Asked,
-      close-par-reads.Learnt,
-    )
+    (λ t. read-par-lts.spec (read-par-claims t)
     (read-par-at t)
     read-par.Post
     read-par-Inv-loop
     read-par-μ-loop
+    (λ c κs. search needs)
     (read-par-loop-holds t)
     (read-par-read-stmt-requires t)
     (λ c. search needs)
-    (read-par-sub-check-branch t)
-    (read-par-part-check-branch-start t)
-    (read-par-part-check-branch-end t)
-    (read-par-check-branch-requires t)
+    (λ c κs. search needs)
+    (λ c κs. search needs)
     (read-par-add-requires t)
-    (λ c. search needs)
+    (read-par-add-i t)
     (λ c. search needs)
     (read-par-loop-again t)
     (λ c. search needs)
     (read-par-returns t)
+    (λ c κs. search needs)
     (read-par-close-par-requires t)
     (read-par-returns-2 t))
-    (λ t. read-part-lts.spec (
-      read-head-reads.Asked,
-      read-head-reads.Learnt,
-      read-stmt-below t,
-      read-stmt.Post,
-      behind-head-reads.Asked,
-      behind-head-reads.Learnt,
-    )
+    (λ t. read-part-lts.spec (read-part-claims t)
     (read-part-at t)
     read-part.Post
     (λ c κs. search needs)
@@ -696,14 +747,7 @@ pub +read-declaration+read-most+read-par+read-part+read-parts+read-stmt-spec :
     (λ c. search needs)
     (read-part-returns t)
     (read-part-returns-2 t))
-    (λ t. read-parts-lts.spec (
-      read-most-below t,
-      read-most.Post,
-      read-between-reads.Asked,
-      read-between-reads.Learnt,
-      read-par-below t,
-      read-par.Post,
-    )
+    (λ t. read-parts-lts.spec (read-parts-claims t)
     (read-parts-at t)
     read-parts.Post
     (λ c. search needs)
@@ -719,20 +763,7 @@ pub +read-declaration+read-most+read-par+read-part+read-parts+read-stmt-spec :
     (read-parts-returns-2 t)
     (read-parts-returns-3 t)
     (read-parts-returns-4 t))
-    λ t. read-stmt-lts.spec (
-      read-deep-reads.Asked,
-      read-deep-reads.Learnt,
-      no-stmt-reads.Asked,
-      no-stmt-reads.Learnt,
-      read-between-reads.Asked,
-      read-between-reads.Learnt,
-      read-simple-reads.Asked,
-      read-simple-reads.Learnt,
-      read-declaration-below t,
-      read-declaration.Post,
-      read-parts-below t,
-      read-parts.Post,
-    )
+    λ t. read-stmt-lts.spec (read-stmt-claims t)
     (read-stmt-at t)
     read-stmt.Post
     (λ c κs. search needs)

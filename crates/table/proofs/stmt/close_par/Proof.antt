@@ -6,8 +6,9 @@ use mathlib.Core.Logic.{⊎-elim}
 
 returns : tie.Need-returns
 returns c =
-    ⊎-elim (λ w. simp (w .0 .taken, c .before .larger .ensures, w .1))
-    (λ w. simp (w .0 .left, c .before .larger .ensures, w .1)) (c .before .before .if1 .came)
+    let e = c .before .before .earlier .ensures in
+    let f = c .before .larger .ensures in
+    ⊎-elim (λ w. simp (w .0 .taken, e, f, w .1)) (λ w. simp (w .0 .left, e, f, w .1)) (c .before .before .before .if1 .came)
 
 pub close-par-spec : {M : Type 1} → statement M
-close-par-spec = tie.close (tie.spec (λ c κs. search needs) (λ c. search needs) returns)
+close-par-spec = tie.close (tie.spec (λ c κs. search needs) (λ c κs. search needs) (λ c. search needs) returns)

@@ -3,45 +3,47 @@ use borrow.Author.Needs.{needs}
 use Rattle.table.proofs.stmt.read_guard.Statement.{statement}
 use Rattle.table.proofs.stmt.read_guard.Tie as tie
 use borrow.Author.Tests.{eq-eqb, ne-eqb}
-use mathlib.Core.Path.{sym, _∙_}
-use Rattle.table.specs.Stmts.{guardAt}
+use mathlib.Core.Path.{_≡_, sym, _∙_}
+use Rattle.numbers.specs.Items.{betweenAt}
+use Rattle.numbers.specs.declared.Item.the-variants.{Item as Found}
+use Rattle.table.specs.Stmts.{guardAt, guardUses}
+
+-- the kind that was read
+kind-is : (c : tie.After-kind)
+    → let a = c .before .before .before .before .args in
+    betweenAt 0 1 (a .table .now) (a .at) ≡ Found (c .kind .given .0 .0) (c .kind .given .0 .1 .0)
+kind-is c = sym (c .before .before .read-between .ensures) ∙ c .kind .given .1
 
 returns : tie.Need-returns
-unfolding guardAt
+unfolding guardAt guardUses
 returns c =
-    simp (
-      ← c .before .before .before .before .before .before .before .before .before .read-between .ensures,
-      c .before .before .before .before .before .before .before .kind .given .1,
-      ← c .before .before .before .before .before .read-whole .ensures,
-      c .before .before .before .last .given .1,
-      eq-eqb _ _ (c .before .if1 .taken),
-      c .read-input .ensures,
-    )
+    let l = c .before .before .before .before in
+    let r = l .before .before .read-whole .ensures in
+    let e = kind-is (l .before .before .before .before .before) in
+    let f = sym (r .0) ∙ l .last .given .1 in
+    let g = eq-eqb _ _ (c .before .before .if1 .taken) in
+    (simp (e, f, g, c .read-input .ensures .0), simp (e, f, g, c .read-input .ensures .1, r .1))
 
 returns-2 : tie.Need-returns-2
-unfolding guardAt
+unfolding guardAt guardUses
 returns-2 c =
-    simp (
-      ← c .before .before .before .before .before .before .before .before .read-between .ensures,
-      c .before .before .before .before .before .before .kind .given .1,
-      ← c .before .before .before .before .read-whole .ensures,
-      c .before .before .last .given .1,
-      ne-eqb _ _ (c .if1 .left),
-    )
+    let l = c .before .before in
+    let r = l .before .before .read-whole .ensures in
+    let e = kind-is (l .before .before .before .before .before) in
+    let f = sym (r .0) ∙ l .last .given .1 in
+    let g = ne-eqb _ _ (c .if1 .left) in (simp (e, f, g), simp (e, f, g, r .1))
 
 returns-3 : tie.Need-returns-3
-unfolding guardAt
+unfolding guardAt guardUses
 returns-3 c =
-    simp (
-      ← c .before .before .before .before .before .before .before .read-between .ensures,
-      c .before .before .before .before .before .kind .given .1,
-      ← c .before .before .before .read-whole .ensures,
-      c .before .n .given .1,
-    )
+    let l = c .before in
+    let r = l .before .before .read-whole .ensures in
+    let e = kind-is (l .before .before .before .before .before) in
+    let f = sym (r .0) ∙ l .n .given .1 in (simp (e, f), simp (e, f, r .1))
 
 returns-4 : tie.Need-returns-4
-unfolding guardAt
-returns-4 c = simp (sym (c .before .before .before .read-between .ensures) ∙ c .before .n2 .given .1)
+unfolding guardAt guardUses
+returns-4 c = let e = sym (c .before .before .before .read-between .ensures) ∙ c .before .n2 .given .1 in (simp e, simp e)
 
 pub read-guard-spec : {M : Type 1} → statement M
 read-guard-spec =

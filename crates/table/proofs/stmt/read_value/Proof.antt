@@ -9,11 +9,12 @@ returns : tie.Need-returns
 unfolding valueAt
 returns c =
     let k = c .before .before .before in
-    simp (c .leaf-part .ensures, c .before .larger .ensures, ← k .before .before .read-whole .ensures, k .next .given .1)
+    let r = k .before .before .read-whole .ensures in
+    (simp (c .leaf-part .ensures, c .before .larger .ensures, sym (r .0) ∙ k .next .given .1), r .1)
 
 returns-2 : tie.Need-returns-2
 unfolding valueAt
-returns-2 c = simp (sym (c .before .before .before .read-whole .ensures) ∙ c .before .n .given .1)
+returns-2 c = let r = c .before .before .before .read-whole .ensures in (simp (sym (r .0) ∙ c .before .n .given .1), r .1)
 
 pub read-value-spec : {M : Type 1} → statement M
 read-value-spec =

@@ -22,16 +22,16 @@ finish-requires : tie.Need-finish-requires
 finish-requires c κs = (
   search needs,
   search needs,
-  words-within _ _ _ (search needs) (sym (c .before .before .before .read-stmt .ensures) ∙ c .before .part .given .1),
+  words-within _ _ _ (search needs) (sym (c .before .before .before .read-stmt .ensures .0) ∙ c .before .part .given .1),
 )
 
 returns : tie.Need-returns
 unfolding bodyAt
-returns c = simp (sym (c .before .before .before .before .read-stmt .ensures) ∙ c .before .before .part .given .1, c .finish .ensures)
+returns c = simp (sym (c .before .before .before .before .read-stmt .ensures .0) ∙ c .before .before .part .given .1, c .finish .ensures)
 
 returns-2 : tie.Need-returns-2
 unfolding bodyAt
-returns-2 c = simp (sym (c .before .before .before .read-stmt .ensures) ∙ c .before .n .given .1)
+returns-2 c = simp (sym (c .before .before .before .read-stmt .ensures .0) ∙ c .before .n .given .1)
 
 pub read-body-spec : {M : Type 1} → statement M
 read-body-spec =
