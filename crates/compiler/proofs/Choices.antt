@@ -21,7 +21,7 @@ use Rattle.model.specs.Scheme.{codeBranches, altWords}
 use Rattle.model.proofs.Well.{Laid, LaidGuards}
 use Rattle.model.proofs.Sizes.{code-length, enable-length, disable-length, branches-length}
 use Rattle.emitter.specs.Emits.{at, operationInto}
-use Rattle.emitter.specs.Extents.{extentAt}
+use Rattle.emitter.specs.Extents.{extentIn}
 use Rattle.emitter.specs.Simples.{inInto, inputInto}
 use Rattle.compiler.specs.Alts.{stmtInto, innerAt, guardInto, guarded, behindGuard, enableInto, enabling, disableInto, choiceInto}
 use Rattle.compiler.specs.Alts.{choicesInto}
@@ -32,7 +32,6 @@ use Rattle.compiler.proofs.Fills.{bytes-append, fill-then, fill-before,
 use Rattle.compiler.proofs.Fills.{distance-fills, Stands, stands-first, stands-next, stands-both, stands-last, gap-fills}
 use Rattle.compiler.proofs.Fills.{then-distance, then-operation, emits, distance-bytes}
 use Rattle.compiler.proofs.ExprCode.{whole-code, local-is}
-use Rattle.compiler.proofs.ExtentIs.{extent-is}
 use Rattle.compiler.proofs.Compiles.{scopeOf, Scoped, inner-scope, scope-depth, Placed, Written, Compiles}
 
 -- a guard, its condition written
@@ -122,7 +121,7 @@ module _ (word : Site → ℕ) (workspace : ℕ → ℕ) (off : ℕ → ℕ) (s 
         {E D C T : List Instruction} → C ≡ G ++ operation op ∷ [] ++ E → T ≡ G ++ disabling on b choice ++ D
         → bytesIn (disabling on b choice) ≡ 6 → cond waits 72 73 ≡ operationCode op → Room h C → before + bytesIn T < 2 ^ 32
         → Begins d vs cs w i m h o waits G
-        → extentAt d plan s (behindGuard s (guardOf m (h + bytesIn G) waits)) .next ≡ q
+        → extentIn plan (behindGuard s (guardOf m (h + bytesIn G) waits)) .next ≡ q
         → ((before h : ℕ) (o : List ℕ) → Room h E → before + bytesIn D < 2 ^ 32 → Enables w k q n before h o E D)
         → Enables w (suc k) i n before h o C T
     unfolding enableInto
@@ -159,12 +158,12 @@ module _ (word : Site → ℕ) (workspace : ℕ → ℕ) (off : ℕ → ℕ) (s 
     enable-fills w choice b before h o (inputGuardAt {e = e} {c = c} {x = x} {b = y} {gs = gs} k t ch v a g) few r l =
         enable-more true enbc disc w choice b before h o (waiting w e c) (enable-waits w e c x y gs)
         (disable-waits w choice b e c x y gs) (disc-bytes b choice) refl r l (waiting-fills w h o k t ch)
-        (rw (next-is s (ch .there), next-is s (v .there), extent-is s plan planned a (scope-depth scope) (omega arith)))
+        (rw (next-is s (ch .there), next-is s (v .there), planned .measures a (scope-depth scope) (omega arith)))
         (λ before h o r l. enable-fills w choice (b + 1 + 4 + size y + 1) before h o g (omega arith) r l)
     enable-fills w choice b before h o (skipGuardAt {e = e} {b = y} {gs = gs} k t a g) few r l =
         enable-more false enbs diss w choice b before h o (guardCode word w e) (enable-skips w e y gs)
         (disable-skips w choice b e y gs) (diss-bytes b choice) refl r l (skipping-fills w h o k t)
-        (rw (extent-is s plan planned a (scope-depth scope) (omega arith)))
+        (rw (planned .measures a (scope-depth scope) (omega arith)))
         (λ before h o r l. enable-fills w choice (b + 1 + size y + 1) before h o g (omega arith) r l)
 
   -- one branch with its J, and its disabling, each in its own area

@@ -1,5 +1,6 @@
--- The place after a statement and the words that it needs are those of what the table spells.
-use Prim.Native.Nat.{ℕ, suc, _+_, _^_, _≤_, _<_, max}
+-- The place after a statement and the words that it needs, as they are found by a plan that tells of all that begins later, are those of
+-- what the table spells.
+use Prim.Native.Nat.{ℕ, suc, _+_, _≤_, _<_, max}
 use native.Mathlib.Omega.{arith}
 use native.Mathlib.Nat.{mod-eq-of-lt}
 use mathlib.Core.Path.{_≡_, ap, _∙_}
@@ -10,115 +11,150 @@ use Rattle.model.specs.Word.{low}
 use Rattle.model.specs.Syntax.{Site, Expr, Stmt, Stmts, Pairs, Guards}
 use Rattle.model.specs.Reader.{Scope}
 use Rattle.model.specs.Counts.{temporaries, guardWords, need, mostNeed, sumNeed, pairNeed, guardNeed}
-use Rattle.emitter.specs.Extents.{extended, simpleExtent, guardExtent, headExtent, partsFrom, extentAt}
-use Rattle.emitter.specs.declared.extent.Extent.{Extent}
+use Rattle.numbers.specs.Items.{valueAt}
+use Rattle.emitter.specs.Extents.{extended, extentIn, simpleExtent, guardExtent, headExtent, partsOf, partsExtent, insideExtent, stmtExtent}
 use Rattle.compiler.proofs.Spelled.{NumeralAt, OneAt, ExprAt, StmtAt, skipAt, stopAt, assignAt, inputAt}
 use Rattle.compiler.proofs.Spelled.{outputAt, varAt, chanAt, seqAt, parAt, ifAt, whileAt, altAt, StmtsAt, noStmtAt, stmtsAt}
 use Rattle.compiler.proofs.Spelled.{PairsAt, noPairAt, pairAt, GuardsAt, noGuardAt, inputGuardAt, skipGuardAt}
-use Rattle.compiler.proofs.Planned.{next-is, Plans}
+use Rattle.compiler.proofs.Bounds.{stmt-bound}
+use Rattle.compiler.proofs.Planned.{next-is, expr-ends, PlansFrom}
+
+-- a statement has all its parts
+all-parts : (kind : ℕ) {k : ℕ} → kind ≤ 11 → k ≤ 32 → partsOf kind k ≡ k
+unfolding partsOf
+all-parts kind {k} l m = rw (le-ltb 11 kind l, le-ltb 32 k m)
 
 module _ (s plan : List ℕ) where
+  -- k names around a body
+  names-turn : (k i n x : ℕ) → extentIn plan i ≡ extended n x → k + x ≤ 4096
+      → (let e = extentIn plan i in extended (e .next) (low (k + e .need))) ≡ extended n (k + x)
+  names-turn k i n x e l =
+      let sum : low (k + x) ≡ k + x = mod-eq-of-lt (omega arith) in
+      rw (e, sum)
+
   -- one part in front of others: PAR has the sum of branches
-  sum-turn : (inner : ℕ → Extent) (k i n z m x y : ℕ) → inner i ≡ extended n x → m + (x + y) < 2 ^ 32
-      → partsFrom k 8 inner plan s n (m + x) ≡ extended z (m + x + y) → partsFrom (suc k) 8 inner plan s i m ≡ extended z (m + (x + y))
-  unfolding partsFrom headExtent
-  sum-turn inner k i n z m x y e l f =
+  sum-turn : (k i n z m x y : ℕ) → extentIn plan i ≡ extended n x → m + (x + y) ≤ 4096
+      → partsExtent k 8 plan s n (m + x) ≡ extended z (m + x + y) → partsExtent (suc k) 8 plan s i m ≡ extended z (m + (x + y))
+  unfolding partsExtent headExtent
+  sum-turn k i n z m x y e l f =
       let sum : low (max m 0 + x) ≡ m + x = mod-eq-of-lt (omega arith) ∙ omega arith in
       rw (e, sum, f) (ap (extended z) (omega arith))
 
   -- SEQ, IF, WHILE and ALT have the most of what each part's head and its statement ask for
-  most-turn : (kind : ℕ) (inner : ℕ → Extent) (k i j n z m h x y : ℕ) → kind ≢ 8 → headExtent kind plan s i ≡ extended j h
-      → inner j ≡ extended n x → ((m : ℕ) → partsFrom k kind inner plan s n m ≡ extended z (max m y))
-      → partsFrom (suc k) kind inner plan s i m ≡ extended z (max m (max h (max x y)))
-  unfolding partsFrom
-  most-turn kind inner k i j n z m h x y other e f g = rw (e, f, ne-eqb kind 8 other, g) (ap (extended z) (omega arith))
+  most-turn : (kind k i j n z m h x y : ℕ) → kind ≢ 8 → headExtent kind plan s i ≡ extended j h → extentIn plan j ≡ extended n x
+      → ((m : ℕ) → partsExtent k kind plan s n m ≡ extended z (max m y))
+      → partsExtent (suc k) kind plan s i m ≡ extended z (max m (max h (max x y)))
+  unfolding partsExtent
+  most-turn kind k i j n z m h x y other e f g = rw (e, f, ne-eqb kind 8 other, g) (ap (extended z) (omega arith))
 
-  parts-over : (kind : ℕ) (inner : ℕ → Extent) (i m : ℕ) → partsFrom 0 kind inner plan s i m ≡ extended i (max m 0)
-  unfolding partsFrom
-  parts-over kind inner i m = ap (extended i) (omega arith)
+  parts-over : (kind i m : ℕ) → partsExtent 0 kind plan s i m ≡ extended i (max m 0)
+  unfolding partsExtent
+  parts-over kind i m = ap (extended i) (omega arith)
 
   -- what stands before the statement of a part: nothing in SEQ and PAR, a condition in IF and WHILE, a guard in ALT
   no-head : (kind i : ℕ) → kind < 9 → headExtent kind plan s i ≡ extended i 0
   unfolding headExtent
   no-head kind i l = rw (lt-ltb kind 9 l)
 
-module _ (s plan : List ℕ) (planned : Plans s plan) where
-  condition-head : {vs : List Site} {d i n : ℕ} {e : Expr} (kind : ℕ) → 9 ≤ kind → kind < 11 → ExprAt s vs d i e n → d ≤ 32
+module _ (s plan : List ℕ) {lo : ℕ} (planned : PlansFrom s lo plan) where
+  condition-head : {vs : List Site} {d i n : ℕ} {e : Expr} (kind : ℕ) → 9 ≤ kind → kind < 11 → ExprAt s vs d i e n → d ≤ 32 → lo ≤ i
       → headExtent kind plan s i ≡ extended n (temporaries e + 2)
   unfolding headExtent
-  condition-head kind l m a deep =
-      let t = planned .tells a deep in
+  condition-head kind l m a deep later =
+      let t = planned .tells a deep later in
       rw (le-ltb kind 9 l, lt-ltb kind 11 m, t .next, t .holds)
 
   input-head : {vs cs ws : List Site} {d i n m p q : ℕ} {e : Expr} {c x : Site} → NumeralAt s i 0 n → ExprAt s vs d n e m
-      → OneAt s cs m c p → OneAt s ws p x q → d ≤ 32 → headExtent 11 plan s i ≡ extended q (guardWords (temporaries e))
+      → OneAt s cs m c p → OneAt s ws p x q → d ≤ 32 → lo ≤ i → headExtent 11 plan s i ≡ extended q (guardWords (temporaries e))
   unfolding headExtent guardExtent
-  input-head k a c x deep =
-      let t = planned .tells a deep in
+  input-head k a c x deep later =
+      let t = planned .tells a deep (omega (arith, k .ahead)) in
       rw (k .value, t .next, t .holds, next-is s (c .there), next-is s (x .there))
 
-  skip-head : {vs : List Site} {d i n m : ℕ} {e : Expr} → NumeralAt s i 1 n → ExprAt s vs d n e m → d ≤ 32
+  skip-head : {vs : List Site} {d i n m : ℕ} {e : Expr} → NumeralAt s i 1 n → ExprAt s vs d n e m → d ≤ 32 → lo ≤ i
       → headExtent 11 plan s i ≡ extended m (guardWords (temporaries e))
   unfolding headExtent guardExtent
-  skip-head k a deep =
-      let t = planned .tells a deep in
+  skip-head k a deep later =
+      let t = planned .tells a deep (omega (arith, k .ahead)) in
       rw (k .value, t .next, t .holds)
 
-  mutual
-    unfolding extentAt simpleExtent need mostNeed sumNeed pairNeed guardNeed
+  -- the parts of a statement, behind some that need m words
+  seq-is : {w : Scope} {d k i n : ℕ} {ss : Stmts} (m : ℕ) → StmtsAt s d w k i ss n → d ≤ 32 → mostNeed ss ≤ 4096 → lo ≤ i
+      → partsExtent k 7 plan s i m ≡ extended n (max m (mostNeed ss))
+  unfolding mostNeed
+  seq-is {i = i} m noStmtAt deep l later = parts-over s plan 7 i m
+  seq-is m (stmtsAt {k = k} {at = i} {n = n} {m = z} {b = b} {ss = ss} a c) deep l later =
+      most-turn s plan 7 k i i n z m 0 (need b) (mostNeed ss) (omega arith) (no-head s plan 7 i (omega arith))
+      (planned .measures a deep (omega arith) later) (λ m. seq-is m c deep (omega arith) (omega (arith, stmt-bound s a)))
+      ∙ ap (extended z) (omega arith)
 
-    pub extent-is : {w : Scope} {d i n : ℕ} {b : Stmt} → StmtAt s d w i b n → d ≤ 32 → need b < 2 ^ 32
-        → extentAt d plan s i ≡ extended n (need b)
-    extent-is (skipAt k) deep l = rw (k .value)
-    extent-is (stopAt k) deep l = rw (k .value)
-    extent-is (assignAt k x e) deep l =
-        let t = planned .tells e (omega arith) in
-        rw (k .value, next-is s (x .there), t .next, t .holds)
-    extent-is (inputAt k c x) deep l = rw (k .value, next-is s (c .there), next-is s (x .there))
-    extent-is (outputAt k c e) deep l =
-        let t = planned .tells e (omega arith) in
-        rw (k .value, next-is s (c .there), t .next, t .holds)
-    extent-is (varAt k n a) deep l = rw (k .value, n .there .value, extent-is a (omega arith) (omega arith), mod-eq-of-lt l)
-    extent-is (chanAt k n a) deep l = rw (k .value, n .there .value, extent-is a (omega arith) (omega arith), mod-eq-of-lt l)
-    extent-is (seqAt k n a) deep l = rw (k .value, n .there .value) (seq-is a 2 (omega arith) (omega arith))
-    extent-is (parAt k n a) deep l = rw (k .value, n .there .value) (par-is a 2 (omega arith) l)
-    extent-is (ifAt k n a) deep l = rw (k .value, n .there .value) (pairs-is a 2 (omega arith) (omega arith))
-    extent-is (whileAt {d = d} {n = n} {m = m} {p = p} {e = e} {b = b} k c a) deep l =
-        rw (k .value)
-        (most-turn s plan 10 (λ j. extentAt d plan s j) 0 n m p p 2 (temporaries e + 2) (need b) 0 (omega arith)
-        (condition-head 10 (omega arith) (omega arith) c (omega arith)) (extent-is a (omega arith) (omega arith))
-        (λ m. parts-over s plan 10 (λ j. extentAt d plan s j) p m)
-        ∙ ap (extended p) (omega arith))
-    extent-is (altAt k n a) deep l = rw (k .value, n .there .value) (guards-is a 4 (omega arith) (omega arith))
+  par-is : {w : Scope} {d k i n : ℕ} {ss : Stmts} (m : ℕ) → StmtsAt s d w k i ss n → d ≤ 32 → m + sumNeed ss ≤ 4096 → lo ≤ i
+      → partsExtent k 8 plan s i m ≡ extended n (m + sumNeed ss)
+  unfolding sumNeed
+  par-is {i = i} m noStmtAt deep l later = parts-over s plan 8 i m ∙ ap (extended i) (omega arith)
+  par-is m (stmtsAt {k = k} {at = i} {n = n} {m = z} {b = b} {ss = ss} a c) deep l later =
+      sum-turn s plan k i n z m (need b) (sumNeed ss) (planned .measures a deep (omega arith) later) l
+      (par-is (m + need b) c deep (omega arith) (omega (arith, stmt-bound s a)))
 
-    seq-is : {w : Scope} {d k i n : ℕ} {ss : Stmts} → StmtsAt s d w k i ss n → (m : ℕ) → d ≤ 32 → mostNeed ss < 2 ^ 32
-        → partsFrom k 7 (λ j. extentAt d plan s j) plan s i m ≡ extended n (max m (mostNeed ss))
-    seq-is {d = d} {i = i} noStmtAt m deep l = parts-over s plan 7 (λ j. extentAt d plan s j) i m
-    seq-is (stmtsAt {d = d} {k = k} {at = i} {n = n} {m = z} {b = b} {ss = ss} a c) m deep l =
-        most-turn s plan 7 (λ j. extentAt d plan s j) k i i n z m 0 (need b) (mostNeed ss) (omega arith) (no-head s plan 7 i (omega arith))
-        (extent-is a deep (omega arith)) (λ m. seq-is c m deep (omega arith))
-        ∙ ap (extended z) (omega arith)
+  pairs-is : {w : Scope} {d k i n : ℕ} {ps : Pairs} (m : ℕ) → PairsAt s d w k i ps n → d ≤ 32 → pairNeed ps ≤ 4096 → lo ≤ i
+      → partsExtent k 9 plan s i m ≡ extended n (max m (pairNeed ps))
+  unfolding pairNeed
+  pairs-is {i = i} m noPairAt deep l later = parts-over s plan 9 i m
+  pairs-is m (pairAt {k = k} {at = i} {n = j} {m = n} {p = z} {e = e} {b = b} {ps = ps} c a g) deep l later =
+      let behind = expr-ends s c .0 in
+      most-turn s plan 9 k i j n z m (temporaries e + 2) (need b) (pairNeed ps) (omega arith)
+      (condition-head 9 (omega arith) (omega arith) c deep later) (planned .measures a deep (omega arith) (omega arith))
+      (λ m. pairs-is m g deep (omega arith) (omega (arith, stmt-bound s a)))
 
-    par-is : {w : Scope} {d k i n : ℕ} {ss : Stmts} → StmtsAt s d w k i ss n → (m : ℕ) → d ≤ 32 → m + sumNeed ss < 2 ^ 32
-        → partsFrom k 8 (λ j. extentAt d plan s j) plan s i m ≡ extended n (m + sumNeed ss)
-    par-is {d = d} {i = i} noStmtAt m deep l = parts-over s plan 8 (λ j. extentAt d plan s j) i m ∙ ap (extended i) (omega arith)
-    par-is (stmtsAt {d = d} {k = k} {at = i} {n = n} {m = z} {b = b} {ss = ss} a c) m deep l =
-        sum-turn s plan (λ j. extentAt d plan s j) k i n z m (need b) (sumNeed ss) (extent-is a deep (omega arith)) l
-        (par-is c (m + need b) deep (omega arith))
+  guards-is : {w : Scope} {d k i n : ℕ} {gs : Guards} (m : ℕ) → GuardsAt s d w k i gs n → d ≤ 32 → guardNeed gs ≤ 4096 → lo ≤ i
+      → partsExtent k 11 plan s i m ≡ extended n (max m (guardNeed gs))
+  unfolding guardNeed
+  guards-is {i = i} m noGuardAt deep l later = parts-over s plan 11 i m
+  guards-is m (inputGuardAt {k = k} {at = i} {q = j} {r = n} {t = z} {e = e} {b = b} {gs = gs} t c ch x a g) deep l later =
+      let behind : i < j = omega (arith, t .ahead, expr-ends s c .0, ch .there .ahead, x .there .ahead) in
+      most-turn s plan 11 k i j n z m (guardWords (temporaries e)) (need b) (guardNeed gs) (omega arith)
+      (input-head t c ch x deep later) (planned .measures a deep (omega arith) (omega arith))
+      (λ m. guards-is m g deep (omega arith) (omega (arith, stmt-bound s a)))
+  guards-is m (skipGuardAt {k = k} {at = i} {m = j} {r = n} {t = z} {e = e} {b = b} {gs = gs} t c a g) deep l later =
+      let behind : i < j = omega (arith, t .ahead, expr-ends s c .0) in
+      most-turn s plan 11 k i j n z m (guardWords (temporaries e)) (need b) (guardNeed gs) (omega arith)
+      (skip-head t c deep later) (planned .measures a deep (omega arith) (omega arith))
+      (λ m. guards-is m g deep (omega arith) (omega (arith, stmt-bound s a)))
 
-    pairs-is : {w : Scope} {d k i n : ℕ} {ps : Pairs} → PairsAt s d w k i ps n → (m : ℕ) → d ≤ 32 → pairNeed ps < 2 ^ 32
-        → partsFrom k 9 (λ j. extentAt d plan s j) plan s i m ≡ extended n (max m (pairNeed ps))
-    pairs-is {d = d} {i = i} noPairAt m deep l = parts-over s plan 9 (λ j. extentAt d plan s j) i m
-    pairs-is (pairAt {d = d} {k = k} {at = i} {n = j} {m = n} {p = z} {e = e} {b = b} {ps = ps} c a g) m deep l =
-        most-turn s plan 9 (λ j. extentAt d plan s j) k i j n z m (temporaries e + 2) (need b) (pairNeed ps) (omega arith)
-        (condition-head 9 (omega arith) (omega arith) c deep) (extent-is a deep (omega arith)) (λ m. pairs-is g m deep (omega arith))
-
-    guards-is : {w : Scope} {d k i n : ℕ} {gs : Guards} → GuardsAt s d w k i gs n → (m : ℕ) → d ≤ 32 → guardNeed gs < 2 ^ 32
-        → partsFrom k 11 (λ j. extentAt d plan s j) plan s i m ≡ extended n (max m (guardNeed gs))
-    guards-is {d = d} {i = i} noGuardAt m deep l = parts-over s plan 11 (λ j. extentAt d plan s j) i m
-    guards-is (inputGuardAt {d = d} {k = k} {at = i} {q = j} {r = n} {t = z} {e = e} {b = b} {gs = gs} t c ch x a g) m deep l =
-        most-turn s plan 11 (λ j. extentAt d plan s j) k i j n z m (guardWords (temporaries e)) (need b) (guardNeed gs) (omega arith)
-        (input-head t c ch x deep) (extent-is a deep (omega arith)) (λ m. guards-is g m deep (omega arith))
-    guards-is (skipGuardAt {d = d} {k = k} {at = i} {m = j} {r = n} {t = z} {e = e} {b = b} {gs = gs} t c a g) m deep l =
-        most-turn s plan 11 (λ j. extentAt d plan s j) k i j n z m (guardWords (temporaries e)) (need b) (guardNeed gs) (omega arith)
-        (skip-head t c deep) (extent-is a deep (omega arith)) (λ m. guards-is g m deep (omega arith))
+-- a statement, by a plan that tells of all that begins behind its first byte
+pub extent-is : (s plan : List ℕ) {w : Scope} {d i n : ℕ} {b : Stmt} → PlansFrom s (suc i) plan → StmtAt s d w i b n → d ≤ 32
+    → need b ≤ 4096 → stmtExtent plan s (valueAt s i) ≡ extended n (need b)
+unfolding stmtExtent simpleExtent insideExtent need
+extent-is s plan p (skipAt k) deep l = rw (k .value)
+extent-is s plan p (stopAt k) deep l = rw (k .value)
+extent-is s plan p (assignAt k x e) deep l =
+    let t = p .tells e (omega arith) (omega (arith, k .ahead, x .there .ahead)) in
+    rw (k .value, next-is s (x .there), t .next, t .holds)
+extent-is s plan p (inputAt k c x) deep l = rw (k .value, next-is s (c .there), next-is s (x .there))
+extent-is s plan p (outputAt k c e) deep l =
+    let t = p .tells e (omega arith) (omega (arith, k .ahead, c .there .ahead)) in
+    rw (k .value, next-is s (c .there), t .next, t .holds)
+extent-is s plan p (varAt k c a) deep l =
+    rw (k .value, c .there .value)
+    (names-turn s plan _ _ _ _ (p .measures a (omega arith) (omega arith) (omega (arith, k .ahead, c .there .ahead))) l)
+extent-is s plan p (chanAt k c a) deep l =
+    rw (k .value, c .there .value)
+    (names-turn s plan _ _ _ _ (p .measures a (omega arith) (omega arith) (omega (arith, k .ahead, c .there .ahead))) l)
+extent-is s plan p (seqAt k c a) deep l =
+    rw (k .value, c .there .value, all-parts 7 (omega arith) (c .most))
+    (seq-is s plan p 2 a (omega arith) (omega arith) (omega (arith, k .ahead, c .there .ahead)))
+extent-is s plan p (parAt {k = count} k c a) deep l =
+    rw (k .value, c .there .value, all-parts 8 {k = count} (omega arith) (omega (arith, c .most)))
+    (par-is s plan p 2 a (omega arith) l (omega (arith, k .ahead, c .there .ahead)))
+extent-is s plan p (ifAt k c a) deep l =
+    rw (k .value, c .there .value, all-parts 9 (omega arith) (c .most))
+    (pairs-is s plan p 2 a (omega arith) (omega arith) (omega (arith, k .ahead, c .there .ahead)))
+extent-is s plan p (whileAt {n = n} {m = m} {p = z} {e = e} {b = b} k c a) deep l =
+    rw (k .value)
+    (most-turn s plan 10 0 n m z z 2 (temporaries e + 2) (need b) 0 (omega arith)
+    (condition-head s plan p 10 (omega arith) (omega arith) c (omega arith) (k .ahead))
+    (p .measures a (omega arith) (omega arith) (omega (arith, k .ahead, expr-ends s c .0))) (λ m. parts-over s plan 10 z m)
+    ∙ ap (extended z) (omega arith))
+extent-is s plan p (altAt k c a) deep l =
+    rw (k .value, c .there .value, all-parts 11 (omega arith) (c .most))
+    (guards-is s plan p 4 a (omega arith) (omega arith) (omega (arith, k .ahead, c .there .ahead)))

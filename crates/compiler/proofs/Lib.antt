@@ -3,6 +3,7 @@ pub mod Planned
 pub mod Fills
 pub mod ExprCode
 pub mod ExtentIs
+pub mod PlanOf
 pub mod Compiles
 pub mod Declares
 pub mod Flows

@@ -27,7 +27,6 @@ use Rattle.compiler.proofs.Planned.{Plans}
 use Rattle.compiler.proofs.Fills.{bytes-append, filled, fill-then, fill-before, fill-none, Room, room-left, room-right, emits-fills}
 use Rattle.compiler.proofs.Fills.{emits-at, distance-fills, Stands, stands-first, stands-next, stands-both, stands-last, gap-fills}
 use Rattle.compiler.proofs.Fills.{areas-fill, no-bytes, no-code, distance-bytes}
-use Rattle.compiler.proofs.ExtentIs.{extent-is}
 use Rattle.compiler.proofs.Compiles.{scopeOf, Scoped, inner-scope, scope-depth, Placed, Written, Compiles}
 
 module _ (word : Site → ℕ) (workspace : ℕ → ℕ) (off : ℕ → ℕ) (s plan : List ℕ) (planned : Plans s plan) where
@@ -41,7 +40,7 @@ module _ (word : Site → ℕ) (workspace : ℕ → ℕ) (off : ℕ → ℕ) (s 
 
   starts-end : {d k i n : ℕ} {sc : M.Scope} {ss : Stmts} (m j b h : ℕ) → StmtsAt s d sc k i ss n → d ≤ 32
       → m + sumNeed ss ≤ 4096
-      → Room h (codeStarts word m j b ss) → startsEnd k d plan s i m h ≡ h + bytesIn (codeStarts word m j b ss)
+      → Room h (codeStarts word m j b ss) → startsEnd k plan i m h ≡ h + bytesIn (codeStarts word m j b ss)
   unfolding startsEnd codeStarts sumNeed
   starts-end m j b h noStmtAt deep l r = omega (arith, no-bytes)
   starts-end m j b h (stmtsAt {b = x} {ss = ss} a c) deep l r =
@@ -50,7 +49,7 @@ module _ (word : Site → ℕ) (workspace : ℕ → ℕ) (off : ℕ → ℕ) (s 
       let sum : low (m + need x) ≡ m + need x = mod-eq-of-lt (omega arith) in
       let next : low (h + (fewest (minus m) + 6)) ≡ h + (fewest (minus m) + 6) =
       mod-eq-of-lt (omega (arith, bytes, start-bytes m j b, r)) in
-      rw (extent-is s plan planned a deep (omega arith), sum, next)
+      rw (planned .measures a deep (omega arith), sum, next)
       (starts-end (m + need x) (j + 3) (b + size x + 2) (h + (fewest (minus m) + 6)) c deep (omega arith)
       (omega (arith, bytes, start-bytes m j b, r)) ∙ omega (arith, bytes, start-bytes m j b))
 
@@ -88,7 +87,7 @@ module _ (word : Site → ℕ) (workspace : ℕ → ℕ) (off : ℕ → ℕ) (s 
     branches-fill : {k i n : ℕ} {ss : Stmts} (m js st j h : ℕ) (o : List ℕ) → StmtsAt s d sc k i ss n → LaidBranches workspace (w - m) ss
         → m + sumNeed ss ≤ 4096 → Stands off js st (codeStarts word m js j ss) → Stands off j h (codeEnds word w m j ss)
         → st + bytesIn (codeStarts word m js j ss) ≤ h → Room h (codeEnds word w m j ss)
-        → branchesInto k d (innerAt d plan s) (scopeOf w sc) vs cs plan s i m st (at h o)
+        → branchesInto k (innerAt d plan s) (scopeOf w sc) vs cs plan i m st (at h o)
         ≡ record {
           next = n;
           here = h + bytesIn (codeEnds word w m j ss);
@@ -116,7 +115,7 @@ module _ (word : Site → ℕ) (workspace : ℕ → ℕ) (off : ℕ → ℕ) (s 
           start-fills m js j st h o (stands-first off q) (p2 .0) (omega (arith, starts, l, r)),
           body-written m j h a (laid .0) (omega arith) (q2 .0) (room-left h B B2 r2) (sets o st (encode off S)),
           emits-fills off (plain ldlp m ∷ operation endp ∷ []) h C (sets o st (encode off S)) (room-left h B B2 r2),
-          extent-is s plan planned a (scope-depth scope) (omega arith),
+          planned .measures a (scope-depth scope) (omega arith),
           sum,
           branches-fill (m + need b) (js + 3) (st + bytesIn S) (j + size b + 2) (h + bytesIn B)
               (sets (sets o st (encode off S)) h (encode off B)) c (rw lower at (laid .1)) (omega arith) (p2 .1) (rw index at (q2 .1))
@@ -131,7 +130,7 @@ module _ (word : Site → ℕ) (workspace : ℕ → ℕ) (off : ℕ → ℕ) (s 
     branches-code : {k i m n : ℕ} {b : Stmt} {ss : Stmts} (j h : ℕ) (o : List ℕ) → StmtAt s d sc i b m → StmtsAt s d sc k m ss n
         → howMany ss ≡ k → LaidBranches workspace (w - 2) (stmt b ss) → 2 + sumNeed (stmt b ss) ≤ 4096
         → Stands off j h (codePar word w j (stmt b ss)) → Room h (codePar word w j (stmt b ss))
-        → parInto (suc k) d (innerAt d plan s) (scopeOf w sc) vs cs plan s i (at h o)
+        → parInto (suc k) (innerAt d plan s) (scopeOf w sc) vs cs plan i (at h o)
         ≡ written n (filled off h (codePar word w j (stmt b ss)) o)
     unfolding codePar sumNeed headerInto functionCode operationCode operationInto prefixesOf
     branches-code {k} {i} {m} {n} {b} {ss} j h o a c many laid few p r =
@@ -189,7 +188,7 @@ module _ (word : Site → ℕ) (workspace : ℕ → ℕ) (off : ℕ → ℕ) (s 
           emits-fills off (plain stl 0 ∷ plain ldc (suc k) ∷ plain stl 1 ∷ []) (ha + 4) D (sets o h (encode off H))
               (rw u-is (omega (arith, bytes, r2))),
           u-is,
-          extent-is s plan planned a (scope-depth scope) (omega arith),
+          planned .measures a (scope-depth scope) (omega arith),
           one-less,
           starts-end (need b) (j + 6) (first + size b + 2) hs c (scope-depth scope) (omega arith) (omega (arith, bytes, r2)),
           zero-less,

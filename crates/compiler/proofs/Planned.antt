@@ -1,18 +1,19 @@
--- What a table's plan tells of each expression that the table spells: the place after it, its registers and its stored values.
-use Prim.Native.Nat.{ℕ, zero, suc, _^_, _≤_, _<_, min}
+-- What a table's plan tells of what the table spells: of each expression the place after it, its registers and its stored values; of each
+-- statement the place after it and the words that it needs. And that an expression's entry is so, by a plan that tells of the later ones.
+use Prim.Native.Nat.{ℕ, suc, _^_, _≤_, _<_}
 use native.Mathlib.Omega.{arith}
-use native.Mathlib.Decide.{decLe}
-use mathlib.Core.Path.{_≡_, ap, _∙_}
+use mathlib.Core.Path.{_≡_, ap}
 use mathlib.Core.List.{List}
-use lib.ListN.{length, length-set, length-replicate, set, replicate}
-use lib.Seq.{getD-set-same, getD-set-other}
-use borrow.Author.Tests.{lt-ltb}
-use Rattle.model.specs.Syntax.{Site, Expr, constant, variable, binary}
-use Rattle.model.specs.Counts.{order, registers, temporaries}
+use lib.ListN.{length}
+use Rattle.model.specs.Syntax.{Site, Expr, constant, variable, binary, Stmt}
+use Rattle.model.specs.Reader.{Scope}
+use Rattle.model.specs.Counts.{order, registers, temporaries, need}
 use Rattle.model.proofs.Needs.{registers-three, sides-hold}
+use Rattle.numbers.specs.Items.{valueAt}
 use Rattle.numbers.specs.declared.Value.{Value}
-use Rattle.emitter.specs.Plans.{nextOf, entry, nextIn, registersIn, storedIn, planAt, sidesEntry, entryAt, plannedBelow, planOf}
-use Rattle.compiler.proofs.Spelled.{NumeralAt, ExprAt, constantAt, variableAt, notAt, binaryAt}
+use Rattle.emitter.specs.Plans.{nextOf, entry, nextIn, registersIn, storedIn, planAt, sidesEntry, exprEntry}
+use Rattle.emitter.specs.Extents.{extended, extentIn}
+use Rattle.compiler.proofs.Spelled.{NumeralAt, ExprAt, constantAt, variableAt, notAt, binaryAt, StmtAt}
 
 -- an entry tells the place after an expression, its registers and its stored values
 pub record Tells (x n : ℕ) (e : Expr) : Type 0 where
@@ -31,7 +32,7 @@ module _ (s : List ℕ) where
   next-is t = ap (λ (x : Value). x .next) (t .value)
 
   -- an expression ends behind its first byte, and in the table
-  expr-ends : {vs : List Site} {d i n : ℕ} {e : Expr} → ExprAt s vs d i e n → (i < n) × (n ≤ length s)
+  pub expr-ends : {vs : List Site} {d i n : ℕ} {e : Expr} → ExprAt s vs d i e n → (i < n) × (n ≤ length s)
   expr-ends (constantAt v k t) = (omega (arith, k .ahead, t .ahead), t .inside)
   expr-ends (variableAt k x) = (omega (arith, k .ahead, x .there .ahead), x .there .inside)
   expr-ends (notAt k a) = let h = expr-ends a in (omega (arith, k .ahead), h .1)
@@ -46,16 +47,18 @@ module _ (s : List ℕ) where
   holds-few (binaryAt {l = l} {r = r} k v a c) =
       omega (arith, sides-hold (order l r) (temporaries l) (temporaries r), holds-few a, holds-few c)
 
-  -- a plan that tells of every expression from a place on
-  record PlansFrom (lo : ℕ) (plan : List ℕ) : Type 0 where
-    long : length plan ≡ 16384
-    tells : {vs : List Site} {d i n : ℕ} {e : Expr} → ExprAt s vs d i e n → d ≤ 32 → lo ≤ i → Tells (planAt plan i) n e
+  -- a plan that tells of all that begins at a place or later. A program that is compiled has at most 4,096 words, and so has each statement
+  pub record PlansFrom (lo : ℕ) (plan : List ℕ) : Type 0 where
+    pub long : length plan ≡ 32768
+    pub tells : {vs : List Site} {d i n : ℕ} {e : Expr} → ExprAt s vs d i e n → d ≤ 32 → lo ≤ i → Tells (planAt plan i) n e
+    pub measures : {w : Scope} {d i n : ℕ} {b : Stmt} → StmtAt s d w i b n → d ≤ 32 → need b ≤ 4096 → lo ≤ i
+        → extentIn plan i ≡ extended n (need b)
 
   module _ (short : length s ≤ 16384) where
     -- the entry of an expression, by a plan that tells of the later ones
-    entry-is : {vs : List Site} {d i n : ℕ} {e : Expr} (plan : List ℕ) → PlansFrom (suc i) plan → ExprAt s vs d i e n → d ≤ 32
-        → Tells (entryAt plan s i) n e
-    unfolding entryAt sidesEntry registers temporaries
+    pub entry-is : {vs : List Site} {d i n : ℕ} {e : Expr} (plan : List ℕ) → PlansFrom (suc i) plan → ExprAt s vs d i e n → d ≤ 32
+        → Tells (exprEntry plan s (valueAt s i)) n e
+    unfolding exprEntry sidesEntry registers temporaries
     entry-is plan p (constantAt v k t) l =
         rw (k .value, next-is t) (entry-tells _ (constant v) (omega (arith, t .inside)) (omega arith))
     entry-is plan p (variableAt {x = x} k a) l =
@@ -70,37 +73,7 @@ module _ (s : List ℕ) where
         (entry-tells _ (binary op l r) (omega (arith, expr-ends c .1))
         (omega (arith, sides-hold (order l r) (temporaries l) (temporaries r), holds-few a, holds-few c)))
 
-    -- entries are set from the last place to the first
-    one-more : (at : ℕ) (plan : List ℕ) → at < 16384 → PlansFrom (suc at) plan → PlansFrom at (set plan at (entryAt plan s at))
-    unfolding planAt
-    one-more at plan inside p =
-        let x = entryAt plan s at in
-        record {
-          long = length-set plan at x ∙ p .long;
-          tells = λ {vs} {d} {i} {n} {e} a l m.
-              elim (decLe (suc at) i) [
-                | yes later ↦ rw (getD-set-other plan at i x 0 (omega arith)) (p .tells a l later)
-                | no other ↦
-                    let here : i ≡ at = omega arith in
-                    rw (here, lt-ltb at 16384 inside, getD-set-same plan at x 0 (omega (arith, p .long)))
-                    (entry-is plan p (rw here at a) l)
-              ];
-        }
-
-    all-planned : (n : ℕ) (plan : List ℕ) → n ≤ 16384 → PlansFrom n plan → PlansFrom 0 (plannedBelow n s plan)
-    unfolding plannedBelow
-    all-planned zero plan l p = p
-    all-planned (suc n) plan l p = all-planned n (set plan n (entryAt plan s n)) (omega arith) (one-more n plan l p)
-
--- a plan that tells of every expression of a table
+-- a plan that tells of all of a table
 pub record Plans (s plan : List ℕ) : Type 0 where
   pub tells : {vs : List Site} {d i n : ℕ} {e : Expr} → ExprAt s vs d i e n → d ≤ 32 → Tells (planAt plan i) n e
-
-pub plan-of : (s : List ℕ) → length s ≤ 16384 → Plans s (planOf s)
-unfolding planOf
-plan-of s short =
-    let all : min (length s) 16384 ≡ length s = omega arith in
-    let none : PlansFrom s (length s) (replicate 16384 0) =
-    record { long = length-replicate {A = ℕ} 16384 0; tells = λ a l m. absurd (omega (arith, m, expr-ends s a)) } in
-    let p = all-planned s short (length s) (replicate 16384 0) short none in
-    rw all (record { tells = λ a l. p .tells a l (omega arith) })
+  pub measures : {w : Scope} {d i n : ℕ} {b : Stmt} → StmtAt s d w i b n → d ≤ 32 → need b ≤ 4096 → extentIn plan i ≡ extended n (need b)

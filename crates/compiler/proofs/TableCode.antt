@@ -29,7 +29,7 @@ use Rattle.model.proofs.Points.{getElem-inside as inside}
 use Rattle.table.proofs.SameItems.{Bytes}
 use Rattle.table.proofs.SameSimple.{numbered-at, lookup-append, length-numbered}
 use Rattle.emitter.specs.Emits.{at, declaredWords}
-use Rattle.emitter.specs.Plans.{planOf}
+use Rattle.emitter.specs.Makes.{planOf}
 use Rattle.emitter.specs.Exprs.{written}
 use Rattle.compiler.specs.Stmts.{scoped}
 use Rattle.compiler.specs.Alts.{stmtInto}
@@ -37,7 +37,8 @@ use Rattle.compiler.specs.Codes.{tableInto}
 use Rattle.compiler.proofs.Spelled.{CountAt, StmtAt, Gives, parses, and-then, count, stmt-spelled}
 use Rattle.compiler.proofs.Fills.{bytes-append, filled, Room, Stands, ends, stands}
 use Rattle.compiler.proofs.ExprCode.{Named}
-use Rattle.compiler.proofs.Planned.{next-is, plan-of}
+use Rattle.compiler.proofs.Planned.{next-is}
+use Rattle.compiler.proofs.PlanOf.{plan-of}
 use Rattle.compiler.proofs.Declares.{words-new, words-long}
 use Rattle.compiler.proofs.StmtCode.{compiles-all}
 use Rattle.compiler.proofs.Bounds.{stmt-bound, bytes-bound}

@@ -11,7 +11,7 @@ use Rattle.numbers.specs.Items.{valueAt}
 use Rattle.numbers.specs.declared.Value.{Value}
 use Rattle.emitter.specs.Emits.{Code, at, plainInto, distanceInto, operationInto, declaredWords}
 use Rattle.emitter.specs.Exprs.{Wrote, written, codeOf, wholeInto}
-use Rattle.emitter.specs.Extents.{extentAt}
+use Rattle.emitter.specs.Extents.{extentIn}
 use Rattle.emitter.specs.Simples.{inInto, simpleInto}
 use Rattle.emitter.specs.declared.extent.Extent.{Extent}
 use Rattle.compiler.specs.Stmts.{scoped, initialInto, startsEnd, startInto, headerInto, seqInto, ifInto, branchesInto}
@@ -112,7 +112,7 @@ module _ (d : ℕ) (sc : Scope) (vs cs plan s : List ℕ) where
 
   pub branches-more : (n i b start : ℕ) (c : Code) {st : Code} {o r : Wrote} {own : Extent} {l : ℕ}
       → (n ≡ 0 → ⊥) → st ≡ startInto b (c .here) (at start (c .out)) → o ≡ branchAt b d sc vs cs plan s i (at (c .here) (st .out))
-      → own ≡ extentAt d plan s i → l ≡ low (b + own .need) → r ≡ branchesAt (n - 1) d sc vs cs plan s (o .next) l (st .here) (codeOf o)
+      → own ≡ extentIn plan i → l ≡ low (b + own .need) → r ≡ branchesAt (n - 1) d sc vs cs plan s (o .next) l (st .here) (codeOf o)
       → r ≡ branchesAt n d sc vs cs plan s i b start c
   unfolding branchesAt branchesInto branchAt
   branches-more zero i b start c l ps po pw pl pr = absurd (l refl)
@@ -124,7 +124,7 @@ module _ (d : ℕ) (sc : Scope) (vs cs plan s : List ℕ) where
 
   pub par-more : (n i : ℕ) (c : Code) {m o g w : ℕ} {a u h l z : Code} {e : Extent} {b r : Wrote}
       → (n ≡ 0 → ⊥) → m ≡ minus 2 → a ≡ plainInto 0xb0 m c → o ≡ low (a .here + 4) → u ≡ operationInto 27 (at o (a .out))
-      → h ≡ headerInto n u → e ≡ extentAt d plan s i → g ≡ startsEnd (n - 1) d plan s (e .next) (e .need) (h .here) → w ≡ sc .w - 2
+      → h ≡ headerInto n u → e ≡ extentIn plan i → g ≡ startsEnd (n - 1) plan (e .next) (e .need) (h .here) → w ≡ sc .w - 2
       → b ≡ branchAt 0 d (scoped w (sc .variables) (sc .channels)) vs cs plan s i (at g (h .out))
       → r ≡ branchesAt (n - 1) d (scoped w (sc .variables) (sc .channels)) vs cs plan s (b .next) (e .need) (h .here) (codeOf b)
       → l ≡ distanceInto 0x40 (r .here) (u .here) (at (a .here) (r .out)) → z ≡ plainInto 0xb0 2 (at (r .here) (l .out))

@@ -8,7 +8,7 @@ use Rattle.numbers.specs.Items.{valueAt}
 use Rattle.emitter.specs.Emits.{Code, at, plainInto, distanceInto, operationInto, localOf}
 use Rattle.emitter.specs.Exprs.{Wrote, written, codeOf, wholeInto}
 use Rattle.emitter.specs.Plans.{nextOf}
-use Rattle.emitter.specs.Extents.{extentAt}
+use Rattle.emitter.specs.Extents.{extentIn}
 use Rattle.model.specs.Scheme.{altWords}
 use Rattle.emitter.specs.Simples.{inInto, simpleInto}
 use Rattle.compiler.specs.Stmts.{Inner, declarationInto, bodyInto, seqInto, ifInto, whileInto, branchInto, branchesInto, parInto}
@@ -54,7 +54,7 @@ enableInto zero d w vs cs p s i n c = enabling (record { next = i; here = c .her
 enableInto (suc l) d w vs cs p s i n c =
     let g = guardInto d w vs cs p s i c in
     let e = operationInto (cond (g .guard .waits) 72 73) (at (g .guard .here) (g .out)) in
-    enableInto l d w vs cs p s (extentAt d p s (behindGuard s (g .guard)) .next) (low (n + low (less (g .guard .here) (c .here) + 6))) e
+    enableInto l d w vs cs p s (extentIn p (behindGuard s (g .guard)) .next) (low (n + low (less (g .guard .here) (c .here) + 6))) e
 
 -- the rest of a guard's disabling. 01: LDC branch, DISC, or LDC branch, DISS
 unfoldable pub disableInto : Guard → (branch base : ℕ) → List ℕ → Code
@@ -94,7 +94,7 @@ insideInto k d inner sc vs cs p s i c =
     cond (ltb k seqKind) (declarationInto k inner sc vs cs s i c)
     (cond (eqb k whileKind) (whileInto d (sc .w) vs (inner sc vs cs) p s i c)
     (cond (eqb k seqKind) (seqInto (n .value) (inner sc vs cs) (n .next) c)
-    (cond (eqb k parKind) (parInto (n .value) d inner sc vs cs p s (n .next) c)
+    (cond (eqb k parKind) (parInto (n .value) inner sc vs cs p (n .next) c)
     (cond (eqb k ifKind) (ifInto (n .value) d (sc .w) vs (inner sc vs cs) p s (n .next) c)
     (altInto (n .value) d inner sc vs cs p s (n .next) c)))))
 
@@ -136,11 +136,11 @@ branchAt b d sc vs cs p s i c = branchInto b (innerAt d p s) sc vs cs i c
 
 -- so many branches of a PAR
 unfoldable pub branchesAt : (left depth : ℕ) → Scope → (vs cs plan s : List ℕ) → (at d start : ℕ) → Code → Wrote
-branchesAt n d sc vs cs p s i b start c = branchesInto n d (innerAt d p s) sc vs cs p s i b start c
+branchesAt n d sc vs cs p s i b start c = branchesInto n (innerAt d p s) sc vs cs p i b start c
 
 -- PAR
 unfoldable pub parAt : (count depth : ℕ) → Scope → (vs cs plan s : List ℕ) → (at : ℕ) → Code → Wrote
-parAt n d sc vs cs p s i c = parInto n d (innerAt d p s) sc vs cs p s i c
+parAt n d sc vs cs p s i c = parInto n (innerAt d p s) sc vs cs p i c
 
 -- a branch of an ALT
 unfoldable pub choiceAt : Guard → (depth : ℕ) → Scope → (vs cs plan s : List ℕ) → Code → Wrote

@@ -8,7 +8,7 @@ use Rattle.model.specs.Prefix.{fewest}
 use Rattle.numbers.specs.Items.{valueAt}
 use Rattle.emitter.specs.Emits.{Code, at, plainInto, distanceInto, operationInto, declaredWords}
 use Rattle.emitter.specs.Exprs.{Wrote, written, codeOf, wholeInto}
-use Rattle.emitter.specs.Extents.{extentAt}
+use Rattle.emitter.specs.Extents.{extentIn}
 use Rattle.compiler.specs.declared.stmt.Scope.{Scope}
 use Rattle.numbers.specs.Kinds.{varKind}
 
@@ -77,11 +77,11 @@ whileInto d w vs inner p s i c =
     record { next = b .next; here = end; out = cj .out }
 
 -- the place after the starts of so many branches, the first of which runs d words below
-unfoldable pub startsEnd : (left depth : ℕ) → (plan s : List ℕ) → (at d here : ℕ) → ℕ
-startsEnd zero dp p s i d h = h
-startsEnd (suc n) dp p s i d h =
-    let e = extentAt dp p s i in
-    startsEnd n dp p s (e .next) (low (d + e .need)) (low (h + (fewest (minus d) + 6)))
+unfoldable pub startsEnd : (left : ℕ) → (plan : List ℕ) → (at d here : ℕ) → ℕ
+startsEnd zero p i d h = h
+startsEnd (suc n) p i d h =
+    let e = extentIn p i in
+    startsEnd n p (e .next) (low (d + e .need)) (low (h + (fewest (minus d) + 6)))
 
 -- 01, for each branch from the second: LDC start, LDLP -d, STARTP
 unfoldable pub startInto : (d start : ℕ) → Code → Code
@@ -97,26 +97,26 @@ branchInto d inner sc vs cs i c =
     written (b .next) (operationInto 3 (plainInto 0x10 d (codeOf b)))
 
 -- so many branches from the second on, each with its start
-unfoldable pub branchesInto : (left depth : ℕ) → Inner → Scope → (vs cs plan s : List ℕ) → (at d start : ℕ) → Code → Wrote
-branchesInto zero dp inner sc vs cs p s i d start c = written i c
-branchesInto (suc n) dp inner sc vs cs p s i d start c =
+unfoldable pub branchesInto : (left : ℕ) → Inner → Scope → (vs cs plan : List ℕ) → (at d start : ℕ) → Code → Wrote
+branchesInto zero inner sc vs cs p i d start c = written i c
+branchesInto (suc n) inner sc vs cs p i d start c =
     let st = startInto d (c .here) (at start (c .out)) in
     let b = branchInto d inner sc vs cs i (at (c .here) (st .out)) in
-    branchesInto n dp inner sc vs cs p s (b .next) (low (d + extentAt dp p s i .need)) (st .here) (codeOf b)
+    branchesInto n inner sc vs cs p (b .next) (low (d + extentIn p i .need)) (st .here) (codeOf b)
 
 -- what follows LDPI. 01: STL 0; LDC count, STL 1
 unfoldable pub headerInto : (count : ℕ) → Code → Code
 headerInto n c = plainInto 0xd0 1 (plainInto 0x40 n (plainInto 0xd0 0 c))
 
 -- 01, PAR with branches: AJW -2; LDC end, LDPI, STL 0; LDC count, STL 1; the starts; the branches; AJW 2. PAR of none: no code
-abbrev pub parInto : (count depth : ℕ) → Inner → Scope → (vs cs plan s : List ℕ) → (at : ℕ) → Code → Wrote
-parInto n dp inner sc vs cs p s i c =
+abbrev pub parInto : (count : ℕ) → Inner → Scope → (vs cs plan : List ℕ) → (at : ℕ) → Code → Wrote
+parInto n inner sc vs cs p i c =
     let a = plainInto 0xb0 (minus 2) c in
     let u = operationInto 27 (at (low (a .here + 4)) (a .out)) in
     let h = headerInto n u in
-    let e = extentAt dp p s i in
-    let begin = startsEnd (n - 1) dp p s (e .next) (e .need) (h .here) in
+    let e = extentIn p i in
+    let begin = startsEnd (n - 1) p (e .next) (e .need) (h .here) in
     let one = branchInto 0 inner (lowered 2 sc) vs cs i (at begin (h .out)) in
-    let r = branchesInto (n - 1) dp inner (lowered 2 sc) vs cs p s (one .next) (e .need) (h .here) (codeOf one) in
+    let r = branchesInto (n - 1) inner (lowered 2 sc) vs cs p (one .next) (e .need) (h .here) (codeOf one) in
     let l = distanceInto 0x40 (r .here) (u .here) (at (a .here) (r .out)) in
     cond (eqb n 0) (written i c) (written (r .next) (plainInto 0xb0 2 (at (r .here) (l .out))))

@@ -24,7 +24,7 @@ pub struct Guard {
 // The condition, and for a guard that waits LDLP channel, REV.
 pub fn gen_guard(
     table: &[u8],
-    plan: &[u32; 16384],
+    plan: &[u32; 32768],
     at: usize,
     depth: u64,
     w: u32,
@@ -79,7 +79,7 @@ fn either(first: bool, one: u32, other: u32) -> u32
 // The enabling: per guard condition, LDLP channel, REV, ENBC, or condition, ENBS; and the bytes of the disabling.
 pub fn gen_enable(
     table: &[u8],
-    plan: &[u32; 16384],
+    plan: &[u32; 32768],
     at: usize,
     left: u32,
     depth: u64,
@@ -111,7 +111,7 @@ pub fn gen_enable(
     let end = emitter::operation(out, guard.here, code);
     let same = word::less(guard.here, here);
     let size = word::plus(disabling, word::plus(same, 6));
-    let statement = emitter::measure(table, plan, behind(table, guard), depth);
+    let statement = emitter::extent_in(plan, behind(table, guard));
     gen_enable(
         table,
         plan,

@@ -11,7 +11,7 @@ mod alt;
 mod stmt;
 
 // The code of an accepted table into a buffer: bytes past its end are left out. The answer is the code's size.
-fn generate(table: &[u8], plan: &[u32; 16384], facts: model::Facts, out: &mut [u8]) -> u32
+fn generate(table: &[u8], plan: &[u32; 32768], facts: model::Facts, out: &mut [u8]) -> u32
     ensures { λ r. ⌜ standing r (now (out .exit)) ≡ tableInto (now (plan .entry)) (now (table .entry)) facts (now (out .entry)) ⌝ }
 {
     let at = numbers::skip(table, numbers::skip(table, 0));
@@ -39,7 +39,7 @@ fn generate(table: &[u8], plan: &[u32; 16384], facts: model::Facts, out: &mut [u
 }
 
 // The size of an accepted table's code.
-fn code_size(table: &[u8], plan: &[u32; 16384], facts: model::Facts) -> u32
+fn code_size(table: &[u8], plan: &[u32; 32768], facts: model::Facts) -> u32
     ensures { λ r. ⌜ r ≡ sizeOf (now (plan .entry)) (now (table .entry)) facts ⌝ }
 {
     let mut none: [u8; 1] = [0; 1];
@@ -58,7 +58,7 @@ pub fn compile_into(table: &[u8], out: &mut [u8]) -> model::Compiled
             if model::limits::WORDS < facts.words {
                 return model::Compiled::Refused(10, 0);
             }
-            let mut plan: [u32; 16384] = [0; 16384];
+            let mut plan: [u32; 32768] = [0; 32768];
             emitter::make_plan(table, &mut plan);
             let size = code_size(table, &plan, facts) as usize;
             if model::limits::CODE < size {

@@ -41,7 +41,7 @@ fn put_initial(out: &mut [u8], here: u32, kind: u32, j: u32, left: u32) -> u32
 // The body of a VAR or CHAN of n names.
 fn body(
     table: &[u8],
-    plan: &[u32; 16384],
+    plan: &[u32; 32768],
     at: usize,
     kind: u32,
     n: u32,
@@ -79,7 +79,7 @@ fn body(
 // VAR and CHAN: AJW -n, the words, body, AJW n.
 fn declaration(
     table: &[u8],
-    plan: &[u32; 16384],
+    plan: &[u32; 32768],
     at: usize,
     kind: u32,
     depth: u64,
@@ -121,7 +121,7 @@ fn declaration(
 // SEQ: so many parts.
 fn seq(
     table: &[u8],
-    plan: &[u32; 16384],
+    plan: &[u32; 32768],
     at: usize,
     left: u32,
     depth: u64,
@@ -160,7 +160,7 @@ fn seq(
 // IF, for each pair: condition, CJ next, statement, J end; the last pair too. Behind the last pair stands a STOPP, then comes the end.
 fn pairs(
     table: &[u8],
-    plan: &[u32; 16384],
+    plan: &[u32; 32768],
     at: usize,
     left: u32,
     depth: u64,
@@ -216,7 +216,7 @@ fn pairs(
 // WHILE: condition, CJ end, body, J start.
 fn repetition(
     table: &[u8],
-    plan: &[u32; 16384],
+    plan: &[u32; 32768],
     at: usize,
     depth: u64,
     scope: Scope,
@@ -253,32 +253,16 @@ fn repetition(
 }
 
 // The place after the starts of so many branches, the first of which runs d words below.
-fn starts_end(
-    table: &[u8],
-    plan: &[u32; 16384],
-    at: usize,
-    left: u32,
-    depth: u64,
-    d: u32,
-    here: u32,
-) -> u32
-    ensures { λ r. ⌜ r ≡ startsEnd left depth (now (plan .entry)) (now (table .entry)) at d here ⌝ }
+fn starts_end(plan: &[u32; 32768], at: usize, left: u32, d: u32, here: u32) -> u32
+    ensures { λ r. ⌜ r ≡ startsEnd left (now (plan .entry)) at d here ⌝ }
 {
     if left == 0 {
         return here;
     }
-    let branch = emitter::measure(table, plan, at, depth);
+    let branch = emitter::extent_in(plan, at);
     let size = instruction::fewest(emitter::minus(d)) + 6;
     let below = word::plus(d, branch.need);
-    starts_end(
-        table,
-        plan,
-        branch.next,
-        left - 1,
-        depth,
-        below,
-        word::plus(here, size),
-    )
+    starts_end(plan, branch.next, left - 1, below, word::plus(here, size))
 }
 
 // LDC start, LDLP -d, STARTP.
@@ -295,7 +279,7 @@ fn put_start(out: &mut [u8], here: u32, d: u32, start: u32) -> u32
 // A branch d words below: its code, LDLP d, ENDP.
 fn branch(
     table: &[u8],
-    plan: &[u32; 16384],
+    plan: &[u32; 32768],
     at: usize,
     d: u32,
     depth: u64,
@@ -328,7 +312,7 @@ fn branch(
 // So many branches from the second on, each with its start.
 fn branches(
     table: &[u8],
-    plan: &[u32; 16384],
+    plan: &[u32; 32768],
     at: usize,
     left: u32,
     depth: u64,
@@ -353,7 +337,7 @@ fn branches(
     }
     let next = put_start(out, start, d, here);
     let branch = branch(table, plan, at, d, depth, scope, vars, chans, out, here);
-    let own = emitter::measure(table, plan, at, depth);
+    let own = emitter::extent_in(plan, at);
     let below = word::plus(d, own.need);
     branches(
         table,
@@ -383,7 +367,7 @@ fn put_header(out: &mut [u8], here: u32, count: u32) -> u32
 // PAR with branches: AJW -2; LDC end, LDPI, STL 0; LDC count, STL 1; the starts; the branches; AJW 2. PAR of none: no code.
 fn par(
     table: &[u8],
-    plan: &[u32; 16384],
+    plan: &[u32; 32768],
     at: usize,
     count: u32,
     depth: u64,
@@ -407,8 +391,8 @@ fn par(
     let over = emitter::plain(out, here, instruction::codes::AJW, emitter::minus(2));
     let user = emitter::operation(out, word::plus(over, 4), instruction::codes::LDPI);
     let starts = put_header(out, user, count);
-    let own = emitter::measure(table, plan, at, depth);
-    let begin = starts_end(table, plan, own.next, count - 1, depth, own.need, starts);
+    let own = emitter::extent_in(plan, at);
+    let begin = starts_end(plan, own.next, count - 1, own.need, starts);
     let w = emitter::below(scope.w, 2);
     let inner = Scope {
         w: w,
@@ -441,7 +425,7 @@ fn par(
 // A branch: AJW 1, the input if any, statement.
 fn choice(
     table: &[u8],
-    plan: &[u32; 16384],
+    plan: &[u32; 32768],
     guard: Guard,
     depth: u64,
     scope: Scope,
@@ -486,7 +470,7 @@ fn choice(
 // The disabling and the branches: each branch ends with J end. `base` is the place after ALTEND.
 fn choices(
     table: &[u8],
-    plan: &[u32; 16384],
+    plan: &[u32; 32768],
     at: usize,
     left: u32,
     depth: u64,
@@ -535,7 +519,7 @@ fn choices(
 // AJW -1, ALT, the enabling, ALTWT, the disabling, ALTEND, the branches.
 fn alt(
     table: &[u8],
-    plan: &[u32; 16384],
+    plan: &[u32; 32768],
     at: usize,
     count: u32,
     depth: u64,
@@ -588,7 +572,7 @@ fn alt(
 // What follows the kinds from VAR on; the statements inside have `depth` left.
 fn inside(
     table: &[u8],
-    plan: &[u32; 16384],
+    plan: &[u32; 32768],
     at: usize,
     kind: u32,
     depth: u64,
@@ -627,7 +611,7 @@ fn inside(
 // A statement; the depth left falls at each call.
 pub fn statement(
     table: &[u8],
-    plan: &[u32; 16384],
+    plan: &[u32; 32768],
     at: usize,
     depth: u64,
     scope: Scope,

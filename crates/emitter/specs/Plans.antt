@@ -1,14 +1,14 @@
 -- What is known of expressions before their code is written: for each place of a table, of the expression that begins there, the place
--- after it, its registers and its stored values (02, order 2), in one number. A plan is made from the table's last byte to its first, so
--- that each entry is found from later ones.
-use Prim.Native.Nat.{ℕ, zero, suc, _+_, _*_, _/_, _%_, _^_, min}
+-- after it, its registers and its stored values (02, order 2), in one number, which is found from those of later places.
+use Prim.Native.Nat.{ℕ, _+_, _*_, _/_, _%_, _^_, min}
 use mathlib.Core.Bool.{cond}
 use mathlib.Core.List.{List}
-use lib.ListN.{length, getD, set, replicate}
+use lib.ListN.{getD}
 use lib.Dec.{ltb, eqb}
 use Rattle.model.specs.Limits.{tableLimit}
 use Rattle.model.specs.Counts.{sidesNeed, orderOf, sidesHold}
 use Rattle.numbers.specs.Items.{valueAt}
+use Rattle.numbers.specs.declared.Value.{Value}
 use Rattle.numbers.specs.Kinds.{notKind}
 
 -- the place after a number
@@ -33,7 +33,7 @@ registersIn e = e / 256 % 4
 unfoldable pub storedIn : ℕ → ℕ
 storedIn e = e % 256
 
--- what a plan has at a place
+-- what a plan has for an expression at a place
 unfoldable pub planAt : (plan : List ℕ) → (at : ℕ) → ℕ
 planAt p at = cond (ltb at tableLimit) (getD p at 0) 0
 
@@ -43,19 +43,9 @@ sidesEntry l r =
     entry (nextIn r) (sidesNeed (registersIn l) (registersIn r))
     (sidesHold (orderOf (registersIn l) (registersIn r)) (storedIn l) (storedIn r))
 
--- the entry of the expression at a place, by a plan that has the later places
-unfoldable pub entryAt : (plan s : List ℕ) → (at : ℕ) → ℕ
-entryAt p s at =
-    let k = valueAt s at in
+-- the entry of the expression that begins with a kind, by a plan that has the later places
+unfoldable pub exprEntry : (plan s : List ℕ) → Value → ℕ
+exprEntry p s k =
     let l = planAt p (nextOf s (k .next)) in
     cond (ltb (k .value) notKind) (entry (nextOf s (k .next)) 1 0)
     (cond (eqb (k .value) notKind) (planAt p (k .next)) (sidesEntry l (planAt p (nextIn l))))
-
--- the places below n, the last one first
-unfoldable pub plannedBelow : (n : ℕ) → (s plan : List ℕ) → List ℕ
-plannedBelow zero s p = p
-plannedBelow (suc n) s p = plannedBelow n s (set p n (entryAt p s n))
-
--- the plan of a table
-unfoldable pub planOf : List ℕ → List ℕ
-planOf s = plannedBelow (min (length s) tableLimit) s (replicate tableLimit 0)

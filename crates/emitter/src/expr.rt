@@ -71,7 +71,7 @@ fn gen_leaf(
 // Two sides, the left one at a place, apart from the operator; `held` values are held before.
 fn gen_sides(
     table: &[u8],
-    plan: &[u32; 16384],
+    plan: &[u32; 32768],
     at: usize,
     depth: u64,
     w: u32,
@@ -119,7 +119,7 @@ fn gen_sides(
 // What follows an operator's kind: operator, left, right.
 fn gen_binary(
     table: &[u8],
-    plan: &[u32; 16384],
+    plan: &[u32; 32768],
     at: usize,
     depth: u64,
     w: u32,
@@ -155,7 +155,7 @@ fn gen_binary(
 // An expression, with `held` values held before; the depth left falls at each call.
 fn gen_expr(
     table: &[u8],
-    plan: &[u32; 16384],
+    plan: &[u32; 32768],
     at: usize,
     depth: u64,
     w: u32,
@@ -192,7 +192,7 @@ fn gen_expr(
 }
 
 // By how many words W is lowered for the whole expression at a place: its stored values and so many more; without stored values by none.
-fn lowered(plan: &[u32; 16384], at: usize, more: u32) -> u32
+fn lowered(plan: &[u32; 32768], at: usize, more: u32) -> u32
     ensures { λ r. ⌜ r ≡ lowering (storedIn (planAt (now (plan .entry)) at)) more ⌝ }
 {
     let stored = crate::plan::stored_in(crate::plan::entry_at(plan, at));
@@ -215,7 +215,7 @@ fn put_adjust(lowered: u32, operand: u32, out: &mut [u8], here: u32) -> u32
 // A whole expression: one with stored values stands between AJW -n and AJW n, n words being its stored values and so many more.
 pub fn gen_whole(
     table: &[u8],
-    plan: &[u32; 16384],
+    plan: &[u32; 32768],
     at: usize,
     depth: u64,
     w: u32,

@@ -1,17 +1,50 @@
-// The place after a part, and the words that a statement needs.
+// The place after a part, and the words that a statement needs: each statement by the entries of later places, without recursion.
 ghost use mathlib.Core.Path.{_≡_};
 ghost use Rattle.model.specs.Counts.{guardWords};
 ghost use Rattle.emitter.specs.Plans.{storedIn};
-ghost use Rattle.emitter.specs.Extents.{simpleExtent, guardExtent, headExtent};
-ghost use Rattle.emitter.specs.Extents.{joined as needed, partsExtent, insideExtent, extentAt};
+ghost use Rattle.emitter.specs.Extents.{extentEntry, statementAt, extentIn, simpleExtent, guardExtent, headExtent};
+ghost use Rattle.emitter.specs.Extents.{joined as needed, partsOf, partsExtent, insideExtent, stmtExtent};
+
+// The parts that a SEQ, an IF or an ALT may have; a PAR may have fewer.
+const PARTS: u32 = model::limits::PARTS as u32;
 
 pub struct Extent {
     pub next: usize,
     pub need: u32,
 }
 
+// A statement's entry in a plan: the place after it and its words, 16 bits for each. A table has at most 16,384 bytes, and a program of
+// more than 4,096 words is refused before its plan is made.
+pub fn extent_entry(extent: Extent) -> u32
+    ensures { λ r. ⌜ r ≡ extentEntry extent ⌝ }
+{
+    let place = (extent.next % 65536) as u32;
+    place * 65536 + extent.need % 65536
+}
+
+// What a plan has for a statement at a place, behind what it has for expressions; 0 past its end.
+fn statement_at(plan: &[u32; 32768], at: usize) -> u32
+    ensures { λ r. ⌜ r ≡ statementAt (now (plan .entry)) at ⌝ }
+{
+    if at < model::limits::TABLE {
+        return plan[model::limits::TABLE + at];
+    }
+    0
+}
+
+// What a plan tells of the statement at a place.
+pub fn extent_in(plan: &[u32; 32768], at: usize) -> Extent
+    ensures { λ r. ⌜ r ≡ extentIn (now (plan .entry)) at ⌝ }
+{
+    let entry = statement_at(plan, at);
+    Extent {
+        next: (entry / 65536) as usize,
+        need: entry % 65536,
+    }
+}
+
 // What follows the kinds before VAR.
-fn simple_extent(table: &[u8], plan: &[u32; 16384], at: usize, kind: u32) -> Extent
+fn simple_extent(table: &[u8], plan: &[u32; 32768], at: usize, kind: u32) -> Extent
     ensures { λ r. ⌜ r ≡ simpleExtent kind (now (plan .entry)) (now (table .entry)) at ⌝ }
 {
     if kind < numbers::kinds::ASSIGN {
@@ -52,7 +85,7 @@ fn guard_words(condition: u32) -> u32
 }
 
 // The place after a guard, and the words that its condition asks for.
-fn guard_extent(table: &[u8], plan: &[u32; 16384], at: usize) -> Extent
+fn guard_extent(table: &[u8], plan: &[u32; 32768], at: usize) -> Extent
     ensures { λ r. ⌜ r ≡ guardExtent (now (plan .entry)) (now (table .entry)) at ⌝ }
 {
     let kind = numbers::value_at(table, at);
@@ -75,7 +108,7 @@ fn guard_extent(table: &[u8], plan: &[u32; 16384], at: usize) -> Extent
 
 // The place after what stands before the statement of a part, and the words that it asks for: nothing (SEQ, PAR), a condition (IF, WHILE),
 // a guard (ALT).
-fn head_extent(table: &[u8], plan: &[u32; 16384], at: usize, kind: u32) -> Extent
+fn head_extent(table: &[u8], plan: &[u32; 32768], at: usize, kind: u32) -> Extent
     ensures { λ r. ⌜ r ≡ headExtent kind (now (plan .entry)) (now (table .entry)) at ⌝ }
 {
     if kind < numbers::kinds::IF {
@@ -103,63 +136,77 @@ fn joined(kind: u32, before: u32, part: u32) -> u32
     crate::plan::larger(before, part)
 }
 
-// So many parts, behind some that need so many words.
+// How many parts a kind from SEQ on has. Where no statement begins, kind and count may be any numbers: one that is too large makes no
+// parts, so that no place of a table costs more than 32 turns.
+fn parts_of(kind: u32, count: u32) -> u32
+    ensures { λ r. ⌜ r ≡ partsOf kind count ⌝ }
+{
+    if numbers::kinds::ALT < kind {
+        return 0;
+    }
+    if PARTS < count {
+        return 0;
+    }
+    count
+}
+
+// So many parts, each by its entry, behind some that need so many words.
 fn parts_extent(
     table: &[u8],
-    plan: &[u32; 16384],
-    at: usize,
+    plan: &[u32; 32768],
+    first: usize,
     kind: u32,
-    left: u32,
-    depth: u64,
-    need: u32,
+    count: u32,
+    least: u32,
 ) -> Extent
-    ensures { λ r. ⌜ r ≡ partsExtent left kind depth (now (plan .entry)) (now (table .entry)) at need ⌝ }
+    ensures { λ r. ⌜ r ≡ partsExtent count kind (now (plan .entry)) (now (table .entry)) first least ⌝ }
 {
-    if left == 0 {
-        return Extent {
-            next: at,
-            need: need,
-        };
+    let mut at = first;
+    let mut need = least;
+    let mut left = count;
+    while 0 < left {
+        let head = head_extent(table, plan, at, kind);
+        let part = extent_in(plan, head.next);
+        let before = crate::plan::larger(need, head.need);
+        need = joined(kind, before, part.need);
+        at = part.next;
+        left -= 1;
     }
-    let head = head_extent(table, plan, at, kind);
-    let part = measure(table, plan, head.next, depth);
-    let before = crate::plan::larger(need, head.need);
-    let more = joined(kind, before, part.need);
-    parts_extent(table, plan, part.next, kind, left - 1, depth, more)
+    Extent {
+        next: at,
+        need: need,
+    }
 }
 
 // What follows the kinds from VAR on.
-fn inside_extent(table: &[u8], plan: &[u32; 16384], at: usize, kind: u32, depth: u64) -> Extent
-    ensures { λ r. ⌜ r ≡ insideExtent kind depth (now (plan .entry)) (now (table .entry)) at ⌝ }
+fn inside_extent(table: &[u8], plan: &[u32; 32768], at: usize, kind: u32) -> Extent
+    ensures { λ r. ⌜ r ≡ insideExtent kind (now (plan .entry)) (now (table .entry)) at ⌝ }
 {
     if kind == numbers::kinds::WHILE {
-        return parts_extent(table, plan, at, kind, 1, depth, 2);
+        return parts_extent(table, plan, at, kind, 1, 2);
     }
     let count = numbers::value_at(table, at);
     if kind < numbers::kinds::SEQ {
-        let body = measure(table, plan, count.next, depth);
+        let body = extent_in(plan, count.next);
         let need = word::plus(count.value, body.need);
         return Extent {
             next: body.next,
             need: need,
         };
     }
+    let parts = parts_of(kind, count.value);
     if kind == numbers::kinds::ALT {
-        return parts_extent(table, plan, count.next, kind, count.value, depth, 4);
+        return parts_extent(table, plan, count.next, kind, parts, 4);
     }
-    parts_extent(table, plan, count.next, kind, count.value, depth, 2)
+    parts_extent(table, plan, count.next, kind, parts, 2)
 }
 
-// A statement; the depth left falls at each call.
-pub fn measure(table: &[u8], plan: &[u32; 16384], at: usize, depth: u64) -> Extent
-    ensures { λ r. ⌜ r ≡ extentAt depth (now (plan .entry)) (now (table .entry)) at ⌝ }
+// The statement that begins with a kind, by a plan that has the later places.
+pub fn stmt_extent(table: &[u8], plan: &[u32; 32768], kind: numbers::Value) -> Extent
+    ensures { λ r. ⌜ r ≡ stmtExtent (now (plan .entry)) (now (table .entry)) kind ⌝ }
 {
-    if depth == 0 {
-        return Extent { next: at, need: 2 };
-    }
-    let kind = numbers::value_at(table, at);
     if kind.value < numbers::kinds::VAR {
         return simple_extent(table, plan, kind.next, kind.value);
     }
-    inside_extent(table, plan, kind.next, kind.value, depth - 1)
+    inside_extent(table, plan, kind.next, kind.value)
 }

@@ -1,9 +1,10 @@
-// Code into a lent buffer: single instructions, expressions, and statements without statements inside; the plan of a table's expressions,
-// which their code follows; and what a statement needs.
+// Code into a lent buffer: single instructions, expressions, and statements without statements inside; and the plan of a table, which tells
+// of its expressions what their code follows, and of its statements the place after each and what it needs.
 // Bytes past the buffer's end are left out, so that the size of code can be had without a buffer.
 mod emit;
 mod expr;
 mod extent;
+mod make;
 mod plan;
 mod sides;
 mod simple;
@@ -16,8 +17,8 @@ pub use emit::plain;
 pub use expr::Done;
 pub use expr::gen_whole;
 pub use extent::Extent;
-pub use extent::measure;
-pub use plan::make_plan;
+pub use extent::extent_in;
+pub use make::make_plan;
 pub use simple::gen_input;
 pub use simple::gen_simple;
 pub use words::below;

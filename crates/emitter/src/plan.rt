@@ -1,11 +1,9 @@
 // What is known of expressions before their code is written (document 02, order 2): a plan has an entry for each place of a table, of the
-// expression that begins there. It is made from the table's last byte to its first, so that each entry is found from later ones.
+// expression that begins there, found from later entries.
 ghost use mathlib.Core.Path.{_≡_};
-ghost use Prim.Native.Nat.{ℕ, min, max};
-ghost use lib.ListN.{length};
-ghost use Rattle.model.specs.Limits.{tableLimit};
+ghost use Prim.Native.Nat.{max};
 ghost use Rattle.model.specs.Counts.{sidesNeed, orderOf, sidesHold};
-ghost use Rattle.emitter.specs.Plans.{entry as entryOf, nextIn, registersIn, storedIn, planAt, sidesEntry, entryAt, plannedBelow};
+ghost use Rattle.emitter.specs.Plans.{entry as entryOf, nextIn, registersIn, storedIn, planAt, sidesEntry, exprEntry};
 
 // The registers that an expression's code may use.
 pub const REGISTERS: u32 = model::limits::REGISTERS as u32;
@@ -46,8 +44,8 @@ pub fn stored_in(entry: u32) -> u32
     entry % 256
 }
 
-// What a plan has at a place; 0 past its end.
-pub fn entry_at(plan: &[u32; 16384], at: usize) -> u32
+// What a plan has for an expression at a place; 0 past its end.
+pub fn entry_at(plan: &[u32; 32768], at: usize) -> u32
     ensures { λ r. ⌜ r ≡ planAt (now (plan .entry)) at ⌝ }
 {
     if at < model::limits::TABLE {
@@ -89,11 +87,10 @@ fn sides_entry(left: u32, right: u32) -> u32
     entry(next_in(right), registers, sides_hold(left, right))
 }
 
-// The entry of the expression at a place, by a plan that has the later places.
-fn planned(table: &[u8], plan: &[u32; 16384], at: usize) -> u32
-    ensures { λ r. ⌜ r ≡ entryAt (now (plan .entry)) (now (table .entry)) at ⌝ }
+// The entry of the expression that begins with a kind, by a plan that has the later places.
+pub fn planned(table: &[u8], plan: &[u32; 32768], kind: numbers::Value) -> u32
+    ensures { λ r. ⌜ r ≡ exprEntry (now (plan .entry)) (now (table .entry)) kind ⌝ }
 {
-    let kind = numbers::value_at(table, at);
     if kind.value < numbers::kinds::NOT {
         return entry(numbers::skip(table, kind.next), 1, 0);
     }
@@ -103,28 +100,4 @@ fn planned(table: &[u8], plan: &[u32; 16384], at: usize) -> u32
     let left = entry_at(plan, numbers::skip(table, kind.next));
     let right = entry_at(plan, next_in(left));
     sides_entry(left, right)
-}
-
-// How many places of a table a plan has.
-fn places(table: &[u8]) -> usize
-    ensures { λ r. ⌜ r ≡ min (length (now (table .entry))) tableLimit ⌝ }
-{
-    if table.len() < model::limits::TABLE {
-        return table.len();
-    }
-    model::limits::TABLE
-}
-
-// The plan of a table, from the last place to the first.
-pub fn make_plan(table: &[u8], plan: &mut [u32; 16384])
-    ensures { λ r.
-        ⌜ now (plan .exit)
-        ≡ plannedBelow (min (length (now (table .entry))) tableLimit) (now (table .entry)) (now (plan .entry)) ⌝ }
-{
-    let mut at = places(table);
-    while 0 < at {
-        at -= 1;
-        let found = planned(table, &*plan, at);
-        plan[at] = found;
-    }
 }

@@ -47,7 +47,7 @@ fn held_second(order: u32, held: u32) -> u32
 }
 
 // Two sides, the left one at a place, with so many values held before.
-pub fn arrange(plan: &[u32; 16384], at: usize, held: u32) -> Sides
+pub fn arrange(plan: &[u32; 32768], at: usize, held: u32) -> Sides
     ensures { λ r. ⌜ r ≡ arranged (now (plan .entry)) held at ⌝ }
 {
     let left = crate::plan::entry_at(plan, at);

@@ -29,7 +29,7 @@ fn put_output(out: &mut [u8], here: u32, channel: u32) -> u32
 // Assignment: value, STL.
 fn gen_assign(
     table: &[u8],
-    plan: &[u32; 16384],
+    plan: &[u32; 32768],
     at: usize,
     depth: u64,
     w: u32,
@@ -79,7 +79,7 @@ pub fn gen_input(
 // Output: a channel and a value.
 fn gen_output(
     table: &[u8],
-    plan: &[u32; 16384],
+    plan: &[u32; 32768],
     at: usize,
     depth: u64,
     w: u32,
@@ -116,7 +116,7 @@ fn gen_output(
 // The kinds before VAR.
 pub fn gen_simple(
     table: &[u8],
-    plan: &[u32; 16384],
+    plan: &[u32; 32768],
     at: usize,
     kind: u32,
     depth: u64,

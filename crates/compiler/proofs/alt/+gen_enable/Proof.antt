@@ -9,7 +9,7 @@ use Rattle.compiler.proofs.alt.behind.Reads as behind-reads
 use Rattle.compiler.proofs.alt.either.Reads as either-reads
 use Rattle.compiler.proofs.alt.gen_guard.Reads as gen-guard-reads
 use Rattle.emitter.proofs.operation.Reads as operation-reads
-use Rattle.emitter.proofs.measure.Reads as measure-reads
+use Rattle.emitter.proofs.extent_in.Reads as extent-in-reads
 use Rattle.word.proofs.plus.Reads as plus-reads
 use Rattle.word.proofs.less.Reads as less-reads
 use Rattle.compiler.proofs.alt.+gen_enable.{statement}
@@ -21,7 +21,7 @@ use mathlib.Core.List.{List}
 use mathlib.Core.Path.{_≡_, refl, sym}
 use Rattle.model.specs.Word.{low, less}
 use Rattle.emitter.specs.Emits.{Code, at, operationInto}
-use Rattle.emitter.specs.Extents.{extentAt}
+use Rattle.emitter.specs.Extents.{extentIn}
 use Rattle.compiler.specs.Alts.{Guarded, guardInto, behindGuard, Enabling, enabling, enableInto}
 
 none : (n d w : ℕ) (vs cs plan s : List ℕ) (i k : ℕ) (c : Code) → n ≡ 0
@@ -32,7 +32,7 @@ none n d w vs cs plan s i k c e = rw e
 -- what follows a guard, and `enableInto` unrolled once where one is left
 abbrev behindOne : (n d w : ℕ) → (vs cs plan s : List ℕ) → (k here : ℕ) → Guarded → Enabling
 behindOne n d w vs cs plan s k h g =
-    enableInto (n - 1) d w vs cs plan s (extentAt d plan s (behindGuard s (g .guard)) .next)
+    enableInto (n - 1) d w vs cs plan s (extentIn plan (behindGuard s (g .guard)) .next)
     (low (k + low (less (g .guard .here) h + 6)))
     (operationInto (cond (g .guard .waits) 72 73) (at (g .guard .here) (g .out)))
 
@@ -67,8 +67,8 @@ gen-enable-claims t = (
   plus-reads.Learnt,
   behind-reads.Asked,
   behind-reads.Learnt,
-  measure-reads.Asked,
-  measure-reads.Learnt,
+  extent-in-reads.Asked,
+  extent-in-reads.Learnt,
   gen-enable-below t,
   gen-enable.Post,
 )
@@ -102,7 +102,7 @@ gen-enable-returns-2 t c =
       ← l .before .plus .ensures,
       ← l .plus2 .ensures,
       ← m .before .behind .ensures,
-      ← m .measure .ensures,
+      ← m .extent-in .ensures,
     ) (r .gen-enable .ensures)
 
 pub +gen-enable-spec : {M : Type 1} → statement M

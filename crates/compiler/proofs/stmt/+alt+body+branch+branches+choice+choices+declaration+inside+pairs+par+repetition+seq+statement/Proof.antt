@@ -57,7 +57,7 @@ use Rattle.emitter.proofs.minus.Reads as minus-reads
 use Rattle.emitter.proofs.operation.Reads as operation-reads
 use Rattle.emitter.proofs.plain.Reads as plain-reads
 use Rattle.emitter.proofs.gen_whole.Reads as gen-whole-reads
-use Rattle.emitter.proofs.measure.Reads as measure-reads
+use Rattle.emitter.proofs.extent_in.Reads as extent-in-reads
 use Rattle.emitter.proofs.gen_input.Reads as gen-input-reads
 use Rattle.emitter.proofs.gen_simple.Reads as gen-simple-reads
 use Rattle.emitter.proofs.below.Reads as below-reads
@@ -245,8 +245,8 @@ branches-claims t = (
   put-start-reads.Learnt,
   branch-below t,
   branch.Post,
-  measure-reads.Asked,
-  measure-reads.Learnt,
+  extent-in-reads.Asked,
+  extent-in-reads.Learnt,
   plus-reads.Asked,
   plus-reads.Learnt,
   branches-below t,
@@ -341,8 +341,8 @@ par-claims t = (
   operation-reads.Learnt,
   put-header-reads.Asked,
   put-header-reads.Learnt,
-  measure-reads.Asked,
-  measure-reads.Learnt,
+  extent-in-reads.Asked,
+  extent-in-reads.Learnt,
   starts-end-reads.Asked,
   starts-end-reads.Learnt,
   below-reads.Asked,
@@ -450,7 +450,7 @@ branches-returns-2 t c =
     let b = m .before .before .before in
     let s = b .before .before .before .before in
     let i = s .before .before in
-    branches-more _ _ _ _ _ _ _ _ _ _ _ (i .if1 .left) (s .put-start .ensures) (b .branch .ensures) (m .measure .ensures)
+    branches-more _ _ _ _ _ _ _ _ _ _ _ (i .if1 .left) (s .put-start .ensures) (b .branch .ensures) (m .extent-in .ensures)
     (l .plus .ensures) (r .branches .ensures)
 
 choice-returns : (t : ℕ) → choice-lts.Need-returns (choice-claims t) (choice-at t) choice.Post
@@ -610,7 +610,7 @@ par-returns-2 t c =
     let m = a .before in
     let i = m .before .before in
     par-more _ _ _ _ _ _ _ _ _ (i .if1 .left) (m .minus .ensures) (a .plain .ensures) (o .plus .ensures) (u .operation .ensures)
-    (h .put-header .ensures) (e .measure .ensures) (s .starts-end .ensures) (w .below .ensures) (b .branch .ensures)
+    (h .put-header .ensures) (e .extent-in .ensures) (s .starts-end .ensures) (w .below .ensures) (b .branch .ensures)
     (r .branches .ensures) (l .distance .ensures) (z .plain2 .ensures)
 
 repetition-returns : (t : ℕ) → repetition-lts.Need-returns (repetition-claims t) (repetition-at t) repetition.Post

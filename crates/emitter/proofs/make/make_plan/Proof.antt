@@ -1,13 +1,12 @@
--- `emitter::plan::make_plan` meets its contract. The loop's invariant: planning what is left gives what the whole gives. Assumes nothing.
-use Rattle.emitter.proofs.plan.make_plan.Statement.{statement}
-use Rattle.emitter.proofs.plan.make_plan.Tie as tie
+-- `emitter::make::make_plan` meets its contract. The loop's invariant: planning what is left gives what the whole gives. Assumes nothing.
+use Rattle.emitter.proofs.make.make_plan.Statement.{statement}
+use Rattle.emitter.proofs.make.make_plan.Tie as tie
 use borrow.Author.Needs.{needs}
 use native.Mathlib.Omega.{arith}
 use mathlib.Core.List.{List}
 use mathlib.Core.Path.{_≡_, refl, sym, _∙_}
 use Prim.Native.Nat.{ℕ, zero, suc, _-_, _<_, _≤_}
-use lib.ListN.{set}
-use Rattle.emitter.specs.Plans.{entryAt, plannedBelow}
+use Rattle.emitter.specs.Makes.{plannedAt, plannedBelow}
 
 none : (n : ℕ) (s p : List ℕ) → n ≤ 0 → plannedBelow n s p ≡ p
 unfolding plannedBelow
@@ -15,7 +14,7 @@ none zero s p h = refl
 none (suc n) s p h = absurd (omega arith)
 
 -- `plannedBelow` unrolled once where a place is left
-turn : (n : ℕ) (s p : List ℕ) → 0 < n → plannedBelow n s p ≡ plannedBelow (n - 1) s (set p (n - 1) (entryAt p s (n - 1)))
+turn : (n : ℕ) (s p : List ℕ) → 0 < n → plannedBelow n s p ≡ plannedBelow (n - 1) s (plannedAt (n - 1) s p)
 unfolding plannedBelow
 turn zero s p h = absurd (omega arith)
 turn (suc n) s p h = let e : suc n - 1 ≡ n = omega arith in rw e
@@ -31,8 +30,14 @@ loop-holds c = (refl, omega arith)
 
 loop-again : tie.Need-loop-again Inv-loop μ-loop
 loop-again c =
-    let l = c .before .before in
-    (l .before .loop .inv .0 ∙ turn _ _ _ (l .loop-test .taken) ∙ simp (← c .planned .ensures), omega arith)
+    let m = c .before in
+    let p = m .before .before in
+    let k = p .before .before in
+    let l = k .before in (
+      l .before .loop .inv .0 ∙ turn _ _ _ (l .loop-test .taken)
+          ∙ simp (← k .value-at .ensures, ← p .planned .ensures, ← m .stmt-extent .ensures, ← c .extent-entry .ensures),
+      omega arith,
+    )
 
 returns : tie.Need-returns Inv-loop μ-loop
 returns c =
@@ -49,6 +54,12 @@ make-plan-spec =
     loop-holds
     (λ c. search needs)
     (λ c κs. search needs)
+    (λ c κs. search needs)
+    (λ c κs. search needs)
+    (λ c. search needs)
+    (λ c. search needs)
+    (λ c κs. search needs)
+    (λ c. search needs)
     (λ c. search needs)
     (λ c. search needs)
     (λ c. search needs)
