@@ -1,13 +1,11 @@
--- What a statement is counted with is bounded by its bytes, a name is below its count, and a bit fits a word.
-use Prim.Native.Nat.{ℕ, zero, suc, _+_, _-_, _*_, _%_, _^_, _≤_, _<_, max}
-use native.Mathlib.Nat.{one-mul}
+-- What a statement is counted with is bounded by its bytes, and a name is below its count.
+use Prim.Native.Nat.{ℕ, zero, suc, _+_, _-_, _*_, _≤_, _<_, max}
 use native.Mathlib.Omega.{arith}
-use mathlib.Core.Path.{_≡_, _∙_}
+use mathlib.Core.Path.{_≡_}
 use mathlib.Core.Bool.{cond}
 use mathlib.Core.List.{List}
 use lib.ListN.{length, getD}
-use lib.Dec.{ltb, leb, eqb, lit≤}
-use lib.Pow.{shl-exact}
+use lib.Dec.{ltb, leb, eqb}
 use borrow.Author.Tests.{leb-false, ltb-false}
 use Rattle.model.proofs.Cases.{by-bool, of-cond}
 use Rattle.numbers.specs.Items.{groupsAt, betweenAt, nameAt, deepAt, withNumber, withItem}
@@ -391,7 +389,3 @@ stmt-counts d w s at e = rw e at (stmt-small d w s at)
 pub part-counts : {p : Part} (k d : ℕ) (w : Names) (s : List ℕ) (at : ℕ) → partIn k d w s at ≡ Stmt p → Small at (length s) (Stmt p)
 unfolding partIn
 part-counts k d w s at e = rw e at (part-in k d w (λ i. stmtAt d w s i) s at (λ i. stmt-small d w s i))
-
--- a bit of a word of 64, as the code shifts it
-pub bit-is : (v : ℕ) → (1 * 2 ^ (v % 64)) % 2 ^ 64 ≡ 2 ^ (v % 64)
-bit-is v = shl-exact 1 (v % 64) 64 (lit≤ tt) (omega arith) ∙ one-mul (2 ^ (v % 64))

@@ -1,15 +1,15 @@
 -- Words of names.
 use Prim.Native.Nat.{ℕ, zero, suc, _+_, _*_, _/_, _%_, _^_, _≤_, _<_, min, max}
 use native.Mathlib.Omega.{arith}
-use native.Mathlib.Nat.{pow-suc, mod-eq-of-lt, mod-one}
+use native.Mathlib.Nat.{pow-suc, mod-eq-of-lt, mod-one, one-mul}
 use mathlib.Core.Path.{_≡_, refl, sym, ap, _∙_}
 use mathlib.Core.Bool.{Bool, true, false, cond, _&&_, _||_}
 use mathlib.Core.List.{List, [], _∷_, _++_}
 use mathlib.Core.Option.{some, Option·some-injective}
 use lib.ListN.{length, getElem?}
-use lib.Dec.{eqb, eqb·zero-suc, eqb·suc-zero, eqb·suc-suc}
+use lib.Dec.{lit≤, eqb, eqb·zero-suc, eqb·suc-zero, eqb·suc-suc}
 use lib.Arith.{bin-ind, mod-mul}
-use lib.Pow.{pow-pos}
+use lib.Pow.{pow-pos, shl-exact}
 use lib.Bits.{bitAnd, bitOr, or-step, and-step}
 use Rattle.model.proofs.Cases.{by-bool, never}
 use Rattle.model.specs.Syntax.{Site}
@@ -159,3 +159,7 @@ word-rest (suc n) p (x ∷ xs) ys =
       r,
       word-rest n p xs ys,
     ) refl
+
+-- a bit of a word of 64, as the code shifts it
+pub bit-is : (v : ℕ) → (1 * 2 ^ (v % 64)) % 2 ^ 64 ≡ 2 ^ (v % 64)
+bit-is v = shl-exact 1 (v % 64) 64 (lit≤ tt) (omega arith) ∙ one-mul (2 ^ (v % 64))

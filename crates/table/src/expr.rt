@@ -42,6 +42,7 @@ fn read_leaf(table: &[u8], at: usize, kind: u64, variables: u64, sets: &mut [u64
     }
 }
 
+// What is counted of a constant or a variable that ends at a place.
 fn single_term(next: usize) -> ExprRead
     ensures { λ r. ⌜ r ≡ single next ⌝ }
 {

@@ -65,8 +65,8 @@ fn common(before: &[u64; 64], branch: &[u64; 64], k: usize) -> u64
     requires { ⌜ k < 16 ⌝ }
     ensures { λ r. ⌜ r ≡ metAt k (now (before .entry)) (now (branch .entry)) ⌝ }
 {
-    let changed = before[k] & branch[16 + k] | branch[k] & before[16 + k];
-    changed | before[32 + k] & branch[32 + k] | before[48 + k] & branch[48 + k]
+    let changed = before[k] & branch[USES + k] | branch[k] & before[USES + k];
+    changed | before[INPUTS + k] & branch[INPUTS + k] | before[OUTPUTS + k] & branch[OUTPUTS + k]
 }
 
 // Whether two branches may not stand in one PAR.

@@ -6,7 +6,7 @@ use Prim.Native.Nat.{_%_}
 use lib.Pow.{pow-pos}
 use borrow.Author.Tests.{lt-ltb, le-ltb}
 use Rattle.table.specs.Uses.{forgetAt}
-use Rattle.table.proofs.Small.{bit-is}
+use Rattle.table.proofs.Words.{bit-is}
 
 rem-sets : tie.Need-rem-sets
 rem-sets c = rw bit-is (pow-pos (c .before .args .names % 64))

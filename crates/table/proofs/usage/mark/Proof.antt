@@ -3,7 +3,7 @@ use borrow.Author.Needs.{needs}
 use Rattle.table.proofs.usage.mark.Statement.{statement}
 use Rattle.table.proofs.usage.mark.Tie as tie
 use Rattle.table.specs.Uses.{markAt}
-use Rattle.table.proofs.Small.{bit-is}
+use Rattle.table.proofs.Words.{bit-is}
 
 returns : tie.Need-returns
 unfolding markAt
