@@ -7,10 +7,13 @@ small         assignments of sums of four constants (at most 1,024 of them)
 pars          PARs of 16 branches, nested 26 deep: 15 SKIPs and the next PAR, in SEQs
 names         PARs of 16 SKIPs in SEQs, with 448 variables and 416 channels in scope
 twos          26 PARs of two, one inside the other, around SEQs of assignments
+twos_skips    the same around SEQs of SKIPs
 branches      PARs of four assignments to four variables each, in SEQs
 ones, none    PARs of one SKIP, PARs without branches, in SEQs
 alts          ALTs of one SKIP guard, nested 26 deep around SEQs of assignments
+alts_skips    the same around SEQs of SKIPs
 skips, scopes SEQs of SKIPs, SEQs of VARs of 32 with a SKIP
+guards        inputs from channel 11 into variable 32, whose last two bytes look like an ALT of 32 guards
 """
 
 import sys
@@ -87,12 +90,17 @@ def with_names(size):
     return before + repeated(par([SKIP] * 16), size - len(before))
 
 
-def in_pars(size):
-    return in_variable(nested(26, lambda s: par([s, SKIP]), repeated(assigned(plus(LONG, LONG)), size - 82)))
+def in_pars(statement, size):
+    return in_variable(nested(26, lambda s: par([s, SKIP]), repeated(statement, size - 82)))
 
 
-def in_alts(size):
-    return in_variable(nested(26, lambda s: [11, 1, 1] + LEAF + s, repeated(assigned(plus(LONG, LONG)), size - 134)))
+def in_alts(statement, size):
+    return in_variable(nested(26, lambda s: [11, 1, 1] + LEAF + s, repeated(statement, size - 134)))
+
+
+def like_guards(size):
+    before = [0, 0] + [5, 32] * 2 + [6, 32]
+    return before + repeated([3, 11, 32], size - len(before))
 
 
 TABLES = {
@@ -102,13 +110,16 @@ TABLES = {
     "small": lambda size: in_variable(repeated(assigned(balanced(2)), size - 4)),
     "pars": lambda size: [0, 0] + repeated(nested(26, lambda s: par([SKIP] * 15 + [s]), SKIP), size - 2),
     "names": with_names,
-    "twos": in_pars,
+    "twos": lambda size: in_pars(assigned(plus(LONG, LONG)), size),
+    "twos_skips": lambda size: in_pars(SKIP, size),
     "branches": lambda size: [0, 0, 5, 4] + repeated(par([assigned(LEAF, v) for v in range(4)]), size - 4),
     "ones": lambda size: [0, 0] + repeated(par([SKIP]), size - 2),
     "none": lambda size: [0, 0] + repeated(par([]), size - 2),
-    "alts": in_alts,
+    "alts": lambda size: in_alts(assigned(plus(LONG, LONG)), size),
+    "alts_skips": lambda size: in_alts(SKIP, size),
     "skips": lambda size: [0, 0] + repeated(SKIP, size - 2),
     "scopes": lambda size: [0, 0] + repeated([5, 32] + SKIP, size - 2),
+    "guards": like_guards,
 }
 
 size = int(sys.argv[2]) if len(sys.argv) > 2 else 16384
