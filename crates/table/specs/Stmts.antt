@@ -1,5 +1,5 @@
--- Statements as the reader answers them, by places of the table, with the sets of names that they change and use. The check of a PAR sees
--- the sets of its branches.
+-- Statements as the reader answers them, by places of the table. What ends in `Uses` or `Use` has the sets of names (02, order 3) behind
+-- what is read there, by those before it; a refusal leaves them as they are by then. The check of a PAR sees the sets of its branches.
 use Prim.Native.Nat.{ℕ, zero, suc, _+_, _-_, _*_, _≤_, max}
 use mathlib.Core.Bool.{Bool, false, cond, _||_}
 use mathlib.Core.List.{List}

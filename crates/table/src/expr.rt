@@ -1,4 +1,4 @@
-// Expressions.
+// Expressions, and the variables that they use.
 ghost use mathlib.Core.Path.{_≡_};
 ghost use Prim.Native.Nat.{_<_, _≤_, max};
 ghost use Rattle.model.specs.Counts.{sidesNeed, orderOf, sidesHold};

@@ -1,4 +1,4 @@
-// Statements: what one reading counts.
+// Statements: what one reading counts, and the sets of names that they change, use, input from and output to.
 ghost use mathlib.Core.Path.{_≡_};
 ghost use Prim.Native.Nat.{_+_, _<_, _≤_};
 ghost use lib.ListN.{length};
