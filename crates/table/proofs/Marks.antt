@@ -415,8 +415,8 @@ left {sc} {inner} {l} {m} {u} {new} f g adds low c k =
         (λ b. rw (two .others h i z a, one .others h i z b, k .word h i z, adds .others h b a) refl)
 
 -- behind a VAR its names leave the sets of variables, behind a CHAN those of channels
-pub variables-left : {sc : Scope} {l m : List ℕ} {u : Usage} (place c cs : ℕ) → length (names place c) ≤ 32 → length (sc .variables) < 1024 → Clean sc l
-    → Marked (withVariables place c sc) l u m → Marked sc l u (leaveAt 5 (length (sc .variables)) cs m)
+pub variables-left : {sc : Scope} {l m : List ℕ} {u : Usage} (place c cs : ℕ) → length (names place c) ≤ 32
+    → length (sc .variables) < 1024 → Clean sc l → Marked (withVariables place c sc) l u m → Marked sc l u (leaveAt 5 (length (sc .variables)) cs m)
 unfolding leaveAt
 variables-left {sc} place c cs few low clean k =
     left changed used-there
@@ -436,8 +436,8 @@ variables-left {sc} place c cs few low clean k =
     other inputs-of a b = refl
     other outputs-of a b = refl
 
-pub channels-left : {sc : Scope} {l m : List ℕ} {u : Usage} (place c vs : ℕ) → length (names place c) ≤ 32 → length (sc .channels) < 1024 → Clean sc l
-    → Marked (withChannels place c sc) l u m → Marked sc l u (leaveAt 6 vs (length (sc .channels)) m)
+pub channels-left : {sc : Scope} {l m : List ℕ} {u : Usage} (place c vs : ℕ) → length (names place c) ≤ 32
+    → length (sc .channels) < 1024 → Clean sc l → Marked (withChannels place c sc) l u m → Marked sc l u (leaveAt 6 vs (length (sc .channels)) m)
 unfolding leaveAt
 channels-left {sc} place c vs few low clean k =
     left inputs-of outputs-of

@@ -11,7 +11,7 @@ use Rattle.model.specs.Reader.{Scope, canInput, canOutput}
 use Rattle.model.specs.Usage.{same}
 use Rattle.table.specs.declared.stmt.Names.{Names}
 
--- a name's number stands for no other of the names, and for it only if it is one of them
+-- a name of one list is a name of the other exactly where their numbers are the same; of a list and itself: each name stands there once
 abbrev pub Fresh : (names inner : List Site) → Type 0
 Fresh names inner = (k v : ℕ) (y x : Site) → getElem? names k ≡ some y → getElem? inner v ≡ some x → same y x ≡ eqb k v
 

@@ -50,9 +50,9 @@ unfoldable pub metAt : (k : ℕ) (before branch : List ℕ) → ℕ
 metAt k b m =
     bitOr
     (bitOr
-    (bitOr (bitAnd (getD b k 0) (getD m (16 + k) 0)) (bitAnd (getD m k 0) (getD b (16 + k) 0)))
-    (bitAnd (getD b (32 + k) 0) (getD m (32 + k) 0)))
-    (bitAnd (getD b (48 + k) 0) (getD m (48 + k) 0))
+    (bitOr (bitAnd (getD b k 0) (getD m (usesSet + k) 0)) (bitAnd (getD m k 0) (getD b (usesSet + k) 0)))
+    (bitAnd (getD b (inputsSet + k) 0) (getD m (inputsSet + k) 0)))
+    (bitAnd (getD b (outputsSet + k) 0) (getD m (outputsSet + k) 0))
 
 -- the same below word k, with some already found
 unfoldable pub metBelow : (k found : ℕ) (before branch : List ℕ) → ℕ

@@ -12,7 +12,6 @@ ghost use Rattle.table.specs.Sets.{Exact};
 ghost use Rattle.table.specs.declared.stmt.StmtRead.the-variants.{Stmt, Refused as NoStmt};
 ghost use Rattle.table.specs.declared.stmt.SumRead.the-variants.{Sum as Total};
 ghost use Rattle.numbers.specs.Items.{withItem};
-ghost use Rattle.numbers.specs.Kinds.{assignKind, outputKind};
 
 // How many names are in scope: variables, channels with the outside ones, outside inputs and outputs.
 pub struct Names {
@@ -167,38 +166,6 @@ fn read_input(table: &[u8], at: usize, names: Names, words: u64, sets: &mut [u64
     }
 }
 
-// An assignment: a variable, which is changed, and its value.
-fn read_assign(table: &[u8], at: usize, depth: u64, names: Names, sets: &mut [u64; 64]) -> StmtRead
-    requires { ⌜ (depth ≤ 32) × Numbered names ⌝ }
-    ensures said { λ r. ⌜ r ≡ simpleAt assignKind depth names (now (table .entry)) at ⌝ }
-    ensures uses { λ r. ⌜ now (sets .exit) ≡ simpleUses assignKind depth names (now (table .entry)) at (now (sets .entry)) ⌝ }
-{
-    match numbers::read_name(table, at, names.variables, 0, 0) {
-        numbers::Item::Item(target, next) => {
-            crate::usage::change(sets, target);
-            let kind = crate::kinds::ASSIGN;
-            read_value(table, next, kind, 2, depth, names.variables, sets)
-        }
-        numbers::Item::Refused(n, p) => StmtRead::Refused(n, p),
-    }
-}
-
-// An output: a channel, which is output to, and a value.
-fn read_output(table: &[u8], at: usize, depth: u64, names: Names, sets: &mut [u64; 64]) -> StmtRead
-    requires { ⌜ (depth ≤ 32) × Numbered names ⌝ }
-    ensures said { λ r. ⌜ r ≡ simpleAt outputKind depth names (now (table .entry)) at ⌝ }
-    ensures uses { λ r. ⌜ now (sets .exit) ≡ simpleUses outputKind depth names (now (table .entry)) at (now (sets .entry)) ⌝ }
-{
-    match numbers::read_name(table, at, names.channels, 0, names.inputs) {
-        numbers::Item::Item(channel, next) => {
-            crate::usage::mark(sets, crate::usage::OUTPUTS, channel);
-            let kind = crate::kinds::OUTPUT;
-            read_value(table, next, kind, 4, depth, names.variables, sets)
-        }
-        numbers::Item::Refused(n, p) => StmtRead::Refused(n, p),
-    }
-}
-
 // The kinds before VAR: SKIP, STOP, assign, input, output.
 fn read_simple(
     table: &[u8],
@@ -216,7 +183,14 @@ fn read_simple(
         return leaf_part(at, 2);
     }
     if kind == crate::kinds::ASSIGN {
-        return read_assign(table, at, depth, names, sets);
+        return match numbers::read_name(table, at, names.variables, 0, 0) {
+            numbers::Item::Item(target, next) => {
+                crate::usage::change(sets, target);
+                let assign = crate::kinds::ASSIGN;
+                read_value(table, next, assign, 2, depth, names.variables, sets)
+            }
+            numbers::Item::Refused(n, p) => StmtRead::Refused(n, p),
+        };
     }
     if kind == crate::kinds::INPUT {
         return match read_input(table, at, names, 3, sets) {
@@ -224,7 +198,14 @@ fn read_simple(
             HeadRead::Refused(n, p) => StmtRead::Refused(n, p),
         };
     }
-    read_output(table, at, depth, names, sets)
+    match numbers::read_name(table, at, names.channels, 0, names.inputs) {
+        numbers::Item::Item(channel, next) => {
+            crate::usage::mark(sets, crate::usage::OUTPUTS, channel);
+            let output = crate::kinds::OUTPUT;
+            read_value(table, next, output, 4, depth, names.variables, sets)
+        }
+        numbers::Item::Refused(n, p) => StmtRead::Refused(n, p),
+    }
 }
 
 // A guard: its kind, its condition, and if it waits for input its channel and its variable.
