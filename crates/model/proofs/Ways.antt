@@ -1,6 +1,6 @@
 -- Quiet paths. Between two significant instructions a process only loads, computes in its registers, stores values in spare words of its
 -- own, moves its workspace and jumps. A path says that from an instruction, with some registers, the next significant instruction is
--- reached, and in how many bytes. It reads the variables in scope and its spare words, so it stays as it is under whatever happens elsewhere.
+-- reached, and in how many bytes. It reads the variables in scope and its spare words, so it stays as it is whatever happens elsewhere.
 use Prim.Native.Nat.{ℕ, suc, _+_, _*_, _≤_}
 use mathlib.Core.Path.{_≡_, refl, sym, subst}
 use mathlib.Core.Logic.{_≢_}

@@ -20,7 +20,7 @@ use Rattle.model.specs.Syntax.{Site}
 use Rattle.model.specs.Reader.{Scope, names, withVariables, withChannels}
 use Rattle.model.specs.Usage.{Usage, nothing, _⊕_, changing, same, isIn}
 use Rattle.model.proofs.Sites.{same-eq}
-use Rattle.table.specs.Uses.{noNames, markAt, changeAt, forgetAt, leaveAt, merged}
+use Rattle.table.specs.Uses.{noNames, markAt, changeAt, forgetAt, merged}
 use Rattle.table.specs.Sets.{wordOf}
 use Rattle.table.specs.Scopes.{Fresh}
 use Rattle.table.proofs.Words.{or-assoc-word, word-or, word-same, word-none, word-of-none, word-one, word-low, word-front, word-rest}
@@ -279,7 +279,8 @@ forgets f n l long few =
     cut : {R : Type 0} (i : ℕ) → (i ≡ n / 64 → R) → (i ≡ n / 64 + 1 → R) → (i ≢ n / 64 → i ≢ n / 64 + 1 → R) → R
     cut i a b c =
         by-bool (eqb i (n / 64)) (λ q. a (eqb-true i (n / 64) q))
-        (λ q. by-bool (eqb i (n / 64 + 1)) (λ r. b (eqb-true i (n / 64 + 1) r)) (λ r. c (eqb-false i (n / 64) q) (eqb-false i (n / 64 + 1) r)))
+        (λ q. by-bool (eqb i (n / 64 + 1)) (λ r. b (eqb-true i (n / 64 + 1) r))
+        (λ r. c (eqb-false i (n / 64) q) (eqb-false i (n / 64 + 1) r)))
 
     cut-far : (i x : ℕ) → i ≢ n / 64 → i ≢ n / 64 + 1 → cutWord n i x ≡ x
     cut-far i x s t = rw (ne-eqb i (n / 64) s, ne-eqb i (n / 64 + 1) t) refl
@@ -367,8 +368,8 @@ cut-word names new p i b few low =
           word-rest 64 p (drop (64 * i) names) new,
         ) refl
 
--- a scope that two kinds of names are added to, and the same scope without them
-record Adds (f g : Field) (sc inner : Scope) (new : List Site) : Type 0 where
+-- a scope that the names of two sets are added to, and the same scope without them
+pub record Adds (f g : Field) (sc inner : Scope) (new : List Site) : Type 0 where
   few : length new ≤ 32
   apart : Apart f g
   back : Apart g f
@@ -378,7 +379,7 @@ record Adds (f g : Field) (sc inner : Scope) (new : List Site) : Type 0 where
   others : (h : Field) → Apart h f → Apart h g → names-of h inner ≡ names-of h sc
 
 -- names that leave their two sets
-left : {sc inner : Scope} {l m : List ℕ} {u : Usage} {new : List Site} (f g : Field) → Adds f g sc inner new
+pub left : {sc inner : Scope} {l m : List ℕ} {u : Usage} {new : List Site} (f g : Field) → Adds f g sc inner new
     → length (names-of f sc) < 1024 → Clean sc l → Marked inner l u m
     → Marked sc l u (forgetAt (base g) (length (names-of f sc)) (forgetAt (base f) (length (names-of f sc)) m))
 left {sc} {inner} {l} {m} {u} {new} f g adds low c k =
@@ -414,13 +415,11 @@ left {sc} {inner} {l} {m} {u} {new} f g adds low c k =
         fields h f (λ s. rw s (in-first i z))
         (λ b. rw (two .others h i z a, one .others h i z b, k .word h i z, adds .others h b a) refl)
 
--- behind a VAR its names leave the sets of variables, behind a CHAN those of channels
-pub variables-left : {sc : Scope} {l m : List ℕ} {u : Usage} (place c cs : ℕ) → length (names place c) ≤ 32
-    → length (sc .variables) < 1024 → Clean sc l → Marked (withVariables place c sc) l u m → Marked sc l u (leaveAt 5 (length (sc .variables)) cs m)
-unfolding leaveAt
-variables-left {sc} place c cs few low clean k =
-    left changed used-there
-    (record {
+-- a VAR adds variables, a CHAN channels
+pub adds-variables : (sc : Scope) (place c : ℕ) → length (names place c) ≤ 32
+    → Adds changed used-there sc (withVariables place c sc) (names place c)
+adds-variables sc place c few =
+    record {
       few = few;
       apart = fields changed used-there (λ e. never (cc)) (λ a. a);
       back = fields used-there changed (λ e. never (cc)) (λ a. a);
@@ -428,7 +427,7 @@ variables-left {sc} place c cs few low clean k =
       second = refl;
       as-many = refl;
       others = λ h a b. other h a b;
-    }) low clean k
+    }
   where
     other : (h : Field) → Apart h changed → Apart h used-there → names-of h (withVariables place c sc) ≡ names-of h sc
     other changed a b = absurd (a .places 0 0 (omega arith) (omega arith) refl)
@@ -436,12 +435,10 @@ variables-left {sc} place c cs few low clean k =
     other inputs-of a b = refl
     other outputs-of a b = refl
 
-pub channels-left : {sc : Scope} {l m : List ℕ} {u : Usage} (place c vs : ℕ) → length (names place c) ≤ 32
-    → length (sc .channels) < 1024 → Clean sc l → Marked (withChannels place c sc) l u m → Marked sc l u (leaveAt 6 vs (length (sc .channels)) m)
-unfolding leaveAt
-channels-left {sc} place c vs few low clean k =
-    left inputs-of outputs-of
-    (record {
+pub adds-channels : (sc : Scope) (place c : ℕ) → length (names place c) ≤ 32
+    → Adds inputs-of outputs-of sc (withChannels place c sc) (names place c)
+adds-channels sc place c few =
+    record {
       few = few;
       apart = fields inputs-of outputs-of (λ e. never (cc)) (λ a. a);
       back = fields outputs-of inputs-of (λ e. never (cc)) (λ a. a);
@@ -449,7 +446,7 @@ channels-left {sc} place c vs few low clean k =
       second = refl;
       as-many = refl;
       others = λ h a b. other h a b;
-    }) low clean k
+    }
   where
     other : (h : Field) → Apart h inputs-of → Apart h outputs-of → names-of h (withChannels place c sc) ≡ names-of h sc
     other changed a b = refl
@@ -457,15 +454,20 @@ channels-left {sc} place c vs few low clean k =
     other inputs-of a b = absurd (a .places 0 0 (omega arith) (omega arith) refl)
     other outputs-of a b = absurd (b .places 0 0 (omega arith) (omega arith) refl)
 
--- more names in scope
-pub clean-more : {sc inner : Scope} {l : List ℕ} → ((f : Field) → length (names-of f sc) ≤ length (names-of f inner)) → Clean sc l
-    → Clean inner l
-clean-more {sc} {inner} h c =
+-- sets that are clean stay so where names are added
+pub clean-added : {f g : Field} {sc inner : Scope} {new : List Site} {l : List ℕ} → Adds f g sc inner new → Clean sc l → Clean inner l
+clean-added {f} {g} {sc} {inner} {new} adds c =
     record {
       long = c .long;
-      low = λ f i z. lt-of-lt-of-le (c .low f i z)
-          (pow-mono {i = length (names-of f sc) - 64 * i} {j = length (names-of f inner) - 64 * i} (omega (arith, h f)));
+      low = λ h i z. lt-of-lt-of-le (c .low h i z)
+          (pow-mono {i = length (names-of h sc) - 64 * i} {j = length (names-of h inner) - 64 * i} (omega (arith, longer h)));
     }
+  where
+    longer : (h : Field) → length (names-of h sc) ≤ length (names-of h inner)
+    longer h =
+        fields h f (λ s. rw (s, adds .first) (omega (arith, length-append (names-of f sc) new)))
+        (λ a. fields h g (λ s. rw (s, adds .second) (omega (arith, length-append (names-of g sc) new)))
+        (λ b. rw (adds .others h a b) (omega arith)))
 
 merged-at : (n : ℕ) (b m : List ℕ) (i : ℕ) → n ≤ length b
     → getD (merged n b m) i 0 ≡ cond (ltb i n) (bitOr (getD b i 0) (getD m i 0)) (getD b i 0)

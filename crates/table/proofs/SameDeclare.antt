@@ -23,7 +23,7 @@ use Rattle.table.specs.declared.stmt.StmtRead.the-variants.{Stmt, Refuse
 use Rattle.table.specs.Scopes.{Scoped}
 use Rattle.table.proofs.SameItems.{Bytes, Same, gives, onwards, count-same}
 use Rattle.table.proofs.Marks.{Field, changed, used-there, inputs-of, outputs-of, names-of, Marked, Clean, InScope}
-use Rattle.table.proofs.Marks.{clean-more, variables-left, channels-left}
+use Rattle.table.proofs.Marks.{Adds, adds-variables, adds-channels, clean-added, left}
 use Rattle.numbers.specs.Items.{betweenAt, withItem}
 use Rattle.table.proofs.SameSimple.{partOf, DeclaredIn, Within, RestIs, StmtIs, own-more, below-more}
 use Rattle.table.proofs.SameSimple.{below-later, lookup-append, numbered-at, length-numbered, declared-wider}
@@ -97,7 +97,7 @@ within-new names1 place c k n x l e =
 record Declares (s : List ℕ) (d : ℕ) (w : Names) (sc : Scope) (place kind : ℕ) (more : ℕ → Scope) (of : ℕ → M.Stmt → M.Stmt) : Type 0 where
   scoped : (c m : ℕ) → place < m → Scoped (moreNames kind c w) (more c) m
   fits : (c : ℕ) → c ≤ 32 → Fits (moreNames kind c w) d
-  clean : (c : ℕ) (l : List ℕ) → Clean sc l → Clean (more c) l
+  clean : (c : ℕ) (l : List ℕ) → c ≤ 32 → Clean sc l → Clean (more c) l
   leaves : (c : ℕ) (l m : List ℕ) (u : Usage) → c ≤ 32 → Clean sc l → Marked (more c) l u m
       → Marked sc l u (leaveAt kind (w .variables) (w .channels) m)
   within : (c m n : ℕ) (u : Usage) → place < m → m ≤ n → Within (more c) m n u → Within sc place n u
@@ -121,7 +121,7 @@ declare-same s d w sc place kind more of at b l inner h =
       ahead = omega (arith, k .there .ahead, r .ahead);
       uses = λ j z.
           rw (q ∙ k .found, h .same-usage c st)
-          (h .leaves c j (stmtUses d (moreNames kind c w) s m j) (usage st) (k .most) z (r .uses j (h .clean c j z)));
+          (h .leaves c j (stmtUses d (moreNames kind c w) s m j) (usage st) (k .most) z (r .uses j (h .clean c j (k .most) z)));
       within = rw (h .same-usage c st)
           (h .within c m n (usage st) (omega (arith, l, k .there .ahead)) (omega (arith, r .ahead)) (r .within));
     })))
@@ -157,49 +157,41 @@ pub variables-same : (s : List ℕ) (d : ℕ) (w : Names) (sc : Scope) (place at
     → Same s (RestIs sc place at (declaredWay 5 d w s at)) NoStmt
     (withItem NoStmt (betweenAt 1 32 s at) (λ c m. declaring c (stmtAt d (moreNames 5 c w) s m)))
     (stmtOf place sc inner isVar at (drop at s))
-unfolding stmtOf need processes firstClash usage
+unfolding stmtOf leaveAt need processes firstClash usage
 variables-same s d w sc place at inner b l h f i e =
     rw e (
     declare-same s d w sc place 5 (λ c. withVariables place c sc) (λ c st. M.VAR place c st) at b l i
     (record {
       scoped = λ c m k. variables-in w sc place c m h k;
       fits = λ c k. (omega (arith, f .0), omega (arith, f .1, k), omega (arith, f .2), f .3, f .4);
-      clean = λ c j z. clean-more {inner = withVariables place c sc} (λ g. more-variables g c) z;
-      leaves = λ c j m u k z r. rw (h .variables)
-          (variables-left place c (w .channels) (rw (length-numbered (declared place) c) k) (omega (arith, h .variables, f .1)) z r);
+      clean = λ c j k z. clean-added (adds c k) z;
+      leaves = λ c j m u k z r. rw (h .variables) (left changed used-there (adds c k) (omega (arith, h .variables, f .1)) z r);
       within = λ c m n u k j r. within-variables sc place c m n u k j r;
       counts = λ c n st. refl;
       same-usage = λ c st. refl;
     }))
   where
-    more-variables : (g : Field) (c : ℕ) → length (names-of g sc) ≤ length (names-of g (withVariables place c sc))
-    more-variables changed c = omega (arith, length-append (sc .variables) (names place c))
-    more-variables used-there c = omega (arith, length-append (sc .variables) (names place c))
-    more-variables inputs-of c = omega arith
-    more-variables outputs-of c = omega arith
+    adds : (c : ℕ) → c ≤ 32 → Adds changed used-there sc (withVariables place c sc) (names place c)
+    adds c k = adds-variables sc place c (rw (length-numbered (declared place) c) k)
 
 pub channels-same : (s : List ℕ) (d : ℕ) (w : Names) (sc : Scope) (place at : ℕ) (inner : Inner) → Bytes s → place < at → Scoped w sc place
     → Fits w (suc d) → InnerIs s d → inner .stmt ≡ readStmt d
     → Same s (RestIs sc place at (declaredWay 6 d w s at)) NoStmt
     (withItem NoStmt (betweenAt 1 32 s at) (λ c m. declaring c (stmtAt d (moreNames 6 c w) s m)))
     (stmtOf place sc inner isChan at (drop at s))
-unfolding stmtOf need processes firstClash usage
+unfolding stmtOf leaveAt need processes firstClash usage
 channels-same s d w sc place at inner b l h f i e =
     rw e (
     declare-same s d w sc place 6 (λ c. withChannels place c sc) (λ c st. M.CHAN place c st) at b l i
     (record {
       scoped = λ c m k. channels-in w sc place c m h k;
       fits = λ c k. (omega (arith, f .0), omega (arith, f .1), omega (arith, f .2, k), f .3, f .4);
-      clean = λ c j z. clean-more {inner = withChannels place c sc} (λ g. more-channels g c) z;
-      leaves = λ c j m u k z r. rw (h .channels)
-          (channels-left place c (w .variables) (rw (length-numbered (declared place) c) k) (omega (arith, h .channels, f .2)) z r);
+      clean = λ c j k z. clean-added (adds c k) z;
+      leaves = λ c j m u k z r. rw (h .channels) (left inputs-of outputs-of (adds c k) (omega (arith, h .channels, f .2)) z r);
       within = λ c m n u k j r. within-channels sc place c m n u k j r;
       counts = λ c n st. refl;
       same-usage = λ c st. refl;
     }))
   where
-    more-channels : (g : Field) (c : ℕ) → length (names-of g sc) ≤ length (names-of g (withChannels place c sc))
-    more-channels changed c = omega arith
-    more-channels used-there c = omega arith
-    more-channels inputs-of c = omega (arith, length-append (sc .channels) (names place c))
-    more-channels outputs-of c = omega (arith, length-append (sc .channels) (names place c))
+    adds : (c : ℕ) → c ≤ 32 → Adds inputs-of outputs-of sc (withChannels place c sc) (names place c)
+    adds c k = adds-channels sc place c (rw (length-numbered (declared place) c) k)

@@ -21,7 +21,8 @@ use Rattle.table.specs.declared.stmt.StmtRead.{StmtRead}
 use Rattle.table.specs.declared.stmt.StmtRead.the-variants.{Stmt, Refused as NoStmt}
 use Rattle.table.specs.Scopes.{Scoped}
 use Rattle.table.proofs.SameItems.{Bytes, Same, gives, onwards, count-same}
-use Rattle.table.proofs.Marks.{changed, used-there, inputs-of, outputs-of, Marked, marked-nothing, marked-merged, clean-none, InScope}
+use Rattle.table.proofs.Marks.{changed, used-there, inputs-of, outputs-of, Marked, marked-nothing, marked-merged, clean-none}
+use Rattle.table.proofs.Marks.{InScope}
 use Rattle.table.specs.declared.stmt.Sum.{Sum}
 use Rattle.table.proofs.SameExpr.{Numbers}
 use Rattle.table.proofs.SameSimple.{first, partOf, Within, RestIs, StmtIs, wider, within-both, within-nothing, DeclaredIn}

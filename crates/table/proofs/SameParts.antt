@@ -269,7 +269,8 @@ loop-same s d w sc place at inner b l h o f i ee es =
         × ConditionIs s 10 d w sc place at e st n
 
     one : (a : M.Stmt) (n : ℕ) (y : StmtRead) → Turn a n y
-        → RestIs sc place at (λ j. mostUse 1 10 d w (λ i. stmtAt d w s i) (innerUses d w s) s at j) a n (gathered 10 (withStmt NoSum y (λ p. Total (added (no-part at) p))))
+        → RestIs sc place at (λ j. mostUse 1 10 d w (λ i. stmtAt d w s i) (innerUses d w s) s at j) a n
+        (gathered 10 (withStmt NoSum y (λ p. Total (added (no-part at) p))))
     one a n y t =
         let e = t .0 in
         let st = t .1 in

@@ -146,7 +146,8 @@ idle-same d w sc s place at k st small none-used is =
     })
 
 -- an expression at the end of a statement without statements inside
-value-same : (kind least d : ℕ) (sc : Scope) (s : List ℕ) (at : ℕ) (of : M.Expr → M.Stmt) (R : M.Stmt → ℕ → StmtRead → Type 0) → Bytes s → Numbers sc
+value-same : (kind least d : ℕ) (sc : Scope) (s : List ℕ) (at : ℕ) (of : M.Expr → M.Stmt) (R : M.Stmt → ℕ → StmtRead → Type 0) → Bytes s
+    → Numbers sc
     → ((e : M.Expr) (n : ℕ) (x : HeadRead) → WholeIs s kind d sc at e n x → R (of e) n (leaf n (max least (asked kind (temporaries e)))))
     → Same s R NoStmt (valueAt kind least d (length (sc .variables)) s at) (onward (readExpr d sc at (drop at s)) (λ e. pure (of e)))
 unfolding valueAt

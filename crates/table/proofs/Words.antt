@@ -106,7 +106,9 @@ word-one (suc n) p (x ∷ names) zero h l m =
     let others = word-same n p (λ y. false) names (λ k y i e. h (suc k) y (omega (arith, i)) e ∙ eqb·suc-zero k) in
     rw (h 0 x (omega arith) refl, others, word-none n names) refl
 word-one (suc n) p (x ∷ names) (suc v) h l m =
-    rw (h 0 x (omega arith) refl, eqb·zero-suc v, word-one n p names v (λ k y i e. h (suc k) y (omega (arith, i)) e ∙ eqb·suc-suc k v) (omega (arith, l)) (omega (arith, m)))
+    let others = word-one n p names v (λ k y i e. h (suc k) y (omega (arith, i)) e ∙ eqb·suc-suc k v) (omega (arith, l))
+    (omega (arith, m)) in
+    rw (h 0 x (omega arith) refl, eqb·zero-suc v, others)
     (omega (arith, pow-suc 2 v))
 
 -- a word is 0 if no name passes
