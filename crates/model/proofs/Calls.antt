@@ -14,11 +14,11 @@ use Rattle.model.specs.Word.{low}
 use Rattle.model.specs.Syntax.{outputOf}
 use Rattle.model.specs.Accept.{limit}
 use Rattle.model.specs.Machine.{World, done, memorySize}
-use Rattle.model.specs.Run.{After, unchanged, worldOf, shortMemory, runFrom, run}
+use Rattle.model.specs.Run.{After, unchanged, worldOf, shortMemory, run}
 use Rattle.model.specs.Outside.{taking, offered, offerUnless, took, takeUnless, offer, take}
 use Rattle.model.specs.Occam.{State, Communication, Event, offers, takes, Sender, held, nobody}
 use Rattle.model.specs.Demand.{Segment, outside, talkOf}
-use Rattle.model.specs.History.{Call, callRun, callOffer, callTake, Moment, quietly, bytes, during, call, history, offerEvent}
+use Rattle.model.specs.History.{Call, callRun, callOffer, callTake, Moment, quietly, during, call, history, offerEvent}
 use Rattle.model.specs.History.{takeEvent}
 use Rattle.model.specs.declared.Machine.{Machine}
 use Rattle.model.specs.declared.Setup.{Setup}
@@ -39,33 +39,18 @@ use Rattle.model.proofs.Offers.{offers-does}
 use Rattle.model.proofs.Agreement.{inv-no-fault}
 use Rattle.model.proofs.Chains.{Chain, chain-nil, chain-other, chain-append}
 use Rattle.model.proofs.Lending.{inv-lent, inv-room}
-use Rattle.model.proofs.Histories.{or-left, or-right, bound, follows, ran, run-bytes}
+use Rattle.model.proofs.Runs.{TooLittle, Goes, run-goes}
+use Rattle.model.proofs.Recorded.{or-left, or-right, during-short, during-goes}
+use Rattle.model.proofs.Histories.{bound, follows, ran, run-bytes}
 
 module _ (m : Machine) (code memory : List ℕ) (budget : ℕ) where
-  -- a run that is lent enough, of a machine without a fault
-  run-is : ltb (length code) (m .setup .code) ≡ false → shortMemory m memory ≡ false → m .fault ≡ NoFault
-      → (run m code memory budget .machine ≡ runFrom budget code 0 (worldOf m memory) .world .machine)
-      × (run m code memory budget .memory ≡ runFrom budget code 0 (worldOf m memory) .world .memory)
-  unfolding run
-  run-is a b c = (rw (a, b, c), rw (a, b, c))
-
-  during-is : (rest : List ℕ) → ltb (length code) (m .setup .code) ≡ false → shortMemory m memory ≡ false → m .fault ≡ NoFault
-      → during m code memory rest budget ≡ bytes budget code rest (worldOf m memory)
-  unfolding during
-  during-is rest a b c = rw (a, b, c)
-
   -- a run that is lent too little
-  run-short : (ltb (length code) (m .setup .code) || shortMemory m memory) ≡ true
+  run-short : TooLittle m code memory
       → (run m code memory budget .machine ≡ m) × (run m code memory budget .memory ≡ memory)
   unfolding run
   run-short z =
       by-bool (ltb (length code) (m .setup .code)) (λ e. (rw e, rw e))
       (λ e. by-bool (shortMemory m memory) (λ w. (rw (e, w), rw (e, w))) (λ w. never (cc (rw (e, w) at z))))
-
-  during-short : (rest : List ℕ) → (ltb (length code) (m .setup .code) || shortMemory m memory) ≡ true
-      → during m code memory rest budget ≡ []
-  unfolding during
-  during-short rest z = rw z
 
 -- a front that is longer than a list is the list with something behind it
 take-past : (a b : List ℕ) (n : ℕ) → length a ≤ n → Ls.take n (a ++ b) ≡ a ++ Ls.take (n - length a) b
@@ -250,12 +235,12 @@ module _ (L : Loaded) where
 
     module _ (part rest : List ℕ) (e : part ++ rest ≡ memory) (budget : ℕ) where
       -- a run that is lent too little
-      run-refused : (code : List ℕ) → (ltb (length code) (m .setup .code) || shortMemory m part) ≡ true
+      run-refused : (code : List ℕ) → TooLittle m code part
           → RunEnd rest (during m code part rest budget) (run m code part budget .machine) (run m code part budget .memory)
       run-refused code z =
           let (a, b) = run-short m code part budget z in
           let kept : Inv L (worldOf m (part ++ rest)) st n = subst (λ y. Inv L (worldOf m y) st n) (sym e) inv in
-          rw (during-short m code part budget rest z, a, b)
+          rw (during-short m code part rest z budget, a, b)
           (run-end (([] ∷ []) ++ ([] ∷ [])) (sim st n kept few)
           (chain-append (same-moment memory refl inv) (same-moment (part ++ rest) refl kept)))
 
@@ -265,9 +250,9 @@ module _ (L : Loaded) where
           (run m (L .code ++ more) part budget .memory)
       run-whole more a b =
           let code = L .code ++ more in
-          let (f, g) = run-is m code part budget a b ok in
+          let g : Goes m code part = record { code-long = a; memory-long = b; no-fault = ok } in
           elim (run-bytes L more rest budget 0 (worldOf m part) st n refl (lent-part part rest e b) few) [
-            | ran t c em er inv′ few′ ↦ rw (during-is m code part budget rest a b ok, f, g, em, er) (run-ends rest t c inv′ few′)
+            | ran t c em er inv′ few′ ↦ rw (during-goes m code part rest g budget, run-goes g budget, em, er) (run-ends rest t c inv′ few′)
           ]
 
       -- a run that is lent a part of the code with anything behind it

@@ -1,7 +1,8 @@
 -- Stretches of code: the instructions that stand from one index up to another, and how a stretch is cut in two.
 use Prim.Native.Nat.{ℕ, suc, _+_, _^_, _<_}
 use native.Mathlib.Omega.{arith}
-use mathlib.Core.Path.{_≡_, _∙_, subst}
+use native.Mathlib.Nat.{add-zero, zero-add}
+use mathlib.Core.Path.{_≡_, refl, _∙_, subst}
 use mathlib.Core.List.{List, [], _∷_, _++_}
 use mathlib.Core.Option.{some}
 use lib.ListN.{length, getElem?}
@@ -24,6 +25,17 @@ apart (y ∷ ys) (at e g) = elim (apart ys g) [ split g₁ g₂ ↦ split (at e 
 pub seg-length : {xs ys : List Instruction} {i i′ : ℕ} → Seg xs i ys i′ → i′ ≡ i + length ys
 seg-length nil = omega arith
 seg-length (at e g) = omega (arith, seg-length g)
+
+-- a list stands in itself
+seg-from : (xs zs : List Instruction) (i k : ℕ) → k ≡ i + length zs
+    → ((j : ℕ) (y : Instruction) → getElem? zs j ≡ some y → getElem? xs (i + j) ≡ some y) → Seg xs i zs k
+seg-from xs [] i k e h = let same : k ≡ i = omega arith in rw same nil
+seg-from xs (z ∷ zs) i k e h =
+    at (rw (add-zero i) at (h 0 z refl))
+    (seg-from xs zs (suc i) k (omega arith) (λ j y q. let next : i + suc j ≡ suc i + j = omega arith in rw next at (h (suc j) y q)))
+
+pub seg-whole : (xs : List Instruction) → Seg xs 0 xs (length xs)
+seg-whole xs = seg-from xs xs 0 (length xs) (omega arith) (λ j y e. rw (zero-add j) e)
 
 -- the same with the index in between given
 pub cut : {xs : List Instruction} {i i′ : ℕ} (ys : List Instruction) {zs : List Instruction} (m : ℕ) → i + length ys ≡ m

@@ -1,10 +1,9 @@
 -- From one byte to a run, and from a call to every list of calls: the Occam run that grows with the list.
 use Prim.Native.Nat.{ℕ, zero, suc, _+_, _*_, _≤_}
 use native.Mathlib.Omega.{arith}
-use native.Mathlib.Nat.{zero-add}
 use mathlib.Core.Path.{_≡_, refl, sym, ap, _∙_}
-use mathlib.Core.Bool.{Bool, true, false, _||_}
-use mathlib.Core.List.{List, [], _∷_, _++_, map, append-nil}
+use mathlib.Core.Bool.{true, false, _||_}
+use mathlib.Core.List.{List, [], _∷_, _++_, map}
 use lib.ListN.{length}
 use Rattle.model.specs.Accept.{limit}
 use Rattle.model.specs.Machine.{World, done}
@@ -12,7 +11,7 @@ use Rattle.model.specs.Run.{Finish, worldOf, byte, ended, waits, runFrom
 use Rattle.model.specs.Occam.{State, Communication, Event}
 use Rattle.model.specs.Demand.{Segment, talkOf, Follows}
 use Rattle.model.specs.History.{Moment, executed, bytes}
-use Rattle.model.proofs.Cases.{never, by-bool}
+use Rattle.model.proofs.Cases.{by-bool}
 use Rattle.model.proofs.Points.{whole}
 use Rattle.model.proofs.Most.{most}
 use Rattle.model.proofs.Kernel.{Loaded, S, size}
@@ -21,57 +20,10 @@ use Rattle.model.proofs.Running.{Inv, Did, came}
 use Rattle.model.proofs.Finish.{inv-setup}
 use Rattle.model.proofs.OneByte.{code-is, Byte, byte-goes}
 use Rattle.model.proofs.Agreement.{inv-agrees}
-use Rattle.model.proofs.RunSteps.{run-waits, run-ends, run-spent, run-on}
-use Rattle.model.proofs.Runs.{run-behind}
+use Rattle.model.proofs.RunSteps.{run-on}
+use Rattle.model.proofs.Recorded.{or-left, or-right, run-stays, bytes-stay, run-none, bytes-go, run-afresh}
 use Rattle.model.proofs.Chains.{Chain, chain-nil, chain-byte}
 use Rattle.model.proofs.Lending.{byte-lent, inv-lent, inv-few, inv-room}
-
-pub or-left : (a c : Bool) → (a || c) ≡ false → a ≡ false
-or-left true c e = never (cc)
-or-left false c e = refl
-
-pub or-right : (a c : Bool) → (a || c) ≡ false → c ≡ false
-or-right true c e = never (cc)
-or-right false c e = e
-
-module _ (code : List ℕ) where
-  -- a machine that has ended or waits runs no byte
-  run-stays : (b n : ℕ) (s : World) → (ended (s .machine) || waits (s .machine)) ≡ true → runFrom b code n s .world ≡ s
-  run-stays b n s z =
-      by-bool (ended (s .machine)) (λ e. ap (λ (f : Finish). f .world) (run-ends code n s b e))
-      (λ e. by-bool (s .machine .cpu .running) (λ r. never (cc (rw (e, r) at z)))
-      (λ r. ap (λ (f : Finish). f .world) (run-waits code n s b r)))
-
-  bytes-stay : (b : ℕ) (rest : List ℕ) (s : World) → (ended (s .machine) || waits (s .machine)) ≡ true → bytes b code rest s ≡ []
-  unfolding bytes
-  bytes-stay zero rest s z = refl
-  bytes-stay (suc b) rest s z = rw z
-
-  -- nor does one without a budget
-  run-none : (n : ℕ) (s : World) → runFrom zero code n s .world ≡ s
-  run-none n s =
-      by-bool (ended (s .machine) || waits (s .machine)) (run-stays zero n s)
-      (λ z. ap (λ (f : Finish). f .world)
-      (run-spent code n s (or-left (ended (s .machine)) (waits (s .machine)) z) (or-right (ended (s .machine)) (waits (s .machine)) z)))
-
-  bytes-go : (b : ℕ) (rest : List ℕ) (s t : World) → ended (s .machine) ≡ false → waits (s .machine) ≡ false → byte code s ≡ done tt t
-      → bytes (suc b) code rest s ≡ executed t rest ∷ bytes b code rest (worldOf (t .machine) (t .memory))
-  unfolding bytes
-  bytes-go b rest s t e w d = rw (e, w, d)
-
-  -- what was communicated before changes nothing of where a run comes
-  run-afresh : (b n : ℕ) (t : World)
-      → (runFrom b code n t .world .machine ≡ runFrom b code n (worldOf (t .machine) (t .memory)) .world .machine)
-      × (runFrom b code n t .world .memory ≡ runFrom b code n (worldOf (t .machine) (t .memory)) .world .memory)
-  run-afresh b n t =
-      let w = worldOf (t .machine) (t .memory) in
-      let same : runFrom b code n t ≡ runFrom b code (0 + n) (record { machine = t .machine; memory = t .memory; talk = t .talk ++ [] }) =
-      ap (λ l. runFrom b code n (record { machine = t .machine; memory = t .memory; talk = l })) (sym (append-nil (t .talk)))
-      ∙ ap (λ z. runFrom b code z (record { machine = t .machine; memory = t .memory; talk = t .talk ++ [] })) (sym (zero-add n)) in
-      let all = same ∙ run-behind code b 0 n (t .talk) w in (
-        ap (λ (f : Finish). f .world .machine) all,
-        ap (λ (f : Finish). f .world .memory) all,
-      )
 
 module _ (L : Loaded) where
   abbrev pub bound : ℕ

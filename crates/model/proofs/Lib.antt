@@ -5,8 +5,10 @@ pub mod Needs
 pub mod Well
 pub mod Readers
 pub mod Accepts
+pub mod Never8
 pub mod Lays
 pub mod RoundTrip
+pub mod Shortest
 pub mod Sizes
 pub mod Fits
 pub mod Realise
@@ -31,6 +33,7 @@ pub mod Onwards
 pub mod Leaves
 pub mod Stays
 pub mod Effects
+pub mod Performed
 pub mod Acts
 pub mod Queues
 pub mod Kernel
@@ -69,9 +72,14 @@ pub mod Tellings
 pub mod Offers
 pub mod Stuckness
 pub mod Agreement
+pub mod Keeping
+pub mod Made
 pub mod Regular
 pub mod RunSteps
 pub mod Runs
+pub mod Recorded
+pub mod Settled
+pub mod Reported
 pub mod Chains
 pub mod Lending
 pub mod Histories

@@ -1,28 +1,24 @@
 -- A byte, an offer and a take keep the setup, the kept fault and the words beyond the machine's memory, and only add to the communications.
-use Prim.Native.Nat.{ℕ, _/_, _<_}
+use Prim.Native.Nat.{ℕ, _<_}
 use mathlib.Core.Path.{_≡_, refl, _∙_}
 use mathlib.Core.Bool.{Bool, cond}
 use mathlib.Core.List.{List, _++_, append-assoc}
-use mathlib.Core.Option.{none, some}
 use lib.ListN.{length, set, drop, length-set}
 use lib.Seq.{drop-set-lt}
-use lib.Dec.{ltb, leb}
+use lib.Dec.{ltb, leb, eqb}
 use borrow.Author.Tests.{ltb-true}
-use Rattle.model.specs.Instruction.{Operation, rev, endp, diff, «in», prod, gt, startp, outword, stopp, ldpi, disc, diss, xor, mint}
-use Rattle.model.specs.Instruction.{alt, altwt, altend, and, enbc, enbs, or, sum, operationOf}
-use Rattle.model.specs.Instruction.{Function, j, ldlp, ldc, ldl, cj, ajw, eqc, stl, opr, functionOf}
 use Rattle.model.specs.Machine.{Talk, World, Result, done, faults, Act, next, _>>=_, _>>_, return, fault, machineWith, withMemory}
 use Rattle.model.specs.Machine.{registers, setRegisters, setup, communicate, memorySize, peek, poke, testPlace, resume, takeFront}
 use Rattle.model.specs.Machine.{release, join}
-use Rattle.model.specs.Execute.{jump, loadLocal, storeLocal, conditionalJump, startProcess, endProcess, stopProcess, waitAt}
-use Rattle.model.specs.Execute.{dropOffer, receive, received, heldAt, inputWord, inputMessage, notify, deliver, outputWord, beginAlt}
-use Rattle.model.specs.Execute.{setReady, enableReady, enableChannel, enableSkip, waitAlt, select, disableReady, disableChannel}
-use Rattle.model.specs.Execute.{disableSkip, endAlt, operate, execute}
-use Rattle.model.specs.Run.{fetch, act, land, byte}
-use Rattle.model.specs.Outside.{hold, waking, offering, outputWordOf, looking, taking}
+use Rattle.model.specs.Execute.{dropOffer, heldAt}
+use Rattle.model.specs.Run.{byte}
+use Rattle.model.specs.Outside.{hold, offering, outputWordOf, taking}
 use Rattle.model.specs.declared.Cpu.{Cpu}
 use Rattle.model.specs.declared.FaultKind.{FaultKind}
-use Rattle.model.proofs.Cases.{by-bool, of-cond, by-option}
+use Rattle.model.proofs.Cases.{by-bool, of-cond}
+use Rattle.model.proofs.Made.{Made, binds, reads, sets, returns, fails, sets-up, communicates, drops, asks, holds, outputs}
+use Rattle.model.proofs.Made.{peeks, pokes, tests, releases, joins}
+use Rattle.model.proofs.Made.{of-byte as made-byte, of-offering as made-offering, of-taking as made-taking}
 
 -- a world with the communications t before its own
 abbrev pub behind : List Talk → World → World
@@ -84,11 +80,11 @@ picks : {A : Type 0} (b : Bool) {x y : Act A} → Regular x → Regular y → Re
 picks b h k = of-cond Regular b h k
 
 -- the acts that the others are made of
-pub returns : {A : Type 0} (a : A) → Regular (return a)
-returns a = record { from = λ t s. both-done a same-rest }
+pub returned : {A : Type 0} (a : A) → Regular (return a)
+returned a = record { from = λ t s. both-done a same-rest }
 
-fails : {A : Type 0} (k : FaultKind) → Regular {A = A} (fault k)
-fails k = record { from = λ t s. both-fault k }
+failed : {A : Type 0} (k : FaultKind) → Regular {A = A} (fault k)
+failed k = record { from = λ t s. both-fault k }
 
 of-registers : Regular registers
 of-registers = record { from = λ t s. both-done _ same-rest }
@@ -141,114 +137,60 @@ of-testPlace p =
           by-bool (leb p (s .machine .setup .code)) (λ e. rw e (both-done tt same-rest)) (λ e. rw e (both-fault _));
     }
 
--- every act of the machine is made of these
-ruleset parts = (
-  bind,
-  seq,
-  picks,
-  returns,
-  fails,
-  of-registers,
-  of-setRegisters,
-  of-setup,
-  of-communicate,
-  of-dropOffer,
-  of-heldAt,
-  of-peek,
-  of-poke,
-  of-testPlace,
-)
-
-of-resume : (w : ℕ) → Regular (resume w)
-unfolding resume
-of-resume w = search parts
-
-of-release : Regular release
-unfolding release takeFront
-of-release = search (parts, of-resume) depth 10
-
-of-join : (w : ℕ) → Regular (join w)
-unfolding join
-of-join w = search (parts, of-resume) depth 10
-
-ruleset acts = (parts, of-release, of-join)
-
-of-operate : (o : Operation) → Regular (operate o)
-unfolding operate startProcess endProcess stopProcess waitAt receive received inputWord inputMessage notify deliver outputWord
-    beginAlt setReady enableReady enableChannel enableSkip waitAlt select disableReady disableChannel disableSkip endAlt
-of-operate rev = search acts
-of-operate sum = search acts
-of-operate diff = search acts
-of-operate prod = search acts
-of-operate gt = search acts
-of-operate and = search acts
-of-operate or = search acts
-of-operate xor = search acts
-of-operate mint = search acts
-of-operate ldpi = search acts
-of-operate startp = search acts
-of-operate endp = search acts depth 10
-of-operate stopp = search acts
-of-operate «in» = search acts depth 20
-of-operate outword = search acts depth 20
-of-operate alt = search acts
-of-operate enbc = search acts depth 20
-of-operate enbs = search acts depth 20
-of-operate altwt = search acts depth 20
-of-operate disc = search acts depth 20
-of-operate diss = search acts depth 20
-of-operate altend = search acts
-
-of-execute : (f : Function) (n : ℕ) → Regular (execute f n)
-unfolding execute jump loadLocal storeLocal conditionalJump
-of-execute j n = search acts depth 10
-of-execute ldlp n = search acts
-of-execute ldc n = search acts
-of-execute ldl n = search acts
-of-execute cj n = search acts
-of-execute ajw n = search acts
-of-execute eqc n = search acts
-of-execute stl n = search acts
-of-execute opr n = by-option (operationOf n) (λ e. rw e (fails _)) (λ o e. rw e (of-operate o))
-
-of-act : (b : ℕ) → Regular (act b)
-unfolding act
-of-act b = by-option (functionOf (b / 16)) (λ e. rw e (search parts depth 10)) (λ f e. rw e (search (parts, of-execute) depth 10))
-
-pub of-byte : (code : List ℕ) → Regular (byte code)
-unfolding byte fetch land
-of-byte code = search (parts, of-act) depth 10
-
 of-hold : (k v : ℕ) → Regular (hold k v)
 of-hold k v = record { from = λ t s. both-done tt same-rest }
-
-of-land : Regular land
-unfolding land
-of-land = search parts
-
-of-waking : {act : Act (Unit {0})} → Regular act → Regular (waking act)
-unfolding waking
-of-waking h = bind of-registers (λ r. seq h (picks (r .running) (returns tt) of-land))
-
-pub of-offering : (k v : ℕ) → Regular (offering k v)
-unfolding offering notify deliver received
-of-offering k v = of-waking (search (acts, of-hold) depth 20)
 
 of-outputWordOf : (k : ℕ) → Regular (outputWordOf k)
 of-outputWordOf k = record { from = λ t s. both-done _ same-rest }
 
-of-looking : (k : ℕ) → Regular (looking k)
-unfolding looking receive
-of-looking k = search (parts, of-outputWordOf) depth 10
+of-resume : (w : ℕ) → Regular (resume w)
+unfolding resume
+of-resume w = bind (of-peek _) (λ p. bind of-registers (λ r. of-setRegisters _))
 
-of-received : (c p v : ℕ) → Regular (received c p v)
-unfolding received
-of-received c p v = search acts
+of-release : Regular release
+unfolding release takeFront
+of-release =
+    bind of-registers
+    (λ r. picks (r .queued)
+    (bind of-registers
+    (λ q. seq (picks (eqb (q .front) (q .back)) (of-setRegisters _) (bind (of-peek _) (λ f. of-setRegisters _))) (of-resume (q .front))))
+    (of-setRegisters _))
+
+of-join : (w : ℕ) → Regular (join w)
+unfolding join
+of-join w =
+    bind of-registers
+    (λ r. picks (r .running)
+    (picks (r .queued) (seq (of-poke _ _) (of-setRegisters _)) (of-setRegisters _))
+    (seq (of-setRegisters _) (of-resume w)))
+
+-- every act of the machine is made of these
+abbrev AnyRegisters : Cpu → Type 0
+AnyRegisters r = Unit {0}
+
+regular : {A : Type 0} {a : Act A} → Made AnyRegisters A a → Regular a
+regular (binds h k) = bind (regular h) (λ x. regular (k x))
+regular (reads k) = bind of-registers (λ r. regular (k r tt))
+regular (sets r h) = of-setRegisters r
+regular (returns a) = returned a
+regular (fails k) = failed k
+regular sets-up = of-setup
+regular (communicates c v) = of-communicate c v
+regular (drops c) = of-dropOffer c
+regular (asks c) = of-heldAt c
+regular (holds k v) = of-hold k v
+regular (outputs k) = of-outputWordOf k
+regular (peeks a) = of-peek a
+regular (pokes a v) = of-poke a v
+regular (tests p) = of-testPlace p
+regular releases = of-release
+regular (joins w) = of-join w
+
+pub of-byte : (code : List ℕ) → Regular (byte code)
+of-byte code = regular (made-byte (λ r q h e f. tt) code)
+
+pub of-offering : (k v : ℕ) → Regular (offering k v)
+of-offering k v = regular (made-offering (λ r q h e f. tt) k v)
 
 pub of-taking : (k : ℕ) → Regular (taking k)
-unfolding taking
-of-taking k =
-    bind (of-looking k)
-    (λ v. by-option v (λ e. rw e (returns none))
-    (λ w e. rw e
-    (bind (of-outputWordOf k) (λ c. bind (of-peek c) (λ p. seq (of-waking (of-received c p w)) (returns (some w)))))))
+of-taking k = regular (made-taking (λ r q h e f. tt) k)

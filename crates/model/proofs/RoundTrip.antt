@@ -15,7 +15,7 @@ use Rattle.model.specs.Instruction.{Function, j, ldlp, ldc, ldl, cj, ajw
 use Rattle.model.specs.Prefix.{shifted, firstPrefix, prefixes, withPrefixes, enough, fewestFrom, fewest, pfixed, nfixed, decode}
 
 -- how far a signed word is from 0 or, below 0, from -1
-abbrev magnitude : ℕ → ℕ
+abbrev pub magnitude : ℕ → ℕ
 magnitude n = min n (2 ^ 32 - 1 - n)
 
 -- the two ways a word is read signed
@@ -125,7 +125,7 @@ enough-zero n h = go (sign n)
     go (from-zero s e p f) = ltb-true _ _ (sym (f 0) ∙ h)
     go (below-zero s e p f) = let z : 1 ≤ 0 = leb-true 1 0 (sym (f 0) ∙ h) in omega arith
 
-magnitude-enough : (k n : ℕ) → 1 ≤ k → magnitude n < 16 ^ suc k → enough k n ≡ true
+pub magnitude-enough : (k n : ℕ) → 1 ≤ k → magnitude n < 16 ^ suc k → enough k n ≡ true
 magnitude-enough k n one h = go (sign n)
   where
     go : Sign n → enough k n ≡ true

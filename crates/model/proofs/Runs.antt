@@ -3,7 +3,7 @@ use Prim.Native.Nat.{ℕ, zero, suc, _+_}
 use native.Mathlib.Omega.{arith}
 use native.Mathlib.Nat.{zero-add, suc-add, add-suc, add-zero}
 use mathlib.Core.Path.{_≡_, refl, ap, _∙_}
-use mathlib.Core.Bool.{false, _&&_}
+use mathlib.Core.Bool.{true, false, _&&_, _||_}
 use mathlib.Core.List.{List, [], append-nil}
 use lib.ListN.{length, getD, drop}
 use lib.Dec.{ltb}
@@ -20,13 +20,13 @@ use Rattle.model.specs.declared.Outcome.{Outcome}
 use Rattle.model.specs.declared.Outcome.the-variants.{Ended, Waiting, Spent, Fault as RunFault}
 use Rattle.model.specs.declared.RunAnswer.the-variants.{Ran, Short as RunShort}
 use Rattle.model.proofs.Cases.{by-bool, of-cond, never}
-use Rattle.model.proofs.Regular.{behind, Same, Regular, by-alike, seq, returns, of-byte, of-offering, of-taking}
+use Rattle.model.proofs.Regular.{behind, Same, Regular, by-alike, seq, returned, of-byte, of-offering, of-taking}
 
 pub by-result : {A R : Type 0} (r : Result A) → ((a : A) (s : World) → r ≡ done a s → R) → ((k : FaultKind) → r ≡ faults k → R) → R
 by-result (done a s) d f = d a s refl
 by-result (faults k) d f = f k refl
 
-by-kept : {R : Type 0} (k : Kept) → (k ≡ Nothing → R) → ((f : FaultKind) → k ≡ KeptFault f → R) → R
+pub by-kept : {R : Type 0} (k : Kept) → (k ≡ Nothing → R) → ((f : FaultKind) → k ≡ KeptFault f → R) → R
 by-kept Nothing n f = n refl
 by-kept (KeptFault k) n f = f k refl
 
@@ -34,7 +34,7 @@ one-more : (n : ℕ) → 1 + n ≡ suc n
 one-more n = omega arith
 
 -- a finish with n instructions and the communications t before it
-abbrev preceded : ℕ → List Talk → Finish → Finish
+abbrev pub preceded : ℕ → List Talk → Finish → Finish
 preceded n t f = record { outcome = counted n (f .outcome); world = behind t (f .world) }
 
 -- with b more to spend, only a spent run goes on
@@ -83,7 +83,7 @@ module _ (code : List ℕ) where
   took-more b s s′ t (Spent n) e (h, l) = (rw (one-more n, e) h, omega arith)
   took-more b s s′ t (RunFault n k) e (u, h, f, w, l) = (u, rw (one-more n, e) h, f, w, omega arith)
 
-  took : (b : ℕ) (s : World) → let f = runFrom b code 0 s in Took code b s (f .world) (f .outcome)
+  pub took : (b : ℕ) (s : World) → let f = runFrom b code 0 s in Took code b s (f .world) (f .outcome)
   unfolding runFrom bytes
   took zero s =
       by-bool (ended (s .machine)) (λ e. rw e (refl, omega arith))
@@ -99,10 +99,10 @@ module _ (code : List ℕ) where
 
   of-bytes : (n : ℕ) → Regular (bytes n code)
   unfolding bytes
-  of-bytes zero = returns tt
+  of-bytes zero = returned tt
   of-bytes (suc n) = seq (of-byte code) (of-bytes n)
 
-  bytes-same : (n : ℕ) {s t : World} → bytes n code s ≡ done tt t → Same s t
+  pub bytes-same : (n : ℕ) {s t : World} → bytes n code s ≡ done tt t → Same s t
   bytes-same n {s} {t} e =
       by-alike (of-bytes n .from [] s) (λ a s′ p q h. let w : s′ ≡ t = cc in rw w at h) (λ k p q. never (cc))
 
@@ -115,25 +115,29 @@ module _ (code : List ℕ) where
   took-beyond b s t (RunFault n k) (u, h, f, w, l) = let same = bytes-same n h in rw w (same .length-same, same .beyond-same)
 
 -- a run that is not refused, with no fault kept
-record Goes (m : Machine) (code memory : List ℕ) : Type 0 where
-  code-long : ltb (length code) (m .setup .code) ≡ false
-  memory-long : shortMemory m memory ≡ false
-  no-fault : m .fault ≡ Nothing
+pub record Goes (m : Machine) (code memory : List ℕ) : Type 0 where
+  pub code-long : ltb (length code) (m .setup .code) ≡ false
+  pub memory-long : shortMemory m memory ≡ false
+  pub no-fault : m .fault ≡ Nothing
 
-run-goes : {m : Machine} {code memory : List ℕ} → Goes m code memory → (b : ℕ)
+pub run-goes : {m : Machine} {code memory : List ℕ} → Goes m code memory → (b : ℕ)
     → run m code memory b ≡ finished (runFrom b code 0 (worldOf m memory))
 unfolding run
 run-goes g b = rw (g .code-long, g .memory-long, g .no-fault)
 
+-- a run is lent too little
+abbrev pub TooLittle : Machine → (code memory : List ℕ) → Type 0
+TooLittle m code memory = (ltb (length code) (m .setup .code) || shortMemory m memory) ≡ true
+
 -- whatever its budget, a run is refused, answers the kept fault, or goes
-by-run : {R : Type 0} (m : Machine) (code memory : List ℕ)
-    → ((k : ℕ) → ((b : ℕ) → run m code memory b ≡ unchanged (RunShort k) m memory) → R)
+pub by-run : {R : Type 0} (m : Machine) (code memory : List ℕ)
+    → ((k : ℕ) → TooLittle m code memory → ((b : ℕ) → run m code memory b ≡ unchanged (RunShort k) m memory) → R)
     → ((k : FaultKind) → m .fault ≡ KeptFault k → ((b : ℕ) → run m code memory b ≡ unchanged (Ran (RunFault 0 k)) m memory) → R)
     → (Goes m code memory → R) → R
 unfolding run
 by-run m code memory short kept goes =
-    by-bool (ltb (length code) (m .setup .code)) (λ c. short (m .setup .code) (λ b. rw c))
-    (λ c. by-bool (shortMemory m memory) (λ l. short (memorySize (m .setup)) (λ b. rw (c, l)))
+    by-bool (ltb (length code) (m .setup .code)) (λ c. short (m .setup .code) (rw c) (λ b. rw c))
+    (λ c. by-bool (shortMemory m memory) (λ l. short (memorySize (m .setup)) (rw (c, l)) (λ b. rw (c, l)))
     (λ l. by-kept (m .fault) (λ n. goes (record { code-long = c; memory-long = l; no-fault = n })) (λ k f. kept k f (λ b. rw (c, l, f)))))
 
 -- where a spent run stopped, another goes
@@ -154,7 +158,7 @@ splits-at {code} g a b (Spent n) w (h, l) =
 
 pub run-splits : Splits
 run-splits m code memory a b =
-    by-run m code memory (λ k e. rw (e (a + b), e a)) (λ k f e. rw (e (a + b), e a))
+    by-run m code memory (λ k z e. rw (e (a + b), e a)) (λ k f e. rw (e (a + b), e a))
     (λ g.
     let s = worldOf m memory in
     let f = runFrom a code 0 s in
@@ -162,7 +166,7 @@ run-splits m code memory a b =
 
 pub run-keeps-beyond : KeepsBeyond
 run-keeps-beyond m code memory b =
-    by-run m code memory (λ k e. rw (e b) (refl, refl)) (λ k f e. rw (e b) (refl, refl))
+    by-run m code memory (λ k z e. rw (e b) (refl, refl)) (λ k f e. rw (e b) (refl, refl))
     (λ g.
     let s = worldOf m memory in
     let f = runFrom b code 0 s in
@@ -170,7 +174,7 @@ run-keeps-beyond m code memory b =
 
 pub run-counts : CountsSteps
 run-counts m code memory b o n e =
-    by-run m code memory (λ k r. never (cc (r b))) (λ k f r. never (cc))
+    by-run m code memory (λ k z r. never (cc (r b))) (λ k f r. never (cc))
     (λ g.
     let s = worldOf m memory in
     let is : o ≡ runFrom b code 0 s .outcome = cc (run-goes g b) in

@@ -1,16 +1,15 @@
 -- The start: a program whose code is in a machine, and the invariant that holds once the machine was started.
 use Prim.Native.Nat.{ℕ, zero, suc, _+_, _≤_, _<_}
 use native.Mathlib.Omega.{arith}
-use native.Mathlib.Nat.{add-zero, zero-add}
+use native.Mathlib.Nat.{zero-add}
 use mathlib.Core.Path.{_≡_, refl, sym, ap, _∙_, subst}
 use mathlib.Core.Logic.{inl}
 use mathlib.Core.Bool.{false}
 use mathlib.Core.List.{List, [], _∷_, _++_, append-assoc, List·Memᴰ, List·Memᴰ·not-nil}
 use mathlib.Core.Option.{none, some}
-use lib.ListN.{length, getD, getElem?, replicate, drop, length-append, length-replicate, length-drop}
+use lib.ListN.{length, getD, replicate, drop, length-append, length-replicate, length-drop}
 use Rattle.model.specs.Word.{notProcess}
 use Rattle.model.specs.Syntax.{Site, inputOf, outputOf}
-use Rattle.model.specs.Instruction.{Instruction}
 use Rattle.model.specs.Layout.{base}
 use Rattle.model.specs.Scheme.{scheme}
 use Rattle.model.specs.Machine.{World, memorySize}
@@ -19,7 +18,7 @@ use Rattle.model.specs.Occam.{Process, begin, framesOf, look, State}
 use Rattle.model.specs.Demand.{liveIn}
 use Rattle.model.proofs.Cases.{never}
 use Rattle.model.proofs.Ways.{Mem}
-use Rattle.model.proofs.Expr.{Seg, nil, at}
+use Rattle.model.proofs.Expr.{seg-whole}
 use Rattle.model.proofs.Points.{whole}
 use Rattle.model.proofs.Paths.{leaf-begin, look-nil, live-begin, left}
 use Rattle.model.proofs.Parts.{need-two, Part}
@@ -36,17 +35,6 @@ use Rattle.model.proofs.Running.{Only}
 use Rattle.model.proofs.Sched.{Settles, settle}
 use Rattle.model.proofs.Marks.{Own}
 use Rattle.model.proofs.Meets.{not-own}
-
--- a list stands in itself
-seg-from : (xs zs : List Instruction) (i k : ℕ) → k ≡ i + length zs
-    → ((j : ℕ) (y : Instruction) → getElem? zs j ≡ some y → getElem? xs (i + j) ≡ some y) → Seg xs i zs k
-seg-from xs [] i k e h = let same : k ≡ i = omega arith in rw same nil
-seg-from xs (z ∷ zs) i k e h =
-    at (rw (add-zero i) at (h 0 z refl))
-    (seg-from xs zs (suc i) k (omega arith) (λ j y q. let next : i + suc j ≡ suc i + j = omega arith in rw next at (h (suc j) y q)))
-
-seg-whole : (xs : List Instruction) → Seg xs 0 xs (length xs)
-seg-whole xs = seg-from xs xs 0 (length xs) (omega arith) (λ j y e. rw (zero-add j) e)
 
 -- words of the same value, and what is behind them
 getD-same : (n : ℕ) {x : ℕ} (l : List ℕ) (k : ℕ) → k < n → getD (replicate n x ++ l) k 0 ≡ x

@@ -25,7 +25,7 @@ unfoldable pub checks : Program → Read
 checks p = clashOr (firstClash (p .body)) (cond (leb (processes (p .body)) limit) (program p) (refused 9 0))
 
 -- 7 and 9 are tested after the whole table was read
-abbrev onRead : Read → Read
+abbrev pub onRead : Read → Read
 onRead (program p) = checks p
 onRead (refused n p) = refused n p
 

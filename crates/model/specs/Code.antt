@@ -73,7 +73,7 @@ fitting room p code =
     (refused 10 0)
 
 -- 10 and 11 are tested only where the reader's refusals pass
-abbrev ofRead : (room : ℕ) → Read → Compilation
+abbrev pub ofRead : (room : ℕ) → Read → Compilation
 ofRead room (program p) = fitting room p (codeOf p)
 ofRead room (unread n at) = refused n at
 

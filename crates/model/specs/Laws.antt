@@ -1,12 +1,22 @@
--- Three laws of `run`, for every machine, code, memory and budget, the second also of `offer` and `take`. They are proved in
--- proofs/Runs.antt.
+-- Laws of the definitions, for every machine, code, memory and budget. 1 to 3 are of runs, the second also of offers and takes
+-- (proofs/Runs.antt); 4 and 5 tie the history to the run (proofs/Recorded.antt); 6 is 01's waiting (proofs/Settled.antt); 7 is of prefixes
+-- (proofs/Shortest.antt); 8 is of the bench program's text (proofs/Reported.antt).
 use Prim.Native.Nat.{ℕ, zero, suc, _+_, _≤_, _<_}
+use Prim.Native.String.{String}
 use mathlib.Core.Path.{_≡_}
-use mathlib.Core.List.{List, _++_}
+use mathlib.Core.Bool.{true, false}
+use mathlib.Core.List.{List, [], _∷_, _++_, List·Memᴰ}
+use mathlib.Core.Option.{some}
+use lib.ListN as L
 use lib.ListN.{length, drop}
-use Rattle.model.specs.Machine.{World, done, faults, Act, _>>_, return, memorySize}
-use Rattle.model.specs.Run.{byte, keep, After, worldOf, run}
+use Rattle.model.specs.Instruction.{Function, functionCode}
+use Rattle.model.specs.Prefix.{withPrefixes, fewest, decode}
+use Rattle.model.specs.Machine.{Talk, World, done, faults, Act, _>>_, return, memorySize}
+use Rattle.model.specs.Answers.{instructionsOf}
+use Rattle.model.specs.Run.{byte, waits, keep, After, worldOf, start, run}
 use Rattle.model.specs.Outside.{offer, take}
+use Rattle.model.specs.Bench.{line, codeLine, refusedLine, outLine, bench}
+use Rattle.model.specs.History.{Call, callRun, Moment, quietly, call, history}
 use Rattle.model.specs.declared.Machine.{Machine}
 use Rattle.model.specs.declared.Kept.the-variants.{Nothing}
 use Rattle.model.specs.declared.Outcome.{Outcome}
@@ -85,3 +95,98 @@ abbrev pub CountsSteps : Type 0
 CountsSteps = (m : Machine) (code memory : List ℕ) (budget : ℕ) (o : Outcome) → m .fault ≡ Nothing
     → let f = run m code memory budget in
     f .answer ≡ Ran o → Took code budget (worldOf m memory) (worldAfter f) o
+
+-- the moments after a byte executed
+abbrev pub afterBytes : List Moment → List Moment
+afterBytes [] = []
+afterBytes (a ∷ l) = elim (a .instruction) [ true ↦ a ∷ afterBytes l | false ↦ afterBytes l ]
+
+-- the communications of moments, one behind the other
+abbrev pub talkIn : List Moment → List Talk
+talkIn [] = []
+talkIn (a ∷ l) = a .talk ++ talkIn l
+
+-- what is found at the last of some moments; where there is none, what was there before
+abbrev pub lastOf : Moment → List Moment → Moment
+lastOf before [] = before
+lastOf before (a ∷ l) = lastOf a l
+
+-- the instructions that an answer counts; a run that was refused executed none
+abbrev pub executedIn : RunAnswer → ℕ
+executedIn (Ran o) = instructionsOf o
+executedIn (RunShort k) = 0
+
+-- the machine that a run leaves is its last byte's; a fault that it came to is kept
+abbrev pub leaving : RunAnswer → Machine → Machine
+leaving (Ran (RunFault n k)) m = keep k (worldOf m []) .machine
+leaving (Ran (Ended n)) m = m
+leaving (Ran (Waiting n)) m = m
+leaving (Ran (Spent n)) m = m
+leaving (RunShort k) m = m
+
+-- a run is found in the history as it was: as many moments after bytes as instructions, its communications one behind the other, and
+-- at the last of them the machine and memory that it leaves. `rest` is the memory that it is not lent
+pub record Recorded (moments : List Moment) (before : Moment) (rest : List ℕ) (f : After RunAnswer) : Type 0 where
+  pub as-many : length (afterBytes moments) ≡ executedIn (f .answer)
+  pub same-talk : talkIn moments ≡ f .talk
+  pub same-machine : leaving (f .answer) (lastOf before (afterBytes moments) .machine) ≡ f .machine
+  pub same-memory : lastOf before (afterBytes moments) .memory ≡ f .memory ++ rest
+
+-- law 4: the history's moments of a run are the run's, whatever it is lent
+abbrev pub Records : Type 0
+Records = (m : Machine) (code behind memory : List ℕ) (codeLent lent budget : ℕ)
+    → Recorded (call code (callRun behind codeLent lent budget) m memory .moments) (quietly m memory) (drop lent memory)
+    (run m (L.take codeLent (code ++ behind)) (L.take lent memory) budget)
+
+-- law 5: with more to spend a run's moments go on from those that it had, so each of them is the last one of a run
+abbrev pub Continues : Type 0
+Continues = (m : Machine) (code behind memory : List ℕ) (codeLent lent a b : ℕ)
+    → let found : ℕ → List Moment = λ budget. afterBytes (call code (callRun behind codeLent lent budget) m memory .moments) in
+    (more : List Moment) × (found (a + b) ≡ found a ++ more)
+
+-- law 6, 01: "Waiting: no process has the processor and none is queued". `waits` looks at the first alone; no machine that a list of calls
+-- reaches from a start, whatever its code and memory, is without a process while one is queued
+abbrev pub WaitsWithEmptyQueue : Type 0
+WaitsWithEmptyQueue = (code memory : List ℕ) (w inputs outputs slice : ℕ) (calls : List Call) (a : Moment)
+    → let s = start code memory w inputs outputs slice in
+    List·Memᴰ a (quietly (s .machine) (s .memory) ∷ history code calls (s .machine) (s .memory))
+    → waits (a .machine) ≡ true → a .machine .cpu .queued ≡ false
+
+-- law 7, 01: "other operands the shortest prefixes". Any bytes that decode to an instruction, with any mixture of PFIX and NFIX, are at
+-- least as many as those that are written for it
+abbrev pub WritesShortest : Type 0
+WritesShortest = (f : Function) (operand : ℕ) (bytes rest : List ℕ)
+    → decode 0 bytes ≡ some (record { function = functionCode f; operand = operand; rest = rest })
+    → length (withPrefixes (fewest operand) f operand) + length rest ≤ length bytes
+
+-- an output's line: its number and its value
+pub record Out : Type 0 where
+  pub number : ℕ
+  pub value : ℕ
+
+-- the lines of outputs
+abbrev pub outLines : List Out → List ℕ
+outLines [] = []
+outLines (o ∷ l) = outLine (o .number) (o .value) ++ outLines l
+
+-- how the machine stood
+pub data Standing : Type 0 where
+  ended waiting spent fault : Standing
+
+-- the word of its line
+abbrev pub standingName : Standing → String
+standingName ended = "ended "
+standingName waiting = "waiting "
+standingName spent = "spent "
+standingName fault = "fault "
+
+-- the texts that the bench program may print: one refusal line; or code length, words and code, then lines of outputs, and at the end a line
+-- that says how the machine stood, with a number
+pub data Report : List ℕ → Type 0 where
+  one-refusal : (number returned : ℕ) → Report (refusedLine number returned)
+  full : (code : List ℕ) (words : ℕ) (outs : List Out) (stood : Standing) (instructions : ℕ)
+      → Report (line "bytes " (length code) ++ line "words " words ++ codeLine code ++ outLines outs ++ line (standingName stood) instructions)
+
+-- law 8: for every table the bench program's text is one of these, so it always says how the machine stood
+abbrev pub AlwaysReports : Type 0
+AlwaysReports = (table : List ℕ) → Report (bench table)

@@ -18,8 +18,9 @@ pub mod Execute
 pub mod Run
 pub mod Outside
 pub mod Refusals
-pub mod Laws
+pub mod Registers
 pub mod Bench
 pub mod History
+pub mod Laws
 pub mod Demand
 pub mod Examples

@@ -57,7 +57,7 @@ looking k = do
   cond (eqb p notProcess) (return none) (do v ← receive p; return (some v))
 
 -- the sender that a take found is woken, and its channel is empty again
-abbrev taken : (k : ℕ) → Option ℕ → Act (Option ℕ)
+abbrev pub taken : (k : ℕ) → Option ℕ → Act (Option ℕ)
 taken k none = return none
 taken k (some v) = do
   c ← outputWordOf k

@@ -265,7 +265,7 @@ pub data Read : Type 0 where
   refused : (number place : ℕ) → Read
 
 -- refusal 6 at the first byte after the program
-abbrev whole : Parsed Program → Read
+abbrev pub whole : Parsed Program → Read
 whole (parsed p at []) = program p
 whole (parsed p at (b ∷ bytes)) = refused 6 at
 whole (fails n at) = refused n at
