@@ -35,7 +35,7 @@ unfolding Word.signed Number.groups Number.number Reader.readNumber Reader.oneOf
     Execute.stopProcess Execute.waitAt Execute.receive Execute.received Execute.outputWord Execute.operate Execute.execute Run.fetch
     Run.act Run.land Run.byte Run.runFrom Run.run Run.fresh Run.cleared Run.start Outside.looking Outside.waking Outside.taking Outside.take
     Bench.digits
-    Bench.hex Bench.takes Bench.rounds Bench.bench Occam.operate Occam.deny Occam.eval Bench.ascii Examples.inSeqs Examples.inNots
+    Bench.hex Bench.takes Bench.rounds Bench.bench Occam.operate Occam.deny Occam.eval Bench.ascii Examples.inSeqs Examples.inNots Examples.copies Examples.inVars
 examples =
     record {
       ldc-1876 = (refl, refl);
@@ -74,9 +74,12 @@ examples =
       not-0 = λ σ. refl;
       not-0-run = refl;
       stored = refl;
-      words-assign = λ x. refl;
-      words-output = λ c. refl;
-      words-guard = refl;
-      words-plain-guard = refl;
       scopes = refl;
+      needs = refl;
+      live = refl;
+      in-registers = refl;
+      readings = refl;
+      compilings = refl;
+      wraps = λ word. refl;
+      values = refl;
     }

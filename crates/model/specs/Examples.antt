@@ -4,18 +4,23 @@
 use Prim.Native.Nat.{ℕ, zero, suc, _≤_}
 use Prim.Native.String.{String, _++_}
 use mathlib.Core.Path.{_≡_}
-use mathlib.Core.List.{List, [], _∷_}
+use mathlib.Core.List.{List, [], _∷_, _++_ as _⧺_, map}
 use mathlib.Core.Option.{Option, none, some}
 use lib.IntN.{pos, negℤ}
-use Rattle.model.specs.Word.{minus, signed}
-use Rattle.model.specs.Syntax.{Site, PLUS, MINUS, TIMES, GT, AND, XOR, Expr, NOT, constant, binary, SKIP, assign, input, output, PAR}
-use Rattle.model.specs.Syntax.{ALT, noStmt, stmt, noGuard, skipGuard}
+use Rattle.model.specs.Word.{less, minus, signed, notProcess}
+use Rattle.model.specs.Syntax.{Site, inputOf, declared, PLUS, MINUS, TIMES, GT, AND, XOR, Expr, NOT, constant, variable, binary, Stmt}
+use Rattle.model.specs.Syntax.{SKIP, STOP, assign, input, output, VAR, CHAN, SEQ, PAR, IF, WHILE, ALT, Stmts, noStmt, stmt, noPair}
+use Rattle.model.specs.Syntax.{pair, Guards, noGuard, inputGuard, skipGuard}
 use Rattle.model.specs.Reader.{refused}
-use Rattle.model.specs.Counts.{temporaries, need}
-use Rattle.model.specs.Accept.{accept}
-use Rattle.model.specs.Instruction.{Function, j, ldc, ajw, functionCode}
+use Rattle.model.specs.Counts.{registers, temporaries, processes, need}
+use Rattle.model.specs.Accept.{accept, answerOf}
+use Rattle.model.specs.Instruction.{Function, j, ldlp, ldc, ajw, functionCode, functions, rev, disc, diss, enbc, enbs, operationCode}
+use Rattle.model.specs.Instruction.{operations, Instruction, plain, distance, operation}
 use Rattle.model.specs.Prefix.{withPrefixes, fewest, distancePrefixes, decode}
-use Rattle.model.specs.Code.{Compilation, compiled, refused as uncompiled, compile}
+use Rattle.model.specs.Scheme.{exprCode, codeEnable, codeDisable}
+use Rattle.model.specs.Code.{Compilation, compiled, refused as uncompiled, compile, numberOf, returnedOf}
+use Rattle.model.specs.Answers.{Refusal, refusal, refusedReading}
+use Rattle.model.specs.Execute.{enabling, waiting, ready, noneSelected}
 use Rattle.model.specs.Occam.{operate, Store, eval}
 use Rattle.model.specs.Bench.{bench, ascii}
 
@@ -76,6 +81,77 @@ storesOne = binary MINUS sumOfFour sumOfFour
 
 abbrev storesTwo : Expr
 storesTwo = binary MINUS storesOne sumOfFour
+
+-- a variable and a channel
+abbrev x : Site
+x = declared 2 0
+
+abbrev c : Site
+c = inputOf 0
+
+-- parts of which the others are made
+abbrev one : Stmt → Stmts
+one s = stmt s noStmt
+
+abbrev two : Stmts
+two = stmt SKIP (one SKIP)
+
+abbrev ifOnly : Expr → Stmt → Stmt
+ifOnly e s = IF (pair e s noPair)
+
+abbrev altInput : Expr → Stmt → Stmt
+altInput e s = ALT (inputGuard e c x s noGuard)
+
+abbrev altSkip : Expr → Stmt → Stmt
+altSkip e s = ALT (skipGuard e s noGuard)
+
+-- the smallest statement of every kind, each "at least" of 01 and of order 2 of 02, and where a part decides
+abbrev statements : List Stmt
+statements =
+    SKIP ∷ STOP ∷ assign x (variable x) ∷ assign x storesOne ∷ assign x storesTwo ∷ input c x
+    ∷ output c (constant 0) ∷ output c storesOne ∷ output c storesTwo ∷ VAR 2 1 SKIP ∷ CHAN 2 1 SKIP ∷ VAR 2 3 (input c x)
+    ∷ SEQ noStmt ∷ SEQ (one SKIP) ∷ SEQ (stmt (input c x) two) ∷ SEQ (one (PAR 4 two))
+    ∷ PAR 2 noStmt ∷ PAR 2 (one SKIP) ∷ PAR 2 two ∷ PAR 2 (stmt (PAR 4 two) two)
+    ∷ IF noPair ∷ ifOnly (constant 0) SKIP ∷ ifOnly storesOne SKIP ∷ ifOnly (constant 0) (PAR 6 two)
+    ∷ WHILE (constant 0) SKIP ∷ WHILE storesOne SKIP ∷ WHILE (constant 0) (PAR 5 two)
+    ∷ ALT noGuard ∷ altInput (constant 0) SKIP ∷ altInput storesOne SKIP ∷ altInput (constant 0) (PAR 8 two)
+    ∷ altSkip (constant 0) SKIP ∷ altSkip storesOne SKIP ∷ altSkip (constant 0) (PAR 6 two) ∷ []
+
+-- expressions that need 1, 2 and 3 registers, and hold no value, one and two
+abbrev expressions : List Expr
+expressions =
+    constant 0 ∷ variable x ∷ NOT (variable x) ∷ sumOf 1 2 ∷ binary PLUS (constant 1) (sumOf 2 3) ∷ sumOfFour ∷ NOT sumOfFour ∷ storesOne
+    ∷ storesTwo ∷ []
+
+-- so many copies of a part of a table, one behind the other
+unfoldable pub copies : ℕ → List ℕ → List ℕ
+copies zero part = []
+copies (suc n) part = part ⧺ copies n part
+
+-- a PAR of so many PARs of 16 SKIPs, and a part behind them
+abbrev pars : (count : ℕ) → (inner : ℕ) → List ℕ → List ℕ
+pars n k rest = 0x00 ∷ 0x00 ∷ 0x08 ∷ n ∷ copies k (0x08 ∷ 0x10 ∷ copies 16 (0x00 ∷ [])) ⧺ rest
+
+-- the refusal of a table at reading, if it gets one
+abbrev readAs : (table : List ℕ) → Option Refusal
+readAs t = refusedReading (answerOf (accept t))
+
+-- the number and what is returned with it, at compiling for a buffer of six bytes
+abbrev compiledAs : (table : List ℕ) → List ℕ
+compiledAs t = numberOf (compile t 6) ∷ returnedOf (compile t 6) ∷ []
+
+-- so many VARs of 32 around the rest of a table
+unfoldable pub inVars : ℕ → List ℕ → List ℕ
+inVars zero rest = rest
+inVars (suc n) rest = 0x05 ∷ 0x20 ∷ inVars n rest
+
+-- an ALT of two guards whose conditions store a value
+abbrev guards : Guards
+guards = inputGuard storesOne c x SKIP (skipGuard storesOne SKIP noGuard)
+
+-- their conditions' code between AJW -6 and AJW 6, and what follows it
+abbrev wrapped : (condition rest : List Instruction) → List Instruction
+wrapped e rest = (plain ajw (minus 6) ∷ e) ⧺ plain ajw 6 ∷ rest
 
 -- 01, "Proved examples", as one statement
 pub record Examples : Type 0 where
@@ -160,11 +236,6 @@ pub record Examples : Type 0 where
       ("bytes 32\nwords 5\n"
       ++ "code 60 bf 45 46 25 f2 47 48 25 f2 25 f2 d0 41 42 25 f2 43 44 25 f2 25 f2 70 f4 b1 10 f0 60 bf ff b1\n"
       ++ "out 0 -16\nended 32\n")
-  -- words by stored values: with t = 2 an assignment needs 4 and an output 5; with t = 1 an ALT needs 9, with none 4
-  pub words-assign : (x : Site) → need (assign x storesTwo) ≡ 4
-  pub words-output : (c : Site) → need (output c storesTwo) ≡ 5
-  pub words-guard : need (ALT (skipGuard storesOne SKIP noGuard)) ≡ 9
-  pub words-plain-guard : need (ALT (skipGuard (sumOf 1 2) SKIP noGuard)) ≡ 4
   -- a VAR in a VAR: a := 7, then inside b := 9 and the outputs of a and of b, then after the inner VAR the output of a
   pub scopes : Prints
       (0x00 ∷ 0x01 ∷ 0x05 ∷ 0x01 ∷ 0x07 ∷ 0x03 ∷ 0x02 ∷ 0x00 ∷ 0x00 ∷ 0x07
@@ -173,3 +244,80 @@ pub record Examples : Type 0 where
       ("bytes 35\nwords 7\n"
       ++ "code 60 bf 40 d0 47 d0 60 bf 40 d0 49 d0 71 12 f0 60 bf ff b1 70 12 f0 60 bf ff b1 b1 70 11 f0 60 bf ff b1 b1\n"
       ++ "out 0 7\nout 0 9\nout 0 7\nended 35\n")
+  -- the words of the statements listed, in their order
+  pub needs : map need statements
+      ≡ 2 ∷ 2 ∷ 2 ∷ 3 ∷ 4 ∷ 3
+      ∷ 4 ∷ 4 ∷ 5 ∷ 3 ∷ 3 ∷ 6
+      ∷ 2 ∷ 2 ∷ 3 ∷ 6
+      ∷ 2 ∷ 4 ∷ 6 ∷ 12
+      ∷ 2 ∷ 2 ∷ 3 ∷ 6
+      ∷ 2 ∷ 3 ∷ 6
+      ∷ 4 ∷ 4 ∷ 9 ∷ 6
+      ∷ 4 ∷ 9 ∷ 6 ∷ []
+  -- their live processes
+  pub live : map processes statements
+      ≡ 1 ∷ 1 ∷ 1 ∷ 1 ∷ 1 ∷ 1
+      ∷ 1 ∷ 1 ∷ 1 ∷ 1 ∷ 1 ∷ 1
+      ∷ 1 ∷ 1 ∷ 1 ∷ 2
+      ∷ 1 ∷ 1 ∷ 2 ∷ 4
+      ∷ 1 ∷ 1 ∷ 1 ∷ 2
+      ∷ 1 ∷ 1 ∷ 2
+      ∷ 1 ∷ 1 ∷ 1 ∷ 2
+      ∷ 1 ∷ 1 ∷ 2 ∷ []
+  -- the registers of the expressions listed, and their stored values
+  pub in-registers : map registers expressions ⧺ map temporaries expressions
+      ≡ 1 ∷ 1 ∷ 1 ∷ 2 ∷ 2 ∷ 3 ∷ 3 ∷ 3 ∷ 3
+      ∷ 0 ∷ 0 ∷ 0 ∷ 0 ∷ 0 ∷ 0 ∷ 0 ∷ 1 ∷ 2 ∷ []
+  -- the smallest table of each refusal at reading: 1; 2; 3 for a count, a kind and an operator; 4; 5 for a name and for each wrong way;
+  -- 6; 7; 64 live processes pass, 65 get 9
+  pub readings : map readAs
+      ([]
+      ∷ (0x80 ∷ [])
+      ∷ (0x09 ∷ [])
+      ∷ (0x00 ∷ 0x00 ∷ 0x0c ∷ [])
+      ∷ (0x00 ∷ 0x01 ∷ 0x04 ∷ 0x00 ∷ 0x03 ∷ 0x08 ∷ [])
+      ∷ (0x00 ∷ 0x00 ∷ inSeqs 32 (0x00 ∷ []))
+      ∷ (0x00 ∷ 0x00 ∷ 0x02 ∷ 0x00 ∷ [])
+      ∷ (0x01 ∷ 0x00 ∷ 0x04 ∷ 0x00 ∷ [])
+      ∷ (0x00 ∷ 0x01 ∷ 0x03 ∷ 0x00 ∷ [])
+      ∷ (0x00 ∷ 0x00 ∷ 0x00 ∷ 0x00 ∷ [])
+      ∷ (0x00 ∷ 0x01 ∷ 0x08 ∷ 0x02 ∷ 0x04 ∷ 0x00 ∷ 0x00 ∷ 0x05 ∷ 0x04 ∷ 0x00 ∷ 0x00 ∷ 0x05 ∷ [])
+      ∷ pars 4 4 []
+      ∷ pars 5 4 (0x00 ∷ [])
+      ∷ [])
+      ≡ refusal 1 (0 ∷ [])
+      ∷ refusal 2 (0 ∷ [])
+      ∷ refusal 3 (0 ∷ [])
+      ∷ refusal 3 (2 ∷ [])
+      ∷ refusal 3 (5 ∷ [])
+      ∷ refusal 4 (66 ∷ [])
+      ∷ refusal 5 (3 ∷ [])
+      ∷ refusal 5 (3 ∷ [])
+      ∷ refusal 5 (3 ∷ [])
+      ∷ refusal 6 (3 ∷ [])
+      ∷ refusal 7 (2 ∷ [])
+      ∷ none
+      ∷ refusal 9 (0 ∷ [])
+      ∷ []
+  -- at compiling: one that reading refuses; five branches of 30 VARs of 32, which need over 4,096 words; the bench case, for which six
+  -- bytes are one too few; STOP, which has two
+  pub compilings : map compiledAs
+      ((0x00 ∷ 0x00 ∷ 0x00 ∷ 0x00 ∷ [])
+      ∷ (0x00 ∷ 0x00 ∷ 0x08 ∷ 0x05 ∷ copies 5 (inVars 30 (0x00 ∷ [])))
+      ∷ (0x00 ∷ 0x01 ∷ 0x04 ∷ 0x00 ∷ 0x00 ∷ 0x05 ∷ [])
+      ∷ (0x00 ∷ 0x00 ∷ 0x01 ∷ [])
+      ∷ [])
+      ≡ (6 ∷ 3 ∷ []) ∷ (10 ∷ 0 ∷ []) ∷ (11 ∷ 7 ∷ []) ∷ (0 ∷ 2 ∷ []) ∷ []
+  -- 02, order 2: the wrap of both guards, in enabling and in disabling, is AJW -6 and AJW 6 for one stored value
+  pub wraps : (word : Site → ℕ)
+      → codeEnable word 100 guards ⧺ codeDisable word 100 70 71 guards
+      ≡ wrapped (exprCode word 94 0 storesOne) (plain ldlp (less (word c) 100) ∷ operation rev ∷ operation enbc ∷ [])
+      ⧺ wrapped (exprCode word 94 0 storesOne) (operation enbs ∷ [])
+      ⧺ wrapped (exprCode word 94 0 storesOne) (plain ldlp (less (word c) 100) ∷ operation rev ∷ distance ldc 71 70 ∷ operation disc ∷ [])
+      ⧺ wrapped (exprCode word 94 0 storesOne) (distance ldc 77 70 ∷ operation diss ∷ [])
+  -- the guide's values: NotProcess, the ALT states Enabling, Waiting and Ready, NoneSelected; the codes of functions and of operations
+  pub values : (notProcess ∷ enabling ∷ waiting ∷ ready ∷ noneSelected ∷ []) ⧺ map functionCode functions ⧺ map operationCode operations
+      ≡ 0x80000000 ∷ 0x80000001 ∷ 0x80000002 ∷ 0x80000003 ∷ 0xffffffff
+      ∷ 0x0 ∷ 0x1 ∷ 0x4 ∷ 0x7 ∷ 0xa ∷ 0xb ∷ 0xc ∷ 0xd ∷ 0xf
+      ∷ 0x00 ∷ 0x03 ∷ 0x04 ∷ 0x07 ∷ 0x08 ∷ 0x09 ∷ 0x0d ∷ 0x0f ∷ 0x15 ∷ 0x1b ∷ 0x2f
+      ∷ 0x30 ∷ 0x33 ∷ 0x42 ∷ 0x43 ∷ 0x44 ∷ 0x45 ∷ 0x46 ∷ 0x48 ∷ 0x49 ∷ 0x4b ∷ 0x52 ∷ []
