@@ -11,9 +11,10 @@
 //   6 k                take
 // A list begins with 4,200 words lent, which hold 7700 and their address, no code, and the machine that a refused start gives.
 //
-// A line of the output has the answers: a refusal by its number, 3 and 10 with the place and 11 with the size needed. Then come the
-// registers in the order of model::Cpu, the held offers as input=value, the kept fault, and a sum over the memory's 4,200 words. Numbers
-// are hexadecimal, but for those of refusals.
+// A line of the output has the answers. A table that is refused is `refused N at P`; a call's refusal is its number, 3 and 10 with the
+// place, 11 with the size needed; 12 is `fault` and what was at fault, in a run behind the instructions executed. Then come the registers
+// in the order of model::Cpu, the held offers as input=value, the kept fault, and a sum over the memory's 4,200 words. Numbers are
+// hexadecimal, but for those of refusals.
 ghost use Prim.Native.Nat.{_≤_};
 ghost use mathlib.Core.Path.{_≡_};
 ghost use lib.ListN.{length};

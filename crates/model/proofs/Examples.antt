@@ -35,7 +35,8 @@ unfolding Word.signed Number.groups Number.number Reader.readNumber Reader.oneOf
     Execute.stopProcess Execute.waitAt Execute.receive Execute.received Execute.outputWord Execute.operate Execute.execute Run.fetch
     Run.act Run.land Run.byte Run.runFrom Run.run Run.fresh Run.cleared Run.start Outside.looking Outside.waking Outside.taking Outside.take
     Bench.digits
-    Bench.hex Bench.takes Bench.rounds Bench.bench Occam.operate Occam.deny Occam.eval Bench.ascii Examples.inSeqs Examples.inNots Examples.copies Examples.inVars
+    Bench.hex Bench.takes Bench.rounds Bench.bench Occam.operate Occam.deny Occam.eval Bench.ascii
+    Examples.inSeqs Examples.inNots Examples.copies Examples.inVars
 examples =
     record {
       ldc-1876 = (refl, refl);

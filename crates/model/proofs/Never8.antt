@@ -10,9 +10,12 @@ use Rattle.model.specs.Limits.{tableLimit, codeLimit, wordLimit}
 use Rattle.model.specs.Number.{number}
 use Rattle.model.specs.Syntax.{Site, Expr, Program}
 use Rattle.model.specs.Reader.{Parsed, parsed, fails, Reader, onward, _>>=_, pure, refuse, here, readNumber, oneOf, readCount, Scope}
-use Rattle.model.specs.Reader.{readName, anySite, canInput, canOutput, readVariable, tooDeep, ExprKind, isConstant, isVariable, isNot, isBinary, exprOf, readExpr, readMany}
-use Rattle.model.specs.Reader.{StmtKind, isSkip, isStop, isAssign, isInput, isOutput, isVar, isChan, isSeq, isPar, isIf, isWhile, isAlt}
-use Rattle.model.specs.Reader.{GuardKind, isInputGuard, isSkipGuard, Inner, readPair, guardOf, readGuard, stmtOf, readStmt, readProgram}
+use Rattle.model.specs.Reader.{readName, anySite, canInput, canOutput, readVariable, tooDeep, ExprKind, isConstant, isVariable}
+use Rattle.model.specs.Reader.{isNot, isBinary, exprOf, readExpr, readMany}
+use Rattle.model.specs.Reader.{StmtKind, isSkip, isStop, isAssign, isInput, isOutput, isVar, isChan, isSeq, isPar, isIf, isWhile}
+use Rattle.model.specs.Reader.{isAlt}
+use Rattle.model.specs.Reader.{GuardKind, isInputGuard, isSkipGuard, Inner, readPair, guardOf, readGuard, stmtOf, readStmt}
+use Rattle.model.specs.Reader.{readProgram}
 use Rattle.model.specs.Reader.{Read, program, refused as unread, whole, readTable}
 use Rattle.model.specs.Usage.{firstClash}
 use Rattle.model.specs.Counts.{processes}

@@ -25,7 +25,8 @@ use Rattle.model.proofs.Cases.{never}
 use Rattle.model.proofs.Needs.{registers-three}
 use Rattle.model.proofs.Values.{FineExpr}
 use Rattle.model.proofs.Expr.{seg-whole}
-use Rattle.model.proofs.Ways.{Regs, regsOf, pushing, popping, Mem, upd, upd-same, upd-other, Way, arrived, through, quiet, loads, stores, reloads, jumps, falls}
+use Rattle.model.proofs.Ways.{Regs, regsOf, pushing, popping, Mem, upd, upd-same, upd-other, Way, arrived, through, quiet, loads}
+use Rattle.model.proofs.Ways.{stores, reloads, jumps, falls}
 use Rattle.model.proofs.Exprs.{Evaluated, evaluates}
 use Rattle.model.proofs.Effects.{cpuOf, sizeOf, memOf, stored, exec-ldl, exec-stl}
 
@@ -81,7 +82,8 @@ plain-expr word w h (binary op l r) =
     (plain-operator op)
 
 -- no instruction of such code is one
-plain-at : (xs : List Instruction) (i : ℕ) {x : Instruction} → Plain xs → getElem? xs i ≡ some x → (f : Function) × (n : ℕ) × (x ≡ plain f n)
+plain-at : (xs : List Instruction) (i : ℕ) {x : Instruction} → Plain xs → getElem? xs i ≡ some x
+    → (f : Function) × (n : ℕ) × (x ≡ plain f n)
 plain-at [] i h e = never (cc)
 plain-at (plain f n ∷ xs) zero h e = (f, n, cc)
 plain-at (plain f n ∷ xs) (suc i) h e = plain-at xs i h e
@@ -123,8 +125,8 @@ module _ (off : ℕ → ℕ) (word : Site → ℕ) (σ : Store) (w h : ℕ) (e :
       let room = ready .room in
       let small = ready .addressed in
       evaluates code here word Point ⊥ σ (reads e) (reads e) Slot (λ v. ⊥) (cpuOf s₀ .place)
-      (λ v b. omega arith) (λ x m. omega (arith, ready .inside x m)) (ready .a-word) w (ready .wide) e fine fine h 0 (length code) (memOf s₀)
-      (regsOf (cpuOf s₀)) (seg-whole code) (λ k b. (omega arith, omega arith)) (ready .workspace)
+      (λ v b. omega arith) (λ x m. omega (arith, ready .inside x m)) (ready .a-word) w (ready .wide) e fine fine h 0 (length code)
+      (memOf s₀) (regsOf (cpuOf s₀)) (seg-whole code) (λ k b. (omega arith, omega arith)) (ready .workspace)
       (λ μ r d. arrived (refl, d) (omega arith))
 
   -- a world in the middle of it

@@ -179,14 +179,16 @@ module _ (m : Machine) (memory rest full : List ℕ) (whole : full ≡ memory ++
 
   -- a run that executed nothing
   recorded-none : (answer : RunAnswer) → executedIn answer ≡ 0 → leaving answer m ≡ m → Found-in [] (unchanged answer m memory)
-  recorded-none answer c e = record { as-many = sym c; same-talk = refl; same-machine = e; same-memory = whole }
+  recorded-none answer c e =
+      record { as-many = sym c; same-talk = refl; no-other-talk = refl; same-machine = e; same-memory = whole }
 
   recorded-found : (l : List Moment) (f : Finish) → Found l (quietly m full) rest f → Found-in l (finished f)
   recorded-found l f h =
       let bs = framed-bytes m (f .world .machine) full (f .world .memory ++ rest) l ∙ h .all-bytes in
       record {
         as-many = rw bs (h .as-many);
-        same-talk = framed-talk m (f .world .machine) full (f .world .memory ++ rest) l ∙ h .same-talk;
+        same-talk = rw bs (h .same-talk);
+        no-other-talk = framed-talk m (f .world .machine) full (f .world .memory ++ rest) l ∙ h .same-talk;
         same-machine = rw bs (h .same-machine);
         same-memory = rw bs (h .same-memory);
       }
@@ -228,5 +230,7 @@ run-continues m code behind memory codeLent lent a b =
     let (more, h) = longer m lent-code lent-memory rest a b in
     let frame : (n : ℕ) → afterBytes (call code (callRun behind codeLent lent n) m memory .moments)
     ≡ afterBytes (during m lent-code lent-memory rest n) =
-    λ n. let f = run m lent-code lent-memory n in framed-bytes m (f .machine) memory (f .memory ++ rest) (during m lent-code lent-memory rest n) in
+    λ n.
+    let f = run m lent-code lent-memory n in
+    framed-bytes m (f .machine) memory (f .memory ++ rest) (during m lent-code lent-memory rest n) in
     (more, frame (a + b) ∙ h ∙ ap (λ z. z ++ more) (sym (frame a)))

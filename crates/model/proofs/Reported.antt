@@ -18,11 +18,14 @@ use Rattle.model.specs.Layout.{base}
 use Rattle.model.specs.Code.{Compilation, compiled, refused, compile}
 use Rattle.model.specs.Machine.{World, done, Act, peek, poke, stateWord}
 use Rattle.model.specs.Execute.{receive, received}
-use Rattle.model.specs.Run.{land, byte, ended, waits, runFrom, shortMemory, After, unchanged, worldOf, finished, run, fresh, blank, cleared, start}
+use Rattle.model.specs.Run.{land, byte, ended, waits, runFrom, shortMemory, After, unchanged, worldOf, finished, run, fresh, blank}
+use Rattle.model.specs.Run.{cleared, start}
 use Rattle.model.specs.Outside.{waking, outputWordOf, looking, taken, taking, took as tookBy, takeUnless, take}
-use Rattle.model.specs.Bench.{line, codeLine, outLine, tookOne, takes, benchBudget, benchSlice, onTakes, onRun, rounds, ofStart, ofCompilation}
+use Rattle.model.specs.Bench.{line, codeLine, outLine, tookOne, takes, benchBudget, benchSlice, onTakes, onRun, rounds, ofStart}
+use Rattle.model.specs.Bench.{ofCompilation}
 use Rattle.model.specs.Bench.{bench}
-use Rattle.model.specs.Laws.{Out, outLines, Standing, ended as stoodEnded, waiting, spent, fault, standingName, Report, one-refusal, full}
+use Rattle.model.specs.Laws.{Out, outLines, Standing, ended as stoodEnded, waiting, spent, fault, standingName, Report, one-refusal}
+use Rattle.model.specs.Laws.{full}
 use Rattle.model.specs.Laws.{counted, Took, AlwaysReports}
 use Rattle.model.specs.declared.Cpu.{Cpu}
 use Rattle.model.specs.declared.Machine.{Machine}
@@ -277,7 +280,10 @@ start-lent : (code memory : List ℕ) (w i o q : ℕ) → let s = start code mem
 unfolding start fresh blank cleared
 start-lent code memory w i o q =
     let P : After StartAnswer → Type 0 = λ f. Lent code (f .machine) (f .memory) in
-    let nothing : Lent code blank memory = record { code-long = le-ltb (length code) 0 (omega arith); memory-long = le-ltb (length memory) 0 (omega arith) } in
+    let nothing : Lent code blank memory = record {
+      code-long = le-ltb (length code) 0 (omega arith);
+      memory-long = le-ltb (length memory) 0 (omega arith);
+    } in
     of-cond P (leb 1 q && leb q sliceLimit)
     (of-cond P (leb i channelLimit && leb o channelLimit)
     (of-cond P (leb (w + i + o) wordLimit && leb (length code) codeLimit)

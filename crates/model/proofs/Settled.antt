@@ -24,7 +24,8 @@ use Rattle.model.specs.declared.StartAnswer.{StartAnswer}
 use Rattle.model.specs.declared.OfferAnswer.{OfferAnswer}
 use Rattle.model.specs.declared.TakeAnswer.{TakeAnswer}
 use Rattle.model.proofs.Cases.{by-bool, of-cond, never}
-use Rattle.model.proofs.Keeping.{Left, Keeps, brings-keeps, bind, returning, setting, of-peek, of-poke, of-testPlace, brings-weaker, Runs}
+use Rattle.model.proofs.Keeping.{Left, Keeps, brings-keeps, bind, returning, setting, of-peek, of-poke, of-testPlace}
+use Rattle.model.proofs.Keeping.{brings-weaker, Runs}
 use Rattle.model.proofs.Keeping.{takeFront-runs, join-runs}
 use Rattle.model.proofs.Made.{Made, binds, reads, sets, returns, fails, sets-up, communicates, drops, asks, holds, outputs}
 use Rattle.model.proofs.Made.{peeks, pokes, tests, releases, joins, of-byte, of-offering, of-taking}
@@ -162,7 +163,8 @@ call-rests code (callRun behind codeLent lent b) m memory h =
     let lent-code = L.take codeLent (code ++ behind) in
     let lent-memory = L.take lent memory in
     let g = run-rests m h lent-memory lent-code b in
-    ((h, all-append (during m lent-code lent-memory (drop lent memory) b) _ (during-rests m h lent-memory lent-code (drop lent memory) b) (g, tt)), g)
+    let found = during-rests m h lent-memory lent-code (drop lent memory) b in
+    ((h, all-append (during m lent-code lent-memory (drop lent memory) b) _ found (g, tt)), g)
 call-rests code (callOffer lent k v) m memory h = let g = offer-rests m h (L.take lent memory) k (low v) in ((g, tt), g)
 call-rests code (callTake lent k) m memory h = let g = take-rests m h (L.take lent memory) k in ((g, tt), g)
 

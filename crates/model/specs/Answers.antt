@@ -98,7 +98,7 @@ abbrev pub refusedReading : Reading → Option Refusal
 refusedReading (Accepted f) = none
 refusedReading (Unread n p) = refusal n (p ∷ [])
 
--- a compilation: rows 1 to 10 with the place, 11 with the size needed
+-- a compilation: rows 1 to 7, 9 and 10 with the place, 11 with the size needed
 abbrev pub refusedCompiling : Compiled → Option Refusal
 refusedCompiling (Code n) = none
 refusedCompiling (Uncompiled n r) = refusal n (r ∷ [])

@@ -124,7 +124,8 @@ onRun r outs total more =
     ]
 
 -- runs and takes, at most so many rounds of them, after `total` instructions. A round with takes wakes a process, so the next round
--- executes an instruction or is the last: there is at most one round more than there are instructions
+-- executes an instruction or is the last: there is at most one round more than there are instructions, and the rounds never run out
+-- (Laws.antt, law 8)
 unfoldable pub rounds : (fuel : ℕ) (program : List ℕ) (outputs total : ℕ) → Machine → List ℕ → List ℕ
 rounds zero prog outs total m memory = []
 rounds (suc f) prog outs total m memory =

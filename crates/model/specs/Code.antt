@@ -77,7 +77,7 @@ abbrev pub ofRead : (room : ℕ) → Read → Compilation
 ofRead room (program p) = fitting room p (codeOf p)
 ofRead room (unread n at) = refused n at
 
--- compiling a table into a lent code buffer with room for so many bytes: refusals 1 to 11, lowest first after reading
+-- compiling a table into a lent code buffer with room for so many bytes: refusals 1 to 7 and 9 to 11, lowest first after reading
 unfoldable pub compile : (table : List ℕ) (room : ℕ) → Compilation
 compile table room = ofRead room (accept table)
 

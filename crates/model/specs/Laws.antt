@@ -124,11 +124,12 @@ leaving (Ran (Waiting n)) m = m
 leaving (Ran (Spent n)) m = m
 leaving (RunShort k) m = m
 
--- a run is found in the history as it was: as many moments after bytes as instructions, its communications one behind the other, and
--- at the last of them the machine and memory that it leaves. `rest` is the memory that it is not lent
+-- a run is found in the history as it was: as many moments after bytes as instructions, its communications at these moments and at no
+-- other, one behind the other, and at the last of them the machine and memory that it leaves. `rest` is the memory that it is not lent
 pub record Recorded (moments : List Moment) (before : Moment) (rest : List ℕ) (f : After RunAnswer) : Type 0 where
   pub as-many : length (afterBytes moments) ≡ executedIn (f .answer)
-  pub same-talk : talkIn moments ≡ f .talk
+  pub same-talk : talkIn (afterBytes moments) ≡ f .talk
+  pub no-other-talk : talkIn moments ≡ f .talk
   pub same-machine : leaving (f .answer) (lastOf before (afterBytes moments) .machine) ≡ f .machine
   pub same-memory : lastOf before (afterBytes moments) .memory ≡ f .memory ++ rest
 
@@ -180,12 +181,13 @@ standingName waiting = "waiting "
 standingName spent = "spent "
 standingName fault = "fault "
 
--- the texts that the bench program may print: one refusal line; or code length, words and code, then lines of outputs, and at the end a line
--- that says how the machine stood, with a number
+-- the texts that the bench program may print: one refusal line; or code length, words and code, then lines of outputs, and at the end a
+-- line that says how the machine stood, with a number
 pub data Report : List ℕ → Type 0 where
   one-refusal : (number returned : ℕ) → Report (refusedLine number returned)
   full : (code : List ℕ) (words : ℕ) (outs : List Out) (stood : Standing) (instructions : ℕ)
-      → Report (line "bytes " (length code) ++ line "words " words ++ codeLine code ++ outLines outs ++ line (standingName stood) instructions)
+      → Report
+      (line "bytes " (length code) ++ line "words " words ++ codeLine code ++ outLines outs ++ line (standingName stood) instructions)
 
 -- law 8: for every table the bench program's text is one of these, so it always says how the machine stood
 abbrev pub AlwaysReports : Type 0

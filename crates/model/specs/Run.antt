@@ -67,7 +67,8 @@ byte code = do
 abbrev pub ended : Machine → Bool
 ended m = m .cpu .running && eqb (m .cpu .place) (m .setup .code)
 
--- 01, waiting: no process has the processor and none is queued (decision 26: `queued` counts only while `running`)
+-- 01, waiting: no process has the processor and none is queued. The second follows from the first for every machine that calls reach
+-- from a start (Laws.antt, law 6); of others `queued` counts only while `running`
 abbrev pub waits : Machine → Bool
 waits m = not (m .cpu .running)
 
