@@ -83,4 +83,5 @@ examples =
       compilings = refl;
       wraps = λ word. refl;
       values = refl;
+      limits = refl;
     }

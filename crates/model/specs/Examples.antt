@@ -1,6 +1,7 @@
 -- The proved examples of 01 as one statement about the definitions. proofs/Examples.antt proves each part by computation.
 -- Bytes are hexadecimal, the rest decimal. Beside 01's list stand depth 33 and the depths of NOTs and, from GT on, operators by Occam's
--- rules and, as a program that outputs what they give, in the machine; names of two scopes; and stored values (02, order 2).
+-- rules and, as a program that outputs what they give, in the machine; names of two scopes; and stored values (02, order 2). At the end
+-- stand lists of figures that 01, 02 and the guide give, so that no definition can have another.
 use Prim.Native.Nat.{ℕ, zero, suc, _≤_}
 use Prim.Native.String.{String, _++_}
 use mathlib.Core.Path.{_≡_}
@@ -13,7 +14,9 @@ use Rattle.model.specs.Syntax.{SKIP, STOP, assign, input, output, VAR, C
 use Rattle.model.specs.Syntax.{pair, Guards, noGuard, inputGuard, skipGuard}
 use Rattle.model.specs.Reader.{refused}
 use Rattle.model.specs.Counts.{registers, temporaries, processes, need}
-use Rattle.model.specs.Accept.{accept, answerOf}
+use Rattle.model.specs.Limits.{tableLimit, codeLimit, wordLimit, depthLimit, registerLimit, channelLimit, nameLimit, partLimit}
+use Rattle.model.specs.Limits.{branchLimit, sliceLimit}
+use Rattle.model.specs.Accept.{limit, accept, answerOf}
 use Rattle.model.specs.Instruction.{Function, j, ldlp, ldc, ajw, functionCode, functions, rev, disc, diss, enbc, enbs, operationCode}
 use Rattle.model.specs.Instruction.{operations, Instruction, plain, distance, operation}
 use Rattle.model.specs.Prefix.{withPrefixes, fewest, distancePrefixes, decode}
@@ -22,7 +25,7 @@ use Rattle.model.specs.Code.{Compilation, compiled, refused as uncompile
 use Rattle.model.specs.Answers.{Refusal, refusal, refusedReading}
 use Rattle.model.specs.Execute.{enabling, waiting, ready, noneSelected}
 use Rattle.model.specs.Occam.{operate, Store, eval}
-use Rattle.model.specs.Bench.{bench, ascii}
+use Rattle.model.specs.Bench.{ascii, benchBudget, benchSlice, bench}
 
 -- an instruction with so many prefixes is these bytes, and they decode to it again
 abbrev Coded : (prefixes : ℕ) → Function → (operand : ℕ) → (bytes : List ℕ) → Type 0
@@ -321,3 +324,7 @@ pub record Examples : Type 0 where
       ∷ 0x0 ∷ 0x1 ∷ 0x4 ∷ 0x7 ∷ 0xa ∷ 0xb ∷ 0xc ∷ 0xd ∷ 0xf
       ∷ 0x00 ∷ 0x03 ∷ 0x04 ∷ 0x07 ∷ 0x08 ∷ 0x09 ∷ 0x0d ∷ 0x0f ∷ 0x15 ∷ 0x1b ∷ 0x2f
       ∷ 0x30 ∷ 0x33 ∷ 0x42 ∷ 0x43 ∷ 0x44 ∷ 0x45 ∷ 0x46 ∷ 0x48 ∷ 0x49 ∷ 0x4b ∷ 0x52 ∷ []
+  -- 01's limits in the order of Limits.antt, the live processes, and the bench program's slice and budget
+  pub limits : tableLimit ∷ codeLimit ∷ wordLimit ∷ depthLimit ∷ registerLimit ∷ channelLimit ∷ nameLimit ∷ partLimit ∷ branchLimit
+      ∷ sliceLimit ∷ limit ∷ benchSlice ∷ benchBudget ∷ []
+      ≡ 16384 ∷ 16384 ∷ 4096 ∷ 32 ∷ 3 ∷ 8 ∷ 32 ∷ 32 ∷ 16 ∷ 65535 ∷ 64 ∷ 32 ∷ 65536 ∷ []
