@@ -191,7 +191,7 @@ fn offer_machine(
     ensures { λ r. ⌜ Answers (offerOf machine (now (memory .entry)) k value) (r .answer) (r .machine) (now (memory .exit)) ⌝ }
 {
     let setup = machine.setup;
-    if setup.inputs <= k || 8 <= k {
+    if setup.inputs <= k || model::limits::START_CHANNELS <= k {
         return unchanged(machine, model::OfferAnswer::NoChannel);
     }
     let held = machine.held;

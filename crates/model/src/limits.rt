@@ -6,10 +6,12 @@ pub const TABLE: usize = 16384;
 // The bytes of code.
 pub const CODE: usize = 16384;
 
-// The words of memory, with outside channels; in 64 bits where they are summed wide.
+// The words of memory, with outside channels; in 64 bits where they are summed wide, and as the length of a buffer that serves every program.
 pub const WORDS: u32 = 4096;
 
 pub const WIDE_WORDS: u64 = WORDS as u64;
+
+pub const MEMORY: usize = WORDS as usize;
 
 // The deepest statement or expression.
 pub const DEPTH: u64 = 32;
@@ -36,3 +38,8 @@ pub const PARTS: u64 = 32;
 
 // The branches of a PAR.
 pub const BRANCHES: u64 = 16;
+
+// The bench program's slice, and the instructions after which it stops.
+pub const BENCH_SLICE: u32 = 32;
+
+pub const BENCH_BUDGET: u64 = 65536;

@@ -11,6 +11,9 @@ ghost use Rattle.model.specs.declared.Compiled.the-variants.{Code};
 ghost use Rattle.report.specs.Texts.{textOf};
 ghost use Rattle.report.specs.Opens.{refusing as refusingFor, Begins, begunBy, loaded, Opens, openOf};
 
+// One round more than there are instructions, and one for the takes behind the last.
+const ROUNDS: u32 = 65538;
+
 // A report of a refusal.
 fn refusing(number: u32, place: usize) -> Report
     ensures { λ r. ⌜ r ≡ refusingFor number place ⌝ }
@@ -40,14 +43,14 @@ fn begin(facts: model::Facts, code: &[u8], memory: &mut [u32]) -> Report
         w,
         facts.inputs,
         facts.outputs,
-        32,
+        model::limits::BENCH_SLICE,
     );
     let machine = begun.machine;
     Report {
         machine: machine,
         stage: Stage::Bytes,
         total: 0,
-        left: 65538,
+        left: ROUNDS,
         outputs: facts.outputs,
         size: code.len(),
         words: words,
@@ -76,13 +79,13 @@ pub fn open(table: &[u8], code: &mut [u8], memory: &mut [u32]) -> Report
         ⌜ (16384 ≤ length (now (code .entry)) → 4096 ≤ length (now (memory .entry))
         → textOf (now (code .exit)) r (now (memory .exit)) ≡ bench (now (table .entry))) ⌝ }
 {
-    if code.len() < 16384 {
-        return refusing(11, 16384);
+    if code.len() < model::limits::CODE {
+        return refusing(11, model::limits::CODE);
     }
-    if memory.len() < 4096 {
-        return refusing(11, 4096);
+    if memory.len() < model::limits::MEMORY {
+        return refusing(11, model::limits::MEMORY);
     }
-    match compiler::compile_into(table, &mut code[..16384]) {
+    match compiler::compile_into(table, &mut code[..model::limits::CODE]) {
         model::Compiled::Code(size) => load(table, &*code, size, memory),
         model::Compiled::Refused(number, place) => refusing(number, place),
     }

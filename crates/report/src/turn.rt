@@ -90,8 +90,8 @@ fn stand(report: Report, machine: model::Machine, outcome: model::Outcome) -> Tu
 fn budget(total: u64) -> u64
     ensures { λ r. ⌜ (r ≡ benchBudget - total) × (total + r < 18446744073709551616) ⌝ }
 {
-    if total < 65536 {
-        return 65536 - total;
+    if total < model::limits::BENCH_BUDGET {
+        return model::limits::BENCH_BUDGET - total;
     }
     0
 }
