@@ -35,7 +35,7 @@ Stays size act r l s m = (u : Setup) → memorySize u ≡ size → r .place ≤ 
 abbrev pub offered : ℕ → Setup → List Bool → Bool
 offered c u b = leb (u .base) c && ltb (c - u .base) (u .inputs) && getD b (c - u .base) false
 
--- the place of a held offer, below 8, or 8
+-- below 8: the number of the input whose word this is, with an offer held; 8 or more: none is held
 pub record HeldAt (c : ℕ) (u : Setup) (b : List Bool) (k : ℕ) : Type 0 where
   pub held : k < 8 → (offered c u b ≡ true) × (k ≡ c - u .base)
   pub none : 8 ≤ k → offered c u b ≡ false

@@ -3,7 +3,7 @@ ghost use mathlib.Core.Path.{_≡_};
 ghost use lib.ListN.{length};
 ghost use Rattle.processor.specs.Quiet.{HeldAt};
 
-// The place of a held offer on a channel's word; 8 if none is held. A machine of the caller's making may count more inputs than flags.
+// Below 8: the number of the input whose word c is, with an offer held. 8 or more: none is. A caller's machine may count over 8 inputs.
 pub fn held_at(c: u32, setup: model::Setup, held: &[bool; 8]) -> u32
     requires { ⌜ length (now held) ≡ 8 ⌝ }
     ensures { λ r. ⌜ HeldAt c setup (now (held .entry)) r ⌝ }
