@@ -3,8 +3,10 @@
 // Numbers are hexadecimal; what is no digit stands between them, and '#' begins a comment up to the end of the line. A number ends after
 // as many digits as the caller says, at the latest, and after 16: with 2 a line is a row of bytes, with or without spaces. What stands
 // behind the last line's end is no line.
+ghost use mathlib.Core.Path.{_≡_};
 ghost use Prim.Native.Nat.{_≤_};
 ghost use lib.ListN.{length};
+ghost use Rattle.lines.specs.Rows.{atFirst, lowBytes};
 
 // A line, and how far the text is read.
 pub struct Line {
@@ -27,7 +29,9 @@ pub struct Line {
 }
 
 // Where the text stands before its first line is read.
-pub fn begin() -> Line {
+pub fn begin() -> Line
+    ensures { λ r. ⌜ r ≡ atFirst ⌝ }
+{
     Line {
         next: 0,
         end: 0,
@@ -206,8 +210,10 @@ pub fn next_line(characters: &mut [u8], last: Line, most: usize, numbers: &mut [
     line
 }
 
-// The low bytes of numbers, as far as there is room.
-pub fn to_bytes(numbers: &[u64], bytes: &mut [u8]) {
+// The low bytes of numbers, as far as there is room. The rest of the buffer stays as it was.
+pub fn to_bytes(numbers: &[u64], bytes: &mut [u8])
+    ensures { λ r. ⌜ now (bytes .exit) ≡ lowBytes (now (numbers .entry)) (now (bytes .entry)) ⌝ }
+{
     let mut i = 0;
     while i < numbers.len() && i < bytes.len() {
         bytes[i] = (numbers[i] % 256) as u8;
