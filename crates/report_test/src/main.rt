@@ -5,7 +5,7 @@
 ghost use Prim.Native.Nat.{_≤_};
 ghost use lib.ListN.{length};
 
-// Answers a line's table, if it has one.
+// Answers a line's table, if it has one. What is written is compared with the expected text, so a write that fails shows there.
 fn answer_line(line: lines::Line, numbers: &[u64], table: &mut [u8])
     requires { ⌜ line .count ≤ length (now numbers) ⌝ }
 {

@@ -17,19 +17,38 @@ loop-holds : tie.Need-loop-holds Inv-loop μ-loop
 loop-holds c = refl
 
 same-length : tie.Need-same-length Inv-loop μ-loop
-same-length c = c .before .before .before .memory .given ∙ c .before .before .before .before .before .before .loop .inv
+same-length c =
+    let m = c .before .before .before in
+    m .memory .given ∙ m .before .before .before .loop .inv
+
+same-length-2 : tie.Need-same-length-2 Inv-loop μ-loop
+same-length-2 c =
+    let m = c .before .before .before .before .before .before in
+    m .memory .given ∙ m .before .before .before .loop .inv
 
 loop-less : tie.Need-loop-less Inv-loop μ-loop
 loop-less c =
-    let t = c .before .before .before .before .before .before .before .next in
-    t .ensures .1 .1 .0 (not-false _ (c .before .before .before .if1 .left))
+    let w = c .before .before .before .before in
+    let t = w .before .before .before .before .next in
+    t .ensures .1 .1 .0 (not-false _ (w .if1 .left))
 
 loop-again : tie.Need-loop-again Inv-loop μ-loop
 loop-again c =
-    c .before .before .before .before .before .before .memory .given
-    ∙ c .before .before .before .before .before .before .before .before .before .loop .inv
+    let m = c .before .before .before .before .before .before .before in
+    m .memory .given ∙ m .before .before .before .loop .inv
 
 pub print-spec : {M : Type 1} → statement M
 print-spec =
     tie.close
-    (tie.spec Inv-loop μ-loop loop-holds (λ c κs. search needs) same-length (λ c. search needs) (λ c κs. search needs) loop-less loop-again)
+    (tie.spec
+    Inv-loop
+    μ-loop
+    loop-holds
+    (λ c κs. search needs)
+    same-length
+    (λ c. search needs)
+    (λ c κs. search needs)
+    same-length-2
+    (λ c. search needs)
+    loop-less
+    loop-again)
