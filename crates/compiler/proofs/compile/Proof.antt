@@ -14,7 +14,7 @@ slice-aggregate-result c =
     let z = c .before .before in
     let i = z .before .before .before .before in
     let fits = front-fits _ _ _ (sym (i .compile-into .ensures .0) ∙ z .size .given .1) in
-    sym (length-take-le _ _ (omega (arith, fits, i .compile-into .kept .1 .0)))
+    sym (length-take-le _ (i .compile-into .last .1 .0) (omega (arith, fits, i .compile-into .kept .1 .0)))
 
 returns : tie.Need-returns
 returns c =
