@@ -75,8 +75,8 @@ returns-4 c =
     let b = compile-into .ensures .1 .0 in
     let o = opens-refused (a .table .now) (a .code .now) (a .memory .now) (if1 .left) (if2 .left) (rw t at q)
     (ap (λ l. l ++ drop 16384 (a .code .now)) (rw t at b)) in
-    let p = rw (← c .refusing3 .ensures) at o in
-    (p, λ h k. told _ _ _ h k p)
+    let e = c .refusing3 .ensures in
+    (rw e o, λ h k. rw e (told _ _ _ h k o))
 
 pub open-spec : {M : Type 1} → statement M
 open-spec =
