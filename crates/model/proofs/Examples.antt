@@ -84,4 +84,5 @@ examples =
       wraps = λ word. refl;
       values = refl;
       limits = refl;
+      begins = refl;
     }

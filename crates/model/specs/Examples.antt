@@ -24,8 +24,10 @@ use Rattle.model.specs.Scheme.{exprCode, codeEnable, codeDisable}
 use Rattle.model.specs.Code.{Compilation, compiled, refused as uncompiled, compile, numberOf, returnedOf}
 use Rattle.model.specs.Answers.{Refusal, refusal, refusedReading}
 use Rattle.model.specs.Execute.{enabling, waiting, ready, noneSelected}
+use Rattle.model.specs.Run.{start}
 use Rattle.model.specs.Occam.{operate, Store, eval}
 use Rattle.model.specs.Bench.{ascii, benchBudget, benchSlice, bench}
+use Rattle.model.specs.declared.Cpu.{Cpu}
 
 -- an instruction with so many prefixes is these bytes, and they decode to it again
 abbrev Coded : (prefixes : ℕ) → Function → (operand : ℕ) → (bytes : List ℕ) → Type 0
@@ -147,6 +149,11 @@ compiledAs t = numberOf (compile t 6) ∷ returnedOf (compile t 6) ∷ []
 unfoldable pub inVars : ℕ → List ℕ → List ℕ
 inVars zero rest = rest
 inVars (suc n) rest = 0x05 ∷ 0x20 ∷ inVars n rest
+
+-- the registers as numbers: A, B, C, gathered operand, place, workspace, count, and the queue's front and back
+abbrev numbersOf : Cpu → List ℕ
+numbersOf r =
+    r .a ∷ r .b ∷ r .c ∷ r .operand ∷ r .place ∷ r .workspace ∷ r .count ∷ r .front ∷ r .back ∷ []
 
 -- an ALT of two guards whose conditions store a value
 abbrev guards : Guards
@@ -338,3 +345,6 @@ pub record Examples : Type 0 where
   pub limits : tableLimit ∷ codeLimit ∷ wordLimit ∷ depthLimit ∷ registerLimit ∷ channelLimit ∷ nameLimit ∷ partLimit ∷ branchLimit
       ∷ sliceLimit ∷ limit ∷ benchSlice ∷ benchBudget ∷ []
       ≡ 16384 ∷ 16384 ∷ 4096 ∷ 32 ∷ 3 ∷ 8 ∷ 32 ∷ 32 ∷ 16 ∷ 65535 ∷ 64 ∷ 32 ∷ 65536 ∷ []
+  -- registers start as 0, with W as the start has it; needed words as 0 and channels as NotProcess
+  pub begins : numbersOf (start [] (7 ∷ 7 ∷ 7 ∷ 7 ∷ []) 2 1 0 1 .machine .cpu) ⧺ start [] (7 ∷ 7 ∷ 7 ∷ 7 ∷ []) 2 1 0 1 .memory
+      ≡ 0 ∷ 0 ∷ 0 ∷ 0 ∷ 0 ∷ 2 ∷ 0 ∷ 0 ∷ 0 ∷ 0 ∷ 0 ∷ 0x80000000 ∷ 7 ∷ []
