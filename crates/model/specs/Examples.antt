@@ -279,8 +279,8 @@ pub record Examples : Type 0 where
       ≡ 1 ∷ 1 ∷ 1 ∷ 2 ∷ 2 ∷ 3 ∷ 3 ∷ 3 ∷ 3
       ∷ 0 ∷ 0 ∷ 0 ∷ 0 ∷ 0 ∷ 0 ∷ 0 ∷ 1 ∷ 2 ∷ []
   -- the smallest table of each refusal at reading: 1; 2; 3 for a channel count, a kind and an operator, and for a count one below the
-  -- least of VAR and CHAN and one above the most of VAR, CHAN, SEQ, PAR, IF and ALT; SEQ, PAR, IF and ALT of none pass; 4; 5 for a name
-  -- and for each wrong way; 6; 7; 64 live processes pass, 65 get 9
+  -- least of VAR and CHAN and one above the most of VAR, CHAN, SEQ, PAR, IF and ALT; SEQ, PAR, IF and ALT of none and VAR and CHAN of
+  -- one pass; 4; 5 for a name and for each wrong way; 6; 7; 64 live processes pass, 65 get 9
   pub readings : map readAs
       ([]
       ∷ (0x80 ∷ [])
@@ -291,7 +291,7 @@ pub record Examples : Type 0 where
       ∷ (0x00 ∷ 0x00 ∷ 0x05 ∷ 0x21 ∷ []) ∷ (0x00 ∷ 0x00 ∷ 0x06 ∷ 0x21 ∷ []) ∷ (0x00 ∷ 0x00 ∷ 0x07 ∷ 0x21 ∷ [])
       ∷ (0x00 ∷ 0x00 ∷ 0x08 ∷ 0x11 ∷ []) ∷ (0x00 ∷ 0x00 ∷ 0x09 ∷ 0x21 ∷ []) ∷ (0x00 ∷ 0x00 ∷ 0x0b ∷ 0x21 ∷ [])
       ∷ (0x00 ∷ 0x00 ∷ 0x07 ∷ 0x00 ∷ []) ∷ (0x00 ∷ 0x00 ∷ 0x08 ∷ 0x00 ∷ []) ∷ (0x00 ∷ 0x00 ∷ 0x09 ∷ 0x00 ∷ [])
-      ∷ (0x00 ∷ 0x00 ∷ 0x0b ∷ 0x00 ∷ [])
+      ∷ (0x00 ∷ 0x00 ∷ 0x0b ∷ 0x00 ∷ []) ∷ (0x00 ∷ 0x00 ∷ 0x05 ∷ 0x01 ∷ 0x00 ∷ []) ∷ (0x00 ∷ 0x00 ∷ 0x06 ∷ 0x01 ∷ 0x00 ∷ [])
       ∷ (0x00 ∷ 0x00 ∷ inSeqs 32 (0x00 ∷ []))
       ∷ (0x00 ∷ 0x00 ∷ 0x02 ∷ 0x00 ∷ [])
       ∷ (0x01 ∷ 0x00 ∷ 0x04 ∷ 0x00 ∷ [])
@@ -309,7 +309,7 @@ pub record Examples : Type 0 where
       ∷ refusal 3 (3 ∷ []) ∷ refusal 3 (3 ∷ [])
       ∷ refusal 3 (3 ∷ []) ∷ refusal 3 (3 ∷ []) ∷ refusal 3 (3 ∷ [])
       ∷ refusal 3 (3 ∷ []) ∷ refusal 3 (3 ∷ []) ∷ refusal 3 (3 ∷ [])
-      ∷ none ∷ none ∷ none ∷ none
+      ∷ none ∷ none ∷ none ∷ none ∷ none ∷ none
       ∷ refusal 4 (66 ∷ [])
       ∷ refusal 5 (3 ∷ [])
       ∷ refusal 5 (3 ∷ [])
