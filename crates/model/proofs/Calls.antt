@@ -25,7 +25,7 @@ use Rattle.model.specs.declared.Setup.{Setup}
 use Rattle.model.specs.declared.Kept.the-variants.{Nothing as NoFault}
 use Rattle.model.specs.declared.OfferAnswer.the-variants.{Offered, Short as OfferShort, NoChannel as OfferNoChannel, Held}
 use Rattle.model.specs.declared.TakeAnswer.the-variants.{Taken, Nothing, Short as TakeShort, NoChannel as TakeNoChannel}
-use Rattle.model.proofs.Cases.{never, by-bool}
+use Rattle.model.proofs.Cases.{by-bool, never, or-left, or-right}
 use Rattle.model.proofs.Most.{most}
 use Rattle.model.proofs.Kernel.{Loaded, setup, size}
 use Rattle.model.proofs.Traces.{Trace, t-none, t-event, trace-reach, trace-most}
@@ -40,7 +40,7 @@ use Rattle.model.proofs.Agreement.{inv-no-fault}
 use Rattle.model.proofs.Chains.{Chain, chain-nil, chain-other, chain-append}
 use Rattle.model.proofs.Lending.{inv-lent, inv-room}
 use Rattle.model.proofs.Runs.{TooLittle, Goes, run-goes}
-use Rattle.model.proofs.Recorded.{or-left, or-right, during-short, during-goes}
+use Rattle.model.proofs.Recorded.{during-short, during-goes}
 use Rattle.model.proofs.Histories.{bound, follows, ran, run-bytes}
 
 module _ (m : Machine) (code memory : List ℕ) (budget : ℕ) where

@@ -1,7 +1,7 @@
 -- Case distinctions that keep the equation, and cases that cannot be. `cc` proves 0 ≡ 1 from an equation of different constructors.
 use Prim.Native.Nat.{ℕ}
 use mathlib.Core.Path.{_≡_, refl}
-use mathlib.Core.Bool.{Bool, true, false, cond}
+use mathlib.Core.Bool.{Bool, true, false, cond, _||_}
 use mathlib.Core.List.{List, [], _∷_}
 use mathlib.Core.Option.{Option, none, some}
 use native.Mathlib.Omega.{arith}
@@ -12,11 +12,11 @@ by-bool true y n = y refl
 by-bool false y n = n refl
 
 -- what holds of both holds of the one that is chosen
-pub of-cond : {A : Type 0} (P : A → Type 0) (t : Bool) {x y : A} → P x → P y → P (cond t x y)
+pub of-cond {ℓ} : {A : Type 0} (P : A → Type ℓ) (t : Bool) {x y : A} → P x → P y → P (cond t x y)
 of-cond P true h k = h
 of-cond P false h k = k
 
-pub by-option : {A R : Type 0} (o : Option A) → (o ≡ none → R) → ((a : A) → o ≡ some a → R) → R
+pub by-option {ℓ} : {A : Type 0} {R : Type ℓ} (o : Option A) → (o ≡ none → R) → ((a : A) → o ≡ some a → R) → R
 by-option none n s = n refl
 by-option (some a) n s = s a refl
 
@@ -30,6 +30,14 @@ by-parsed (parsed a to (b ∷ left)) f g h = h a to b left refl
 
 pub never : {R : Type 0} → _≡_ {A = ℕ} 0 1 → R
 never e = absurd (omega arith)
+
+pub or-left : (a c : Bool) → (a || c) ≡ false → a ≡ false
+or-left true c e = never (cc)
+or-left false c e = refl
+
+pub or-right : (a c : Bool) → (a || c) ≡ false → c ≡ false
+or-right true c e = never (cc)
+or-right false c e = e
 
 pub is-true : (t : Bool) → (t ≡ false → _≡_ {A = ℕ} 0 1) → t ≡ true
 is-true t no-false = by-bool t (λ e. e) (λ e. never (no-false e))

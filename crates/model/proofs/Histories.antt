@@ -11,7 +11,7 @@ use Rattle.model.specs.Run.{Finish, worldOf, byte, ended, waits, runFrom
 use Rattle.model.specs.Occam.{State, Communication, Event}
 use Rattle.model.specs.Demand.{Segment, talkOf, Follows}
 use Rattle.model.specs.History.{Moment, executed, bytes}
-use Rattle.model.proofs.Cases.{by-bool}
+use Rattle.model.proofs.Cases.{by-bool, or-left, or-right}
 use Rattle.model.proofs.Points.{whole}
 use Rattle.model.proofs.Most.{most}
 use Rattle.model.proofs.Kernel.{Loaded, S, size}
@@ -21,7 +21,7 @@ use Rattle.model.proofs.Finish.{inv-setup}
 use Rattle.model.proofs.OneByte.{code-is, Byte, byte-goes}
 use Rattle.model.proofs.Agreement.{inv-agrees}
 use Rattle.model.proofs.RunSteps.{run-on}
-use Rattle.model.proofs.Recorded.{or-left, or-right, run-stays, bytes-stay, run-none, bytes-go, run-afresh}
+use Rattle.model.proofs.Recorded.{run-stays, bytes-stay, run-none, bytes-go, run-afresh}
 use Rattle.model.proofs.Chains.{Chain, chain-nil, chain-byte}
 use Rattle.model.proofs.Lending.{byte-lent, inv-lent, inv-few, inv-room}
 

@@ -13,9 +13,11 @@ abbrev pub Left : (P : Cpu → Type 0) {A : Type 0} → Result A → Type 0
 Left P (done a s) = P (s .machine .cpu)
 Left P (faults k) = Unit {0}
 
+-- an act that keeps it: what held before holds after
 pub record Keeps (P : Cpu → Type 0) {A : Type 0} (act : Act A) : Type 0 where
   pub from : (s : World) → P (s .machine .cpu) → Left P (act s)
 
+-- an act after which it holds whatever was before
 pub record Brings (P : Cpu → Type 0) {A : Type 0} (act : Act A) : Type 0 where
   pub from : (s : World) → Left P (act s)
 
@@ -79,6 +81,7 @@ module _ {P Q : Cpu → Type 0} (h : (r : Cpu) → P r → Q r) where
 abbrev pub Runs : Cpu → Type 0
 Runs r = r .running ≡ true
 
+-- one that goes on has it
 pub resume-runs : (w : ℕ) → Brings Runs (resume w)
 unfolding resume
 resume-runs w = at-last (peek (resumeWord w)) _ (λ p. record { from = λ s. refl })
@@ -89,6 +92,7 @@ leaveFront r =
     cond (eqb (r .front) (r .back)) (setRegisters (queueing (r .front) (r .back) false r))
     (do f ← peek (linkWord (r .front)); setRegisters (queueing f (r .back) true r))
 
+-- the front of the queue gets it
 pub takeFront-runs : Brings Runs takeFront
 unfolding takeFront
 takeFront-runs = record { from = λ s. at-last (leaveFront (s .machine .cpu)) _ (λ u. resume-runs (s .machine .cpu .front)) .from s }

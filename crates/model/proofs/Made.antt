@@ -1,8 +1,8 @@
 -- Every act of the machine is made of a few: a byte, an offer and a take are. What is to be shown of all of them is shown of these few, and
 -- of one act after another.
 use Prim.Native.Nat.{ℕ, _/_}
-use mathlib.Core.Path.{_≡_, refl}
-use mathlib.Core.Bool.{Bool, true, false, cond}
+use mathlib.Core.Path.{_≡_}
+use mathlib.Core.Bool.{Bool, cond}
 use mathlib.Core.List.{List}
 use mathlib.Core.Option.{Option, none, some}
 use Rattle.model.specs.Instruction.{Operation, rev, endp, diff, «in», prod, gt, startp, outword, stopp, ldpi, disc, diss, xor, mint}
@@ -19,15 +19,16 @@ use Rattle.model.specs.Outside.{hold, waking, offering, outputWordOf, lo
 use Rattle.model.specs.declared.Cpu.{Cpu}
 use Rattle.model.specs.declared.Setup.{Setup}
 use Rattle.model.specs.declared.FaultKind.{FaultKind}
+use Rattle.model.proofs.Cases.{of-cond, by-option}
 
--- an act made of others. `Fine` holds of the registers that it reads, and of those that it leaves
+-- an act made of others. `Fine` holds of the registers that it finds, and of those that it sets
 pub data Made (Fine : Cpu → Type 0) : (A : Type 0) → Act A → Type 1 where
   binds : {A B : Type 0} {a : Act A} {f : A → Act B} → Made Fine A a → ((x : A) → Made Fine B (f x)) → Made Fine B (_>>=_ a f)
   reads : {B : Type 0} {f : Cpu → Act B} → ((r : Cpu) → Fine r → Made Fine B (f r)) → Made Fine B (_>>=_ registers f)
   sets : (r : Cpu) → Fine r → Made Fine (Unit {0}) (setRegisters r)
   returns : {A : Type 0} (a : A) → Made Fine A (return a)
   fails : {A : Type 0} (k : FaultKind) → Made Fine A (fault k)
-  sets-up : Made Fine Setup setup
+  reads-setup : Made Fine Setup setup
   communicates : (c v : ℕ) → Made Fine (Unit {0}) (communicate c v)
   drops : (c : ℕ) → Made Fine ℕ (dropOffer c)
   asks : (c : ℕ) → Made Fine Bool (heldAt c)
@@ -39,18 +40,12 @@ pub data Made (Fine : Cpu → Type 0) : (A : Type 0) → Act A → Type 1 where
   releases : Made Fine (Unit {0}) release
   joins : (w : ℕ) → Made Fine (Unit {0}) (join w)
 
--- the two cases of an option, with what it was
-by-option : {A : Type 0} {R : Type 1} (o : Option A) → (o ≡ none → R) → ((a : A) → o ≡ some a → R) → R
-by-option none n s = n refl
-by-option (some a) n s = s a refl
-
 module _ {Fine : Cpu → Type 0} (flags : (r q : Cpu) → Fine r → q .running ≡ r .running → q .queued ≡ r .queued → Fine q) where
   seq : {A B : Type 0} {a : Act A} {f : Act B} → Made Fine A a → Made Fine B f → Made Fine B (_>>_ a f)
   seq h k = binds h (λ a. k)
 
   picks : {A : Type 0} (b : Bool) {x y : Act A} → Made Fine A x → Made Fine A y → Made Fine A (cond b x y)
-  picks true h k = h
-  picks false h k = k
+  picks {A} b h k = of-cond (Made Fine A) b h k
 
   ruleset parts = (
     binds,
@@ -60,7 +55,7 @@ module _ {Fine : Cpu → Type 0} (flags : (r q : Cpu) → Fine r → q .running 
     sets,
     returns,
     fails,
-    sets-up,
+    reads-setup,
     communicates,
     drops,
     asks,

@@ -8,7 +8,7 @@ use mathlib.Core.Logic.{_≢_, _⊎_, ⊎-elim}
 use mathlib.Core.List.{List, [], _∷_, _++_, List·Memᴰ, List·Memᴰ·head, Memᴰ·append-left, Memᴰ·append-right}
 use mathlib.Core.Option.{some}
 use lib.ListN.{length, getD, getElem?, drop, set, length-set}
-use lib.Seq.{getD-set-same, getD-set-other}
+use lib.Seq.{drop-length, getD-set-same, getD-set-other}
 use Rattle.model.specs.Word.{low}
 use Rattle.model.specs.Syntax.{Site, Operator, PLUS, MINUS, TIMES, GT, EQ, AND, OR, XOR, Expr, constant, variable, NOT, binary}
 use Rattle.model.specs.Usage.{reads}
@@ -93,10 +93,6 @@ drop-at : (xs : List Instruction) (i : ℕ) {x : Instruction} → getElem? xs i 
 drop-at [] i e = never (cc)
 drop-at (y ∷ xs) zero e = cc
 drop-at (y ∷ xs) (suc i) e = drop-at xs i e
-
-drop-all : (xs : List Instruction) → drop (length xs) xs ≡ []
-drop-all [] = refl
-drop-all (x ∷ xs) = drop-all xs
 
 -- an expression's code, carried out from a world where it may be
 module _ (off : ℕ → ℕ) (word : Site → ℕ) (σ : Store) (w h : ℕ) (e : Expr) (s₀ : World) (ready : Ready word σ w h e s₀) where
@@ -196,7 +192,7 @@ module _ (off : ℕ → ℕ) (word : Site → ℕ) (σ : Store) (w h : ℕ) (e :
 
   performed : {hi i : ℕ} {μ : Mem} {r : Regs} {s : World} → Goes hi μ i r → Midway μ r s → Arrives (drop i code) s
   unfolding functionIn operandIn
-  performed (arrived (at-end, v) b) m = rw (at-end, drop-all code) (arrives _ _ _ refl m v)
+  performed (arrived (at-end, v) b) m = rw (at-end, drop-length code) (arrives _ _ _ refl m v)
   performed (through at-end b none) m = absurd none
   performed {i = i} {s = s} (quiet g y q next) m =
       let (f, n, is) = plain-at code i (plain-expr word w h e) y in

@@ -3,7 +3,7 @@ use Prim.Native.Nat.{ℕ, zero, suc, _+_}
 use native.Mathlib.Omega.{arith}
 use native.Mathlib.Nat.{add-zero, zero-add, suc-add}
 use mathlib.Core.Path.{_≡_, refl, sym, ap, _∙_}
-use mathlib.Core.Bool.{Bool, true, false, _||_}
+use mathlib.Core.Bool.{true, false, _||_}
 use mathlib.Core.List.{List, [], _∷_, _++_, append-nil, append-assoc}
 use lib.ListN as L
 use lib.ListN.{length, drop, take-append-drop}
@@ -20,18 +20,10 @@ use Rattle.model.specs.declared.Outcome.{Outcome}
 use Rattle.model.specs.declared.Outcome.the-variants.{Ended, Waiting, Spent, Fault as RunFault}
 use Rattle.model.specs.declared.RunAnswer.{RunAnswer}
 use Rattle.model.specs.declared.RunAnswer.the-variants.{Ran, Short as RunShort}
-use Rattle.model.proofs.Cases.{by-bool, never}
+use Rattle.model.proofs.Cases.{by-bool, never, or-left, or-right}
 use Rattle.model.proofs.Regular.{behind}
 use Rattle.model.proofs.RunSteps.{run-waits, run-ends, run-spent}
 use Rattle.model.proofs.Runs.{by-result, preceded, run-behind, TooLittle, Goes, run-goes, by-run}
-
-pub or-left : (a c : Bool) → (a || c) ≡ false → a ≡ false
-or-left true c e = never (cc)
-or-left false c e = refl
-
-pub or-right : (a c : Bool) → (a || c) ≡ false → c ≡ false
-or-right true c e = never (cc)
-or-right false c e = e
 
 module _ (code : List ℕ) where
   -- a machine that has ended or waits runs no byte

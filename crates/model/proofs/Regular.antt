@@ -16,7 +16,7 @@ use Rattle.model.specs.Outside.{hold, offering, outputWordOf, taking}
 use Rattle.model.specs.declared.Cpu.{Cpu}
 use Rattle.model.specs.declared.FaultKind.{FaultKind}
 use Rattle.model.proofs.Cases.{by-bool, of-cond}
-use Rattle.model.proofs.Made.{Made, binds, reads, sets, returns, fails, sets-up, communicates, drops, asks, holds, outputs}
+use Rattle.model.proofs.Made.{Made, binds, reads, sets, returns, fails, reads-setup, communicates, drops, asks, holds, outputs}
 use Rattle.model.proofs.Made.{peeks, pokes, tests, releases, joins}
 use Rattle.model.proofs.Made.{of-byte as made-byte, of-offering as made-offering, of-taking as made-taking}
 
@@ -174,7 +174,7 @@ regular (reads k) = bind of-registers (λ r. regular (k r tt))
 regular (sets r h) = of-setRegisters r
 regular (returns a) = returned a
 regular (fails k) = failed k
-regular sets-up = of-setup
+regular reads-setup = of-setup
 regular (communicates c v) = of-communicate c v
 regular (drops c) = of-dropOffer c
 regular (asks c) = of-heldAt c

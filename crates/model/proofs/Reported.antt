@@ -4,24 +4,24 @@ use Prim.Native.Nat.{ℕ, zero, suc, _+_, _-_, _≤_}
 use native.Mathlib.Omega.{arith}
 use mathlib.Core.Path.{_≡_, refl, sym, ap, _∙_}
 use mathlib.Core.Logic.{_⊎_, inl, inr, ⊎-elim}
-use mathlib.Core.Bool.{false, not, _&&_}
+use mathlib.Core.Bool.{false, not}
 use mathlib.Core.List.{List, [], _∷_, _++_, append-nil, append-assoc}
 use mathlib.Core.Option.{Option, none, some}
 use lib.ListN.{length, drop, replicate, length-append, length-replicate}
-use lib.Dec.{ltb, leb, eqb}
+use lib.Dec.{ltb, eqb}
 use borrow.Author.Tests.{eqb-true, eqb-false, le-ltb}
 use Rattle.model.specs.Word.{notProcess}
-use Rattle.model.specs.Limits.{codeLimit, wordLimit, channelLimit, sliceLimit}
+use Rattle.model.specs.Limits.{codeLimit}
 use Rattle.model.specs.Syntax.{Program}
 use Rattle.model.specs.Accept.{memoryWords}
 use Rattle.model.specs.Layout.{base}
 use Rattle.model.specs.Code.{Compilation, compiled, refused, compile}
 use Rattle.model.specs.Machine.{World, done, Act, peek, poke, stateWord}
 use Rattle.model.specs.Execute.{receive, received}
-use Rattle.model.specs.Run.{land, byte, ended, waits, runFrom, shortMemory, After, unchanged, worldOf, finished, run, fresh, blank}
+use Rattle.model.specs.Run.{land, byte, ended, waits, runFrom, shortMemory, After, unchanged, worldOf, finished, fresh, blank}
 use Rattle.model.specs.Run.{cleared, start}
-use Rattle.model.specs.Outside.{waking, outputWordOf, looking, taken, taking, took as tookBy, takeUnless, take}
-use Rattle.model.specs.Bench.{line, codeLine, outLine, tookOne, takes, benchBudget, benchSlice, onTakes, onRun, rounds, ofStart}
+use Rattle.model.specs.Outside.{waking, outputWordOf, looking, taken, taking, took as tookBy, take}
+use Rattle.model.specs.Bench.{line, codeLine, outLine, tookOne, takes, benchBudget, benchSlice, onTakes, onRun, rounds}
 use Rattle.model.specs.Bench.{ofCompilation}
 use Rattle.model.specs.Bench.{bench}
 use Rattle.model.specs.Laws.{Out, outLines, Standing, ended as stoodEnded, waiting, spent, fault, standingName, Report, one-refusal}
@@ -29,24 +29,21 @@ use Rattle.model.specs.Laws.{full}
 use Rattle.model.specs.Laws.{counted, Took, AlwaysReports}
 use Rattle.model.specs.declared.Cpu.{Cpu}
 use Rattle.model.specs.declared.Machine.{Machine}
-use Rattle.model.specs.declared.Kept.{Kept}
-use Rattle.model.specs.declared.Kept.the-variants.{Nothing as NoFault, Fault as KeptFault}
-use Rattle.model.specs.declared.FaultKind.{FaultKind}
 use Rattle.model.specs.declared.Outcome.{Outcome}
 use Rattle.model.specs.declared.Outcome.the-variants.{Ended, Waiting, Spent, Fault as RunFault}
-use Rattle.model.specs.declared.RunAnswer.the-variants.{Ran}
 use Rattle.model.specs.declared.StartAnswer.{StartAnswer}
 use Rattle.model.specs.declared.TakeAnswer.{TakeAnswer}
-use Rattle.model.proofs.Cases.{by-bool, of-cond, by-option, never}
+use Rattle.model.specs.declared.TakeAnswer.the-variants.{Taken, Nothing, Short as TakeShort, Fault as TakeFault, NoChannel}
+use Rattle.model.proofs.Cases.{by-bool, by-option, never}
 use Rattle.model.proofs.Keeping.{Keeps, Brings, brings-keeps, bind, at-first, at-last, returning, picks, of-peek, of-testPlace, Runs}
 use Rattle.model.proofs.Keeping.{join-runs}
 use Rattle.model.proofs.Regular.{by-alike, of-taking as regular-taking}
-use Rattle.model.proofs.Runs.{by-result, by-kept, Goes, run-goes, took, bytes-same}
+use Rattle.model.proofs.Runs.{by-result, run-goes, by-run, took, bytes-same, NoValue, by-take, by-start}
 use Rattle.model.proofs.Recorded.{run-anew}
 
 -- lines of outputs, and at the end how the machine stood
 data Ends : List ℕ → Type 0 where
-  ends : (outs : List Out) (stood : Standing) (n : ℕ) → Ends (outLines outs ++ line (standingName stood) n)
+  ends : (outs : List Out) (stood : Standing) (n : ℕ) → n ≤ benchBudget → Ends (outLines outs ++ line (standingName stood) n)
 
 out-lines-append : (l k : List Out) → outLines (l ++ k) ≡ outLines l ++ outLines k
 out-lines-append [] k = refl
@@ -55,17 +52,12 @@ out-lines-append (o ∷ l) k =
     ap (λ z. one ++ z) (out-lines-append l k) ∙ sym (append-assoc one (outLines l) (outLines k))
 
 ends-behind : (outs : List Out) {text : List ℕ} → Ends text → Ends (outLines outs ++ text)
-ends-behind outs (ends more stood n) = rw (← append-assoc, ← out-lines-append) (ends (outs ++ more) stood n)
+ends-behind outs (ends more stood n b) = rw (← append-assoc, ← out-lines-append) (ends (outs ++ more) stood n b)
 
 -- code and memory as a run asks for them
 record Lent (prog : List ℕ) (m : Machine) (memory : List ℕ) : Type 0 where
   code-long : ltb (length prog) (m .setup .code) ≡ false
   memory-long : shortMemory m memory ≡ false
-
-run-kept : {prog : List ℕ} {m : Machine} {memory : List ℕ} {k : FaultKind} → Lent prog m memory → m .fault ≡ KeptFault k → (b : ℕ)
-    → run m prog memory b ≡ unchanged (Ran (RunFault 0 k)) m memory
-unfolding run
-run-kept h e b = rw (h .code-long, h .memory-long, e)
 
 lent-same : {prog : List ℕ} {m m′ : Machine} {memory memory′ : List ℕ} → m′ .setup ≡ m .setup → length memory′ ≡ length memory
     → Lent prog m memory → Lent prog m′ memory′
@@ -178,13 +170,16 @@ module _ (m : Machine) (memory : List ℕ) (k : ℕ) where
       })))
       (λ f p q. rw p (printed-none m _ refl refl))
 
-  take-unless : (e : Kept) → Prints (takeUnless e m memory k)
-  take-unless (KeptFault f) = printed-none m m refl refl
-  take-unless NoFault = of-cond Prints (ltb k (m .setup .outputs)) took-prints (printed-none m m refl refl)
+  -- a take that is refused
+  refused-prints : (a : TakeAnswer) → NoValue a → Prints (unchanged a m memory)
+  refused-prints (Taken v) h = absurd h
+  refused-prints Nothing h = printed-none m m refl refl
+  refused-prints (TakeShort n) h = printed-none m m refl refl
+  refused-prints (TakeFault f) h = printed-none m m refl refl
+  refused-prints NoChannel h = printed-none m m refl refl
 
   take-prints : Prints (take m memory k)
-  unfolding take
-  take-prints = of-cond Prints (shortMemory m memory) (printed-none m m refl refl) (take-unless (m .fault))
+  take-prints = by-take m memory k Prints refused-prints took-prints
 
 takes-print : (n k : ℕ) (m : Machine) (memory : List ℕ)
     → let t = takes n k m memory in Printed m memory (t .lines) (t .machine) (t .memory)
@@ -231,7 +226,8 @@ enough-next f total n m (inr (r, b)) h later =
 
 module _ (prog : List ℕ) (outs : ℕ) where
   -- how a run stood: the last line, or takes and what comes after them
-  module _ (total : ℕ) (m : Machine) (memory : List ℕ) (h : Lent prog m memory) (more : ℕ → Machine → List ℕ → List ℕ)
+  module _ (total : ℕ) (inside : total ≤ benchBudget) (m : Machine) (memory : List ℕ) (h : Lent prog m memory)
+      (more : ℕ → Machine → List ℕ → List ℕ)
       (next : (n : ℕ) (m′ : Machine) (memory′ : List ℕ) → n ≤ benchBudget - total → (Runs (m .cpu) → n ≡ 0 → _≡_ {A = ℕ} 0 1)
       → Lent prog m′ memory′ → Runs (m′ .cpu) → Ends (more (total + n) m′ memory′)) where
     takes-end : (n : ℕ) (t : World) → Lent prog (t .machine) (t .memory) → n ≤ benchBudget - total
@@ -240,7 +236,7 @@ module _ (prog : List ℕ) (outs : ℕ) where
     takes-end n t g few later =
         let s = takes outs 0 (t .machine) (t .memory) in
         let p = takes-print outs 0 (t .machine) (t .memory) in
-        by-list (s .lines) (λ e. rw e (ends [] waiting (total + n)))
+        by-list (s .lines) (λ e. rw e (ends [] waiting (total + n) (omega arith)))
         (λ x k e.
         let woken : Runs (s .machine .cpu) = ⊎-elim (λ z. never (cc (p .are, ap outLines z))) (λ r. r) (p .woken) in
         let rest = next n (s .machine) (s .memory) few later (lent-same (p .setup-same) (p .length-same) g) woken in
@@ -250,44 +246,37 @@ module _ (prog : List ℕ) (outs : ℕ) where
     run-ends : (o : Outcome) (t : World) → Took prog (benchBudget - total) (worldOf m memory) t o
         → (Runs (m .cpu) → o ≡ Waiting 0 → _≡_ {A = ℕ} 0 1)
         → Ends (onRun (finished (record { outcome = o; world = t })) outs total more)
-    run-ends (Ended n) t k later = ends [] stoodEnded (total + n)
-    run-ends (Spent n) t k later = ends [] spent (total + n)
-    run-ends (RunFault n f) t k later = ends [] fault (total + n)
+    run-ends (Ended n) t (d, few) later = ends [] stoodEnded (total + n) (omega arith)
+    run-ends (Spent n) t (d, few) later = ends [] spent (total + n) (omega arith)
+    run-ends (RunFault n f) t (u, d, e, w, few) later = ends [] fault (total + n) (omega arith)
     run-ends (Waiting n) t (d, few) later =
         let same = bytes-same prog n d in
         takes-end n t (lent-same (same .setup-same) (same .length-same) h) few (λ r z. later r (ap Waiting z))
 
-  rounds-end : (f total : ℕ) (m : Machine) (memory : List ℕ) → Lent prog m memory → Enough f total m
+  rounds-end : (f total : ℕ) → total ≤ benchBudget → (m : Machine) (memory : List ℕ) → Lent prog m memory → Enough f total m
       → Ends (rounds f prog outs total m memory)
   unfolding rounds
-  rounds-end zero total m memory h (inl b) = absurd (omega arith)
-  rounds-end zero total m memory h (inr (r, b)) = absurd (omega arith)
-  rounds-end (suc f) total m memory h left =
+  rounds-end zero total inside m memory h (inl b) = absurd (omega arith)
+  rounds-end zero total inside m memory h (inr (r, b)) = absurd (omega arith)
+  rounds-end (suc f) total inside m memory h left =
       let b = benchBudget - total in
       let w = worldOf m memory in
-      by-kept (m .fault)
-      (λ n.
-      let g : Goes m prog memory = record { code-long = h .code-long; memory-long = h .memory-long; no-fault = n } in
       let F = runFrom b prog 0 w in
-      rw (run-goes g b)
-      (run-ends total m memory h (λ n m2 memory2. rounds f prog outs n m2 memory2)
-      (λ n m′ memory′ few later g′ r. rounds-end f (total + n) m′ memory′ g′ (inr (r, enough-next f total n m left few later)))
+      by-run m prog memory
+      (λ k z e. never (cc (rw (h .code-long, h .memory-long) at z)))
+      (λ k f e. rw (e b) (ends [] fault (total + 0) (omega arith)))
+      (λ g. rw (run-goes g b)
+      (run-ends total inside m memory h (λ n m2 memory2. rounds f prog outs n m2 memory2)
+      (λ n m′ memory′ few later g′ r.
+      rounds-end f (total + n) (omega arith) m′ memory′ g′ (inr (r, enough-next f total n m left few later)))
       (F .outcome) (F .world) (took prog b w) (λ r e. waits-later prog b w r e)))
-      (λ k e. rw (run-kept h e b) (ends [] fault (total + 0)))
 
 -- a started machine is lent what it needs, and so is one whose start was refused: it needs nothing
 start-lent : (code memory : List ℕ) (w i o q : ℕ) → let s = start code memory w i o q in Lent code (s .machine) (s .memory)
-unfolding start fresh blank cleared
+unfolding fresh blank cleared
 start-lent code memory w i o q =
-    let P : After StartAnswer → Type 0 = λ f. Lent code (f .machine) (f .memory) in
-    let nothing : Lent code blank memory = record {
-      code-long = le-ltb (length code) 0 (omega arith);
-      memory-long = le-ltb (length memory) 0 (omega arith);
-    } in
-    of-cond P (leb 1 q && leb q sliceLimit)
-    (of-cond P (leb i channelLimit && leb o channelLimit)
-    (of-cond P (leb (w + i + o) wordLimit && leb (length code) codeLimit)
-    (of-cond P (leb (w + i + o) (length memory))
+    by-start code memory w i o q (λ (f : After StartAnswer). Lent code (f .machine) (f .memory))
+    (λ a. record { code-long = le-ltb (length code) 0 (omega arith); memory-long = le-ltb (length memory) 0 (omega arith) })
     (record {
       code-long = le-ltb (length code) (length code) (omega arith);
       memory-long = le-ltb _ (w + i + o)
@@ -299,22 +288,18 @@ start-lent code memory w i o q =
             length-replicate (i + o) notProcess,
           ));
     })
-    nothing) nothing) nothing) nothing
 
-full-report : (code : List ℕ) (words : ℕ) {text : List ℕ} → Ends text
-    → Report (line "bytes " (length code) ++ line "words " words ++ codeLine code ++ text)
-full-report code words (ends outs stood n) = rw (← append-assoc) (full code words outs stood n)
+full-report : (p : Program) (code : List ℕ) {text : List ℕ} → Ends text
+    → Report (compiled p code) (line "bytes " (length code) ++ line "words " (memoryWords p) ++ codeLine code ++ text)
+full-report p code (ends outs stood n b) = rw (← append-assoc) (full p code outs stood n b)
 
-start-reports : (p : Program) (bytes : List ℕ) → Report (ofStart p bytes)
-start-reports p bytes =
+reports : (c : Compilation) → Report c (ofCompilation c)
+reports (compiled p bytes) =
     let memory : List ℕ = replicate (memoryWords p) 0 in
     let s = start bytes memory (base p) (p .inputs) (p .outputs) benchSlice in
-    full-report bytes (memoryWords p)
-    (rounds-end bytes (p .outputs) (2 + benchBudget) 0 (s .machine) (s .memory)
+    full-report p bytes
+    (rounds-end bytes (p .outputs) (2 + benchBudget) 0 (omega arith) (s .machine) (s .memory)
     (start-lent bytes memory (base p) (p .inputs) (p .outputs) benchSlice) (inl (omega arith)))
-
-reports : (c : Compilation) → Report (ofCompilation c)
-reports (compiled p bytes) = start-reports p bytes
 reports (refused n r) = one-refusal n r
 
 pub always-reports : AlwaysReports

@@ -6,9 +6,11 @@ use mathlib.Core.Path.{_≡_, refl, ap, _∙_}
 use mathlib.Core.Bool.{true, false, _&&_, _||_}
 use mathlib.Core.List.{List, [], append-nil}
 use lib.ListN.{length, getD, drop}
-use lib.Dec.{ltb}
+use lib.Dec.{ltb, leb}
+use Rattle.model.specs.Limits.{codeLimit, wordLimit, channelLimit, sliceLimit}
 use Rattle.model.specs.Machine.{Talk, World, Result, done, faults, memorySize}
-use Rattle.model.specs.Run.{byte, ended, waits, Finish, runFrom, shortMemory, unchanged, worldOf, finished, run}
+use Rattle.model.specs.Run.{byte, ended, waits, Finish, runFrom, shortMemory, After, unchanged, worldOf, finished, run, fresh, blank}
+use Rattle.model.specs.Run.{cleared, start}
 use Rattle.model.specs.Outside.{offering, offered, offerUnless, offer, taking, took as tookBy, takeUnless, take}
 use Rattle.model.specs.Laws.{counted, andThen, Splits, Beyond, KeepsBeyond, OfferKeepsBeyond, TakeKeepsBeyond, bytes, Took}
 use Rattle.model.specs.Laws.{CountsSteps}
@@ -19,6 +21,13 @@ use Rattle.model.specs.declared.Kept.the-variants.{Nothing, Fault as Kep
 use Rattle.model.specs.declared.Outcome.{Outcome}
 use Rattle.model.specs.declared.Outcome.the-variants.{Ended, Waiting, Spent, Fault as RunFault}
 use Rattle.model.specs.declared.RunAnswer.the-variants.{Ran, Short as RunShort}
+use Rattle.model.specs.declared.Setup.{Setup}
+use Rattle.model.specs.declared.StartAnswer.{StartAnswer}
+use Rattle.model.specs.declared.StartAnswer.the-variants.{Started}
+use Rattle.model.specs.declared.OfferAnswer.{OfferAnswer}
+use Rattle.model.specs.declared.TakeAnswer.{TakeAnswer}
+use Rattle.model.specs.declared.TakeAnswer.the-variants.{Taken, Nothing as TakeNothing, Short as TakeShort, Fault as TakeFault}
+use Rattle.model.specs.declared.TakeAnswer.the-variants.{NoChannel}
 use Rattle.model.proofs.Cases.{by-bool, of-cond, never}
 use Rattle.model.proofs.Regular.{behind, Same, Regular, by-alike, seq, returned, of-byte, of-offering, of-taking}
 
@@ -189,21 +198,52 @@ take-beyond : (k : ℕ) (m : Machine) (memory : List ℕ) → Beyond m memory (t
 take-beyond k m memory =
     by-alike (of-taking k .from [] (worldOf m memory)) (λ a s p q h. rw p (h .length-same, h .beyond-same)) (λ j p q. rw p (refl, refl))
 
-module _ (m : Machine) (memory : List ℕ) (k : ℕ) where
-  offer-unless : (e : Kept) (v : ℕ) → Beyond m memory (offerUnless e m memory k v)
-  offer-unless (KeptFault j) v = (refl, refl)
-  offer-unless Nothing v =
-      of-cond (Beyond m memory) (ltb k (m .setup .inputs) && ltb k 8)
-      (of-cond (Beyond m memory) (getD (m .held) k false) (refl, refl) (offer-beyond k v m memory)) (refl, refl)
+-- an offer is refused and changes nothing, or comes to what offering does
+module _ (m : Machine) (memory : List ℕ) (k v : ℕ) (P : After OfferAnswer → Type 0) (refused : (a : OfferAnswer) → P (unchanged a m memory))
+    (goes : P (offered (offering k v (worldOf m memory)) m memory)) where
+  offer-unless : (e : Kept) → P (offerUnless e m memory k v)
+  offer-unless (KeptFault j) = refused _
+  offer-unless Nothing =
+      of-cond P (ltb k (m .setup .inputs) && ltb k channelLimit) (of-cond P (getD (m .held) k false) (refused _) goes) (refused _)
 
-  take-unless : (e : Kept) → Beyond m memory (takeUnless e m memory k)
-  take-unless (KeptFault j) = (refl, refl)
-  take-unless Nothing = of-cond (Beyond m memory) (ltb k (m .setup .outputs)) (take-beyond k m memory) (refl, refl)
+  pub by-offer : P (offer m memory k v)
+  unfolding offer
+  by-offer = of-cond P (shortMemory m memory) (refused _) (offer-unless (m .fault))
+
+-- a take, likewise; where it is refused it has no value
+abbrev pub NoValue : TakeAnswer → Type 0
+NoValue (Taken v) = ⊥
+NoValue TakeNothing = Unit {0}
+NoValue (TakeShort n) = Unit {0}
+NoValue (TakeFault f) = Unit {0}
+NoValue NoChannel = Unit {0}
+
+module _ (m : Machine) (memory : List ℕ) (k : ℕ) (P : After TakeAnswer → Type 0)
+    (refused : (a : TakeAnswer) → NoValue a → P (unchanged a m memory)) (goes : P (tookBy (taking k (worldOf m memory)) m memory)) where
+  take-unless : (e : Kept) → P (takeUnless e m memory k)
+  take-unless (KeptFault j) = refused (TakeFault j) tt
+  take-unless Nothing = of-cond P (ltb k (m .setup .outputs)) goes (refused NoChannel tt)
+
+  pub by-take : P (take m memory k)
+  unfolding take
+  by-take = of-cond P (shortMemory m memory) (refused (TakeShort (memorySize (m .setup))) tt) (take-unless (m .fault))
+
+-- a start is refused, or begins a machine
+module _ (code memory : List ℕ) (w i o q : ℕ) (P : After StartAnswer → Type 0) (refused : (a : StartAnswer) → P (unchanged a blank memory))
+  where
+    pub by-start :
+        (let u : Setup = record { code = length code; base = w; inputs = i; outputs = o; slice = q } in
+        P (record { answer = Started; machine = fresh u; memory = cleared u memory; talk = [] }))
+        → P (start code memory w i o q)
+    unfolding start
+    by-start begins =
+        of-cond P (leb 1 q && leb q sliceLimit)
+        (of-cond P (leb i channelLimit && leb o channelLimit)
+        (of-cond P (leb (w + i + o) wordLimit && leb (length code) codeLimit)
+        (of-cond P (leb (w + i + o) (length memory)) begins (refused _)) (refused _)) (refused _)) (refused _)
 
 pub offer-keeps-beyond : OfferKeepsBeyond
-unfolding offer
-offer-keeps-beyond m memory k v = of-cond (Beyond m memory) (shortMemory m memory) (refl, refl) (offer-unless m memory k (m .fault) v)
+offer-keeps-beyond m memory k v = by-offer m memory k v (Beyond m memory) (λ a. (refl, refl)) (offer-beyond k v m memory)
 
 pub take-keeps-beyond : TakeKeepsBeyond
-unfolding take
-take-keeps-beyond m memory k = of-cond (Beyond m memory) (shortMemory m memory) (refl, refl) (take-unless m memory k (m .fault))
+take-keeps-beyond m memory k = by-take m memory k (Beyond m memory) (λ a n. (refl, refl)) (take-beyond k m memory)

@@ -2,34 +2,30 @@
 use Prim.Native.Nat.{ℕ, zero, suc, _+_}
 use mathlib.Core.Path.{_≡_, refl, sym, _∙_}
 use mathlib.Core.Logic.{⊎-elim}
-use mathlib.Core.Bool.{false, _&&_, _||_}
+use mathlib.Core.Bool.{false, _||_}
 use mathlib.Core.List.{List, [], _∷_, _++_, List·Memᴰ, List·Memᴰ·cases-cons, List·Memᴰ·not-nil}
 use mathlib.Core.Option.{Option}
 use lib.ListN as L
-use lib.ListN.{length, getD, drop}
-use lib.Dec.{ltb, leb}
+use lib.ListN.{drop}
 use Rattle.model.specs.Word.{low}
-use Rattle.model.specs.Limits.{codeLimit, wordLimit, channelLimit, sliceLimit}
-use Rattle.model.specs.Machine.{World, Result, done, faults, Act, fault, setup}
+use Rattle.model.specs.Machine.{World, Result, done, faults, Act}
 use Rattle.model.specs.Machine.{release}
-use Rattle.model.specs.Run.{byte, ended, waits, runFrom, shortMemory, After, worldOf, run, fresh, blank, start}
-use Rattle.model.specs.Outside.{offering, offered, offerUnless, offer, taking, took, takeUnless, take}
+use Rattle.model.specs.Run.{byte, ended, waits, runFrom, After, worldOf, run, fresh, blank, start}
+use Rattle.model.specs.Outside.{offering, offered, offer, taking, took, take}
 use Rattle.model.specs.History.{Call, callRun, callOffer, callTake, Moment, bytes, during, call, history}
 use Rattle.model.specs.Laws.{WaitsWithEmptyQueue}
 use Rattle.model.specs.declared.Cpu.{Cpu}
 use Rattle.model.specs.declared.Machine.{Machine}
-use Rattle.model.specs.declared.Kept.{Kept}
-use Rattle.model.specs.declared.Kept.the-variants.{Nothing, Fault as KeptFault}
 use Rattle.model.specs.declared.StartAnswer.{StartAnswer}
 use Rattle.model.specs.declared.OfferAnswer.{OfferAnswer}
 use Rattle.model.specs.declared.TakeAnswer.{TakeAnswer}
-use Rattle.model.proofs.Cases.{by-bool, of-cond, never}
+use Rattle.model.proofs.Cases.{by-bool, never}
 use Rattle.model.proofs.Keeping.{Left, Keeps, brings-keeps, bind, returning, setting, of-peek, of-poke, of-testPlace}
 use Rattle.model.proofs.Keeping.{brings-weaker, Runs}
 use Rattle.model.proofs.Keeping.{takeFront-runs, join-runs}
-use Rattle.model.proofs.Made.{Made, binds, reads, sets, returns, fails, sets-up, communicates, drops, asks, holds, outputs}
+use Rattle.model.proofs.Made.{Made, binds, reads, sets, returns, fails, reads-setup, communicates, drops, asks, holds, outputs}
 use Rattle.model.proofs.Made.{peeks, pokes, tests, releases, joins, of-byte, of-offering, of-taking}
-use Rattle.model.proofs.Runs.{by-result, run-goes, by-run}
+use Rattle.model.proofs.Runs.{by-result, run-goes, by-run, by-offer, by-take, by-start}
 use Rattle.model.proofs.Recorded.{during-short, during-kept, during-goes}
 
 -- a processor without a process has an empty queue
@@ -55,7 +51,7 @@ keeps (reads k) = record { from = λ s h. keeps (k (s .machine .cpu) h) .from s 
 keeps (sets r h) = setting r h
 keeps (returns a) = returning a
 keeps (fails k) = record { from = λ s h. tt }
-keeps sets-up = record { from = λ s h. h }
+keeps reads-setup = record { from = λ s h. h }
 keeps (communicates c v) = record { from = λ s h. h }
 keeps (drops c) = record { from = λ s h. h }
 keeps (asks c) = record { from = λ s h. h }
@@ -70,11 +66,11 @@ keeps (joins w) = brings-keeps (brings-weaker busy (join-runs w))
 flags : (r q : Cpu) → Settled r → q .running ≡ r .running → q .queued ≡ r .queued → Settled q
 flags r q h e f z = f ∙ h (sym e ∙ z)
 
--- what a machine that calls leave is
+-- a machine whose registers are settled
 abbrev Rests : Machine → Type 0
 Rests m = Settled (m .cpu)
 
--- the machines of moments are
+-- every moment has such a machine
 abbrev All : List Moment → Type 0
 All [] = Unit {0}
 All (a ∷ l) = Rests (a .machine) × All l
@@ -129,32 +125,21 @@ module _ (m : Machine) (h : Rests m) (memory : List ℕ) where
   offered-rests (done a s) g = g
   offered-rests (faults k) g = h
 
-  offer-unless : (e : Kept) (k v : ℕ) → Rests (offerUnless e m memory k v .machine)
-  offer-unless (KeptFault f) k v = h
-  offer-unless Nothing k v =
-      let P : After OfferAnswer → Type 0 = λ f. Rests (f .machine) in
-      let w = worldOf m memory in
-      of-cond P (ltb k (m .setup .inputs) && ltb k channelLimit)
-      (of-cond P (getD (m .held) k false) h (offered-rests (offering k v w) (keeps (of-offering flags k v) .from w h))) h
-
   offer-rests : (k v : ℕ) → Rests (offer m memory k v .machine)
-  unfolding offer
-  offer-rests k v = of-cond (λ (f : After OfferAnswer). Rests (f .machine)) (shortMemory m memory) h (offer-unless (m .fault) k v)
+  offer-rests k v =
+      let w = worldOf m memory in
+      by-offer m memory k v (λ (f : After OfferAnswer). Rests (f .machine)) (λ a. h)
+      (offered-rests (offering k v w) (keeps (of-offering flags k v) .from w h))
 
   took-rests : (r : Result (Option ℕ)) → Left Settled r → Rests (took r m memory .machine)
   took-rests (done a s) g = g
   took-rests (faults k) g = h
 
-  take-unless : (e : Kept) (k : ℕ) → Rests (takeUnless e m memory k .machine)
-  take-unless (KeptFault f) k = h
-  take-unless Nothing k =
-      let w = worldOf m memory in
-      of-cond (λ (f : After TakeAnswer). Rests (f .machine)) (ltb k (m .setup .outputs))
-      (took-rests (taking k w) (keeps (of-taking flags k) .from w h)) h
-
   take-rests : (k : ℕ) → Rests (take m memory k .machine)
-  unfolding take
-  take-rests k = of-cond (λ (f : After TakeAnswer). Rests (f .machine)) (shortMemory m memory) h (take-unless (m .fault) k)
+  take-rests k =
+      let w = worldOf m memory in
+      by-take m memory k (λ (f : After TakeAnswer). Rests (f .machine)) (λ a n. h)
+      (took-rests (taking k w) (keeps (of-taking flags k) .from w h))
 
 call-rests : (code : List ℕ) (c : Call) (m : Machine) (memory : List ℕ) → Rests m
     → let r = call code c m memory in All (r .moments) × Rests (r .machine)
@@ -177,13 +162,9 @@ history-rests code (c ∷ cs) m memory h =
     all-append (r .moments) (history code cs (r .machine) (r .memory)) here (history-rests code cs (r .machine) (r .memory) g)
 
 start-rests : (code memory : List ℕ) (w i o q : ℕ) → Rests (start code memory w i o q .machine)
-unfolding start fresh blank
+unfolding fresh blank
 start-rests code memory w i o q =
-    let P : After StartAnswer → Type 0 = λ f. Rests (f .machine) in
-    of-cond P (leb 1 q && leb q sliceLimit)
-    (of-cond P (leb i channelLimit && leb o channelLimit)
-    (of-cond P (leb (w + i + o) wordLimit && leb (length code) codeLimit)
-    (of-cond P (leb (w + i + o) (length memory)) (λ z. refl) (λ z. refl)) (λ z. refl)) (λ z. refl)) (λ z. refl)
+    by-start code memory w i o q (λ (f : After StartAnswer). Rests (f .machine)) (λ a z. refl) (λ z. refl)
 
 pub waits-with-empty-queue : WaitsWithEmptyQueue
 waits-with-empty-queue code memory w i o q cs a mem z =

@@ -1,7 +1,7 @@
 -- The proved examples of 01 as one statement about the definitions. proofs/Examples.antt proves each part by computation.
 -- Bytes are hexadecimal, the rest decimal. Beside 01's list stand depth 33 and the depths of NOTs and, from GT on, operators by Occam's
 -- rules and, as a program that outputs what they give, in the machine; names of two scopes; and stored values (02, order 2). At the end
--- stand lists of figures that 01, 02 and the guide give, so that no definition can have another.
+-- stand lists of figures that 01, 02 and the guide give, so that a definition with another one is refused.
 use Prim.Native.Nat.{ℕ, zero, suc, _≤_}
 use Prim.Native.String.{String, _++_}
 use mathlib.Core.Path.{_≡_}
@@ -133,8 +133,8 @@ unfoldable pub copies : ℕ → List ℕ → List ℕ
 copies zero part = []
 copies (suc n) part = part ⧺ copies n part
 
--- a PAR of so many PARs of 16 SKIPs, and a part behind them
-abbrev pars : (count : ℕ) → (inner : ℕ) → List ℕ → List ℕ
+-- a table that is a PAR of so many branches: as many PARs of 16 SKIPs as are said, and the rest
+abbrev pars : (branches inner : ℕ) → (rest : List ℕ) → List ℕ
 pars n k rest = 0x00 ∷ 0x00 ∷ 0x08 ∷ n ∷ copies k (0x08 ∷ 0x10 ∷ copies 16 (0x00 ∷ [])) ⧺ rest
 
 -- the refusal of a table at reading, if it gets one

@@ -9,13 +9,17 @@ use mathlib.Core.List.{List, [], _∷_, _++_, List·Memᴰ}
 use mathlib.Core.Option.{some}
 use lib.ListN as L
 use lib.ListN.{length, drop}
+use Rattle.model.specs.Limits.{codeLimit}
+use Rattle.model.specs.Syntax.{Program}
+use Rattle.model.specs.Accept.{memoryWords}
 use Rattle.model.specs.Instruction.{Function, functionCode}
 use Rattle.model.specs.Prefix.{withPrefixes, fewest, decode}
+use Rattle.model.specs.Code.{Compilation, compiled, refused, compile}
 use Rattle.model.specs.Machine.{Talk, World, done, faults, Act, _>>_, return, memorySize}
 use Rattle.model.specs.Answers.{instructionsOf}
 use Rattle.model.specs.Run.{byte, waits, keep, After, worldOf, start, run}
 use Rattle.model.specs.Outside.{offer, take}
-use Rattle.model.specs.Bench.{line, codeLine, refusedLine, outLine, bench}
+use Rattle.model.specs.Bench.{line, codeLine, refusedLine, outLine, benchBudget, bench}
 use Rattle.model.specs.History.{Call, callRun, Moment, quietly, call, history}
 use Rattle.model.specs.declared.Machine.{Machine}
 use Rattle.model.specs.declared.Kept.the-variants.{Nothing}
@@ -181,14 +185,15 @@ standingName waiting = "waiting "
 standingName spent = "spent "
 standingName fault = "fault "
 
--- the texts that the bench program may print: one refusal line; or code length, words and code, then lines of outputs, and at the end a
--- line that says how the machine stood, with a number
-pub data Report : List ℕ → Type 0 where
-  one-refusal : (number returned : ℕ) → Report (refusedLine number returned)
-  full : (code : List ℕ) (words : ℕ) (outs : List Out) (stood : Standing) (instructions : ℕ)
-      → Report
-      (line "bytes " (length code) ++ line "words " words ++ codeLine code ++ outLines outs ++ line (standingName stood) instructions)
+-- the texts that the bench program may print for a table that compiles to this: its refusal's line; or its code's length, its words and
+-- its code, then lines of outputs, and at the end a line that says how the machine stood, with at most as many instructions as the budget
+pub data Report : Compilation → List ℕ → Type 0 where
+  one-refusal : (number returned : ℕ) → Report (refused number returned) (refusedLine number returned)
+  full : (p : Program) (code : List ℕ) (outs : List Out) (stood : Standing) (instructions : ℕ) → instructions ≤ benchBudget
+      → Report (compiled p code)
+      (line "bytes " (length code) ++ line "words " (memoryWords p) ++ codeLine code ++ outLines outs
+      ++ line (standingName stood) instructions)
 
 -- law 8: for every table the bench program's text is one of these, so it always says how the machine stood
 abbrev pub AlwaysReports : Type 0
-AlwaysReports = (table : List ℕ) → Report (bench table)
+AlwaysReports = (table : List ℕ) → Report (compile table codeLimit) (bench table)

@@ -5,7 +5,6 @@ use mathlib.Core.Path.{_≡_}
 use mathlib.Core.Logic.{_⊎_}
 use mathlib.Core.List.{List, [], _∷_, List·Memᴰ}
 use lib.ListN.{length, getD}
-use Rattle.model.specs.Limits.{registerLimit}
 use Rattle.model.specs.Syntax.{Site, Expr, constant, variable, NOT, binary}
 use Rattle.model.specs.Usage.{reads}
 use Rattle.model.specs.Counts.{registers, temporaries}
@@ -24,11 +23,11 @@ abbrev pub NeverRefuses8 : Type 0
 NeverRefuses8 = (table : List ℕ) (room : ℕ) (returned : List ℕ)
     → (readRefusal (accept table) ≡ refusal 8 returned → ⊥) × (compileRefusal (compile table room) ≡ refusal 8 returned → ⊥)
 
--- no expression counts more than three registers
+-- no expression counts more than the three registers that there are
 abbrev pub AtMostThree : Type 0
-AtMostThree = (e : Expr) → registers e ≤ registerLimit
+AtMostThree = (e : Expr) → registers e ≤ 3
 
--- instructions carried out one after the other; `off` gives each its first byte
+-- instructions carried out one after the other. `off` gives each its first byte; only code distances ask for it, and expressions have none
 abbrev pub perform : (off : ℕ → ℕ) → List Instruction → Act (Unit {0})
 perform off [] = return tt
 perform off (x ∷ xs) = do

@@ -6,7 +6,7 @@ pub const TABLE: usize = 16384;
 // The bytes of code.
 pub const CODE: usize = 16384;
 
-// The words of memory, with outside channels; in 64 bits where they are summed wide, and as the length of a buffer that serves every program.
+// The words of memory, with outside channels; in 64 bits where they are summed wide, and as a length of memory that serves every program.
 pub const WORDS: u32 = 4096;
 
 pub const WIDE_WORDS: u64 = WORDS as u64;

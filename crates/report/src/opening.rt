@@ -11,7 +11,7 @@ ghost use Rattle.model.specs.declared.Compiled.the-variants.{Code};
 ghost use Rattle.report.specs.Texts.{textOf};
 ghost use Rattle.report.specs.Opens.{refusing as refusingFor, Begins, begunBy, loaded, Opens, openOf};
 
-// One round more than there are instructions, and one for the takes behind the last.
+// Two rounds more than there are instructions, as in the definition (specs/Bench.antt `bench`).
 const ROUNDS: u32 = 65538;
 
 // A report of a refusal.
