@@ -10,7 +10,7 @@ use Rattle.model.specs.Instruction.{Instruction, plain, distance}
 use Rattle.model.specs.Code.{prefixesOf, bytesIn}
 use Rattle.model.specs.Scheme.{operatorSize, sidesSize, exprSize, wrapSize, wholeSize, howMany, size, sizeAll, sizePar, sizeEnds}
 use Rattle.model.specs.Scheme.{sizePairs, sizeEnable, sizeDisable, sizeBranches}
-use Rattle.model.proofs.RoundTrip.{fewest-fits}
+use Rattle.model.proofs.Coding.RoundTrip.{fewest-fits}
 use Rattle.compiler.proofs.Spelled.{ExprAt, constantAt, variableAt, notAt, binaryAt, StmtAt, skipAt, stopAt, assignAt, inputAt}
 use Rattle.compiler.proofs.Spelled.{outputAt, varAt, chanAt, seqAt, parAt, ifAt, whileAt, altAt, StmtsAt, noStmtAt, stmtsAt, PairsAt}
 use Rattle.compiler.proofs.Spelled.{noPairAt, pairAt, GuardsAt, noGuardAt, inputGuardAt, skipGuardAt}

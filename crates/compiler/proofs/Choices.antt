@@ -18,8 +18,8 @@ use Rattle.model.specs.Prefix.{fewest, fewestFrom, enough}
 use Rattle.model.specs.Code.{prefixesOf, bytesIn, encode}
 use Rattle.model.specs.Scheme.{size, sizeEnable, sizeDisable, sizeBranches, local, guardCode, inputCode, code, codeEnable, codeDisable}
 use Rattle.model.specs.Scheme.{codeBranches, altWords}
-use Rattle.model.proofs.Well.{Laid, LaidGuards}
-use Rattle.model.proofs.Sizes.{code-length, enable-length, disable-length, branches-length}
+use Rattle.model.proofs.Tables.WellFormed.{Laid, LaidGuards}
+use Rattle.model.proofs.Coding.Sizes.{code-length, enable-length, disable-length, branches-length}
 use Rattle.emitter.specs.Emits.{at, operationInto}
 use Rattle.emitter.specs.Extents.{extentIn}
 use Rattle.emitter.specs.Simples.{inInto, inputInto}

@@ -15,7 +15,7 @@ use Rattle.model.specs.Code.{returnedOf}
 use Rattle.model.specs.declared.Facts.{Facts}
 use Rattle.model.specs.declared.Reading.the-variants.{Accepted, Refused}
 use Rattle.model.specs.declared.Compiled.the-variants.{Code as CodeOf, Refused as NoCode}
-use Rattle.model.proofs.Accepts.{compile-accepts}
+use Rattle.model.proofs.Tables.Accepts.{compile-accepts}
 use Rattle.model.proofs.Cases.{never}
 use Rattle.table.proofs.SameItems.{Bytes}
 use Rattle.emitter.specs.Emits.{at}

@@ -11,7 +11,7 @@ use Rattle.model.specs.Counts.{need}
 use Rattle.model.specs.Instruction as I
 use Rattle.model.specs.Instruction.{plain, operation, ldlp, ajw, stl, functionCode, operationCode}
 use Rattle.model.specs.Scheme.{local, wholeCode, inputCode, code}
-use Rattle.model.proofs.Well.{Laid}
+use Rattle.model.proofs.Tables.WellFormed.{Laid}
 use Rattle.emitter.specs.Emits.{at, operationInto}
 use Rattle.emitter.specs.Exprs.{written}
 use Rattle.emitter.specs.Simples.{inputInto, outputInto, assignInto, inInto, outInto, simpleInto}

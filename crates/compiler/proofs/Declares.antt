@@ -17,9 +17,9 @@ use Rattle.model.specs.Counts.{need}
 use Rattle.model.specs.Instruction.{Instruction, plain, operation, ldc, ajw, stl, mint, functionCode, operationCode}
 use Rattle.model.specs.Code.{bytesIn, encode}
 use Rattle.model.specs.Scheme.{initialise, code}
-use Rattle.model.proofs.Well.{Laid}
-use Rattle.model.proofs.Points.{getElem-inside as inside}
-use Rattle.model.proofs.Sizes.{initialise-length}
+use Rattle.model.proofs.Tables.WellFormed.{Laid}
+use Rattle.model.proofs.Quiet.Setting.{getElem-inside as inside}
+use Rattle.model.proofs.Coding.Sizes.{initialise-length}
 use Rattle.table.proofs.SameSimple.{numbered-at, lookup-append, length-numbered}
 use Rattle.emitter.specs.Emits.{Code, at, plainInto, operationInto, declaredWords}
 use Rattle.emitter.specs.Exprs.{written, codeOf}

@@ -6,9 +6,9 @@ use native.Mathlib.Omega.{arith}
 use Rattle.model.specs.Syntax.{Program}
 use Rattle.model.specs.Scheme.{scheme}
 use Rattle.model.specs.Code.{placeOf, Realises, compiled, compile}
-use Rattle.model.proofs.Accepts.{accept-reads, compile-accepts}
-use Rattle.model.proofs.Readers.{read-well}
-use Rattle.model.proofs.Realise.{code-realises}
+use Rattle.model.proofs.Tables.Accepts.{accept-reads, compile-accepts}
+use Rattle.model.proofs.Tables.Readers.{read-well}
+use Rattle.model.proofs.Coding.Realise.{code-realises}
 
 -- demand 2: each instruction of the scheme stands in the code from its place on, up to the code's end
 pub compile-realises : (table : List ℕ) (room : ℕ) (p : Program) (code : List ℕ) → compile table room ≡ compiled p code

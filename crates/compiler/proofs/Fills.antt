@@ -10,7 +10,7 @@ use Rattle.model.specs.Word.{low, less}
 use Rattle.model.specs.Instruction.{Function, opr, functionCode, Operation, operationCode, Instruction, plain, distance, operation}
 use Rattle.model.specs.Prefix.{fewest}
 use Rattle.model.specs.Code.{prefixesOf, bytesIn, functionIn, operandIn, encode}
-use Rattle.model.proofs.Realise.{encode-length}
+use Rattle.model.proofs.Coding.Realise.{encode-length}
 use Rattle.instruction.proofs.Stores.{sets-append, sets-comm, sets-join}
 use Rattle.instruction.proofs.Decodes.{coded-is}
 use Rattle.emitter.specs.Emits.{Code, at, plainInto, distanceInto, operationInto}

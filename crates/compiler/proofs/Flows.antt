@@ -14,8 +14,8 @@ use Rattle.model.specs.Instruction as I
 use Rattle.model.specs.Instruction.{Instruction, distance, cj, functionCode}
 use Rattle.model.specs.Code.{prefixesOf, bytesIn, encode}
 use Rattle.model.specs.Scheme.{wholeSize, size, sizePairs, wholeCode, code, codeAll, codePairs}
-use Rattle.model.proofs.Well.{Laid, LaidAll, LaidPairs}
-use Rattle.model.proofs.Sizes.{whole-length, code-length, pairs-length}
+use Rattle.model.proofs.Tables.WellFormed.{Laid, LaidAll, LaidPairs}
+use Rattle.model.proofs.Coding.Sizes.{whole-length, code-length, pairs-length}
 use Rattle.emitter.specs.Emits.{Code, at, distanceInto}
 use Rattle.emitter.specs.Exprs.{Wrote, written, wholeInto}
 use Rattle.compiler.specs.Stmts.{seqInto, ifInto}

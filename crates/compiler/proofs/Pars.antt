@@ -16,8 +16,8 @@ use Rattle.model.specs.Instruction.{operationCode}
 use Rattle.model.specs.Prefix.{fewest, fewestFrom, enough}
 use Rattle.model.specs.Code.{prefixesOf, bytesIn, encode}
 use Rattle.model.specs.Scheme.{howMany, size, sizeEnds, code, codePar, codeStarts, codeEnds}
-use Rattle.model.proofs.Well.{Laid, LaidBranches}
-use Rattle.model.proofs.Sizes.{code-length, starts-length, ends-length}
+use Rattle.model.proofs.Tables.WellFormed.{Laid, LaidBranches}
+use Rattle.model.proofs.Coding.Sizes.{code-length, starts-length, ends-length}
 use Rattle.emitter.specs.Emits.{at, operationInto}
 use Rattle.emitter.specs.Exprs.{written}
 use Rattle.compiler.specs.Stmts.{startsEnd, startInto, branchesInto, headerInto, parInto}

@@ -8,7 +8,7 @@ use lib.ListN.{length}
 use Rattle.model.specs.Syntax.{Site, Expr, constant, variable, binary, Stmt}
 use Rattle.model.specs.Reader.{Scope}
 use Rattle.model.specs.Counts.{order, registers, temporaries, need}
-use Rattle.model.proofs.Needs.{registers-three, sides-hold}
+use Rattle.model.proofs.Tables.Needs.{registers-three, sides-hold}
 use Rattle.numbers.specs.Items.{valueAt}
 use Rattle.numbers.specs.declared.Value.{Value}
 use Rattle.emitter.specs.Plans.{nextOf, entry, nextIn, registersIn, storedIn, planAt, sidesEntry, exprEntry}

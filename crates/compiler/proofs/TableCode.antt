@@ -19,13 +19,13 @@ use Rattle.model.specs.Code.{prefixesOf, bytesIn, placeOf, codeOf}
 use Rattle.model.specs.Scheme.{scheme, code}
 use Rattle.model.specs.declared.Facts.{Facts}
 use Rattle.model.proofs.Cases.{never}
-use Rattle.model.proofs.Well.{outermost}
-use Rattle.model.proofs.Lays.{program-laid}
-use Rattle.model.proofs.Readers.{ReadWhole, read-whole}
-use Rattle.model.proofs.Accepts.{accept-reads}
-use Rattle.model.proofs.Realise.{encode-length}
-use Rattle.model.proofs.Sizes.{code-length}
-use Rattle.model.proofs.Points.{getElem-inside as inside}
+use Rattle.model.proofs.Tables.WellFormed.{outermost}
+use Rattle.model.proofs.Coding.Layouts.{program-laid}
+use Rattle.model.proofs.Tables.Readers.{ReadWhole, read-whole}
+use Rattle.model.proofs.Tables.Accepts.{accept-reads}
+use Rattle.model.proofs.Coding.Realise.{encode-length}
+use Rattle.model.proofs.Coding.Sizes.{code-length}
+use Rattle.model.proofs.Quiet.Setting.{getElem-inside as inside}
 use Rattle.table.proofs.SameItems.{Bytes}
 use Rattle.table.proofs.SameSimple.{numbered-at, lookup-append, length-numbered}
 use Rattle.emitter.specs.Emits.{at, declaredWords}

@@ -11,7 +11,7 @@ use lib.Seq.{sets, sets-eq, drop-at}
 use lib.Dec.{ltb, eqb}
 use Rattle.model.specs.Instruction.{Function, j, functionCode, pfixCode, nfixCode}
 use Rattle.model.specs.Prefix.{shifted, firstPrefix, prefixes, withPrefixes, enough, gathered, pfixed, nfixed, Decoded, decode}
-use Rattle.model.proofs.RoundTrip.{decode-front}
+use Rattle.model.proofs.Coding.RoundTrip.{decode-front}
 use Rattle.instruction.specs.Coded.{coded, isPrefix, movedUp, answer}
 use Rattle.instruction.specs.declared.decoder.Decoded.the-variants.{Instruction}
 use Rattle.instruction.proofs.Prefixes.{coded-length}

@@ -16,7 +16,7 @@ use Rattle.model.specs.declared.Outcome.the-variants.{Ended, Waiting, Spent, Fa
 use Rattle.processor.specs.Seen.{Rest, world}
 use Rattle.processor.specs.Quiet.{quiet, offering, Takes}
 use Rattle.processor.specs.declared.memory.Step.the-variants.{Done, Fault}
-use Rattle.model.proofs.RunSteps.{run-waits, run-ends, run-spent, run-on, run-faults}
+use Rattle.model.proofs.Laws.RunSteps.{run-waits, run-ends, run-spent, run-on, run-faults}
 use Rattle.processor.proofs.Laws.{ends}
 use Rattle.machine.specs.Runs.{saying, Reaches, Finishes}
 

@@ -1,6 +1,6 @@
 -- Laws of the definitions, for every machine, code, memory and budget. 1 to 3 are of runs, the second also of offers and takes
--- (proofs/Runs.antt); 4 and 5 tie the history to the run (proofs/Recorded.antt); 6 is 01's waiting (proofs/Settled.antt); 7 is of prefixes
--- (proofs/Shortest.antt); 8 is of the bench program's text (proofs/Reported.antt).
+-- (proofs/Laws/Runs.antt); 4 and 5 tie the history to the run (proofs/Laws/Recorded.antt); 6 is 01's waiting (proofs/Laws/Settled.antt); 7
+-- is of prefixes (proofs/Coding/Shortest.antt); 8 is of the bench program's text (proofs/Laws/Reported.antt).
 use Prim.Native.Nat.{ℕ, zero, suc, _+_, _≤_, _<_}
 use Prim.Native.String.{String}
 use mathlib.Core.Path.{_≡_}

@@ -1,5 +1,5 @@
 -- Which refusal a call gets, in 01's numbers and in 01's order of tests ("When a call is turned down"). The answers'
--- enums do not come in here: proofs/Refused.antt shows that their numbers (specs/Answers.antt) are these.
+-- enums do not come in here: proofs/Laws/Refused.antt shows that their numbers (specs/Answers.antt) are these.
 use Prim.Native.Nat.{ℕ, _+_}
 use mathlib.Core.Bool.{false, cond, _||_}
 use mathlib.Core.List.{List, [], _∷_}

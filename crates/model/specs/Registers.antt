@@ -1,5 +1,5 @@
 -- Refusal 8 never occurs (02, order 2: "Refusal 8 is then shown never to occur"), and why: three registers serve every expression.
--- Proved in proofs/Never8.antt and proofs/Performed.antt.
+-- Proved in proofs/Tables/Never8.antt and proofs/Effects/Performed.antt.
 use Prim.Native.Nat.{ℕ, _+_, _^_, _≤_, _<_}
 use mathlib.Core.Path.{_≡_}
 use mathlib.Core.Logic.{_⊎_}

@@ -16,8 +16,8 @@ use Rattle.model.specs.declared.Facts.{Facts}
 use Rattle.model.specs.declared.Reading.the-variants.{Accepted}
 use Rattle.model.specs.declared.Compiled.the-variants.{Code, Refused}
 use Rattle.model.proofs.Cases.{never}
-use Rattle.model.proofs.Accepts.{accept-reads, compile-accepts}
-use Rattle.model.proofs.Readers.{read-well}
+use Rattle.model.proofs.Tables.Accepts.{accept-reads, compile-accepts}
+use Rattle.model.proofs.Tables.Readers.{read-well}
 use Rattle.machine.proofs.Refusals.{starts}
 use Rattle.report.specs.Texts.{textFrom, textOf}
 use Rattle.report.specs.Opens.{refusing, loaded, Begins, openedBy, openOf, Opens}

@@ -23,7 +23,7 @@ use Rattle.model.specs.declared.RunAnswer.{RunAnswer}
 use Rattle.model.specs.declared.RunAnswer.the-variants.{Ran}
 use Rattle.model.specs.declared.TakeAnswer.{TakeAnswer}
 use Rattle.model.proofs.Cases.{by-bool, never}
-use Rattle.model.proofs.Runs.{run-counts}
+use Rattle.model.proofs.Laws.Runs.{run-counts}
 use Rattle.report.specs.Texts.{textIn, Turned, at, taking, says, ranTurn, gave, tookTurn, turnOf, nextOf, textOf, turnsLeft, Gives}
 use Rattle.report.specs.declared.stage.Stage.the-variants.{Bytes, Words, Head, Code, Running, Taking, Refused, Done}
 use Rattle.report.specs.declared.stage.Report.{Report}

@@ -11,8 +11,8 @@ use lib.Dec.{ltb}
 use lib.Bits.{bitAnd, bitOr, or-add-and, and-le-l, and-le-r}
 use borrow.Author.Tests.{lt-ltb, ltb-true}
 use Rattle.model.proofs.Cases.{by-bool, never}
-use Rattle.model.proofs.Sites.{same-refl, same-eq}
-use Rattle.model.proofs.Points.{getElem-inside as inside}
+use Rattle.model.proofs.Tables.Sites.{same-refl, same-eq}
+use Rattle.model.proofs.Quiet.Setting.{getElem-inside as inside}
 use Rattle.model.specs.Syntax.{Site, Stmts, noStmt, stmt}
 use Rattle.model.specs.Reader.{Scope}
 use Rattle.model.specs.Usage.{Usage, nothing, _⊕_, usage, same, isIn, share, clash, clashesLater, anyClash}

@@ -14,12 +14,12 @@ use lib.Dec.{ltb, eqb}
 use lib.Pow.{pow-pos, pow-mono}
 use lib.Bits.{bitOr, or-zero-r, or-lt, or-mod}
 use borrow.Author.Tests.{lt-ltb, le-ltb, eq-eqb, ne-eqb, ltb-true, ltb-false, eqb-true, eqb-false}
-use Rattle.model.proofs.Points.{getElem-inside as inside}
+use Rattle.model.proofs.Quiet.Setting.{getElem-inside as inside}
 use Rattle.model.proofs.Cases.{by-bool, never}
 use Rattle.model.specs.Syntax.{Site}
 use Rattle.model.specs.Reader.{Scope, names, withVariables, withChannels}
 use Rattle.model.specs.Usage.{Usage, nothing, _⊕_, changing, same, isIn}
-use Rattle.model.proofs.Sites.{same-eq}
+use Rattle.model.proofs.Tables.Sites.{same-eq}
 use Rattle.table.specs.Uses.{noNames, markAt, changeAt, forgetAt, merged}
 use Rattle.table.specs.Sets.{wordOf}
 use Rattle.table.specs.Scopes.{Fresh}

@@ -17,8 +17,8 @@ use Rattle.model.specs.Number as N
 use Rattle.model.specs.Number.{groups, number}
 use Rattle.model.specs.Syntax.{Site}
 use Rattle.model.specs.Reader.{Parsed, parsed, fails, Reader, onward, pure, refuse, readNumber, oneOf, readCount, readName, tooDeep}
-use Rattle.model.proofs.Readers.{number-sized}
-use Rattle.model.proofs.Points.{getElem-inside as inside}
+use Rattle.model.proofs.Tables.Readers.{number-sized}
+use Rattle.model.proofs.Quiet.Setting.{getElem-inside as inside}
 use Rattle.model.proofs.Cases.{by-bool, by-option, never}
 use Rattle.numbers.specs.Items.{groupsAt, grouped, betweenAt, nameAt, deepAt}
 use Rattle.numbers.specs.declared.NumberRead.{NumberRead}

@@ -9,7 +9,7 @@ use mathlib.Core.Option.{Option, none, some, Option·some-injective}
 use lib.ListN.{length, drop, getElem?, length-append}
 use lib.Dec.{ltb, eqb}
 use borrow.Author.Tests.{eq-eqb, ne-eqb, eqb-true, eqb-false}
-use Rattle.model.proofs.Points.{getElem-inside as inside}
+use Rattle.model.proofs.Quiet.Setting.{getElem-inside as inside}
 use Rattle.model.proofs.Cases.{by-bool, never}
 use Rattle.model.specs.Syntax.{Site, inputOf, outputOf, declared}
 use Rattle.model.specs.Syntax as M

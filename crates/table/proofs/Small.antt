@@ -10,7 +10,7 @@ use borrow.Author.Tests.{leb-false, ltb-false}
 use Rattle.model.proofs.Cases.{by-bool, of-cond}
 use Rattle.numbers.specs.Items.{groupsAt, betweenAt, nameAt, deepAt, withNumber, withItem}
 use Rattle.model.specs.Counts.{orderOf, guardWords}
-use Rattle.model.proofs.Needs.{sides-hold}
+use Rattle.model.proofs.Tables.Needs.{sides-hold}
 use Rattle.table.specs.Exprs.{withExpr, leafAt, sides, exprAt}
 use Rattle.table.specs.Stmts.{asked, wholeAt, variableAt, inputAt, withHead, withStmt}
 use Rattle.table.specs.Stmts.{outputAt, leaf, valueAt, takenAt, simpleAt, guardAt, headAt, nothing, added, partAt, mostFrom}

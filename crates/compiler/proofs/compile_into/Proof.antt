@@ -9,7 +9,7 @@ use Rattle.compiler.proofs.Compiled.{accepted-as, compile-refused, word
 use Rattle.compiler.proofs.Compiled.{code-written}
 use Rattle.model.specs.Answers.{refusedCompiling}
 use Rattle.model.specs.Code.{compile}
-use Rattle.model.proofs.Refused.{compile-refuses}
+use Rattle.model.proofs.Laws.Refused.{compile-refuses}
 use Rattle.model.specs.declared.Facts.{Facts}
 use Rattle.model.specs.declared.Compiled.the-variants.{Code as CodeOf}
 use Rattle.emitter.specs.Emits.{Code}

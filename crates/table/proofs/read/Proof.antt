@@ -5,7 +5,7 @@ use Rattle.table.proofs.read.Tie as tie
 use mathlib.Core.Path.{ap, _∙_}
 use Rattle.model.specs.Answers.{refusedReading}
 use Rattle.model.specs.Accept.{accept}
-use Rattle.model.proofs.Refused.{read-refuses}
+use Rattle.model.proofs.Laws.Refused.{read-refuses}
 use Rattle.table.proofs.SameTable.{table-same}
 
 returns : tie.Need-returns

@@ -8,7 +8,7 @@ use borrow.Author.Tests.{ltb-true, ltb-false}
 use lib.ListN.{length}
 use Rattle.model.specs.Answers.{refusedStart}
 use Rattle.model.specs.Run.{start}
-use Rattle.model.proofs.Refused.{start-refuses}
+use Rattle.model.proofs.Laws.Refused.{start-refuses}
 use Rattle.machine.proofs.Numbers.{with-number}
 use Rattle.machine.proofs.Refusals.{bad-slice, bad-count, too-large, short, starts}
 use Rattle.machine.proofs.begin.start.Statement.{statement}

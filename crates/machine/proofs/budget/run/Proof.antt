@@ -4,7 +4,7 @@ use native.Mathlib.Omega.{arith}
 use mathlib.Core.Path.{refl}
 use Rattle.model.specs.Answers.{refusedRun}
 use Rattle.model.specs.Run.{run}
-use Rattle.model.proofs.Refused.{run-refuses}
+use Rattle.model.proofs.Laws.Refused.{run-refuses}
 use Rattle.machine.proofs.Numbers.{with-number}
 use Rattle.machine.proofs.Answered.{short-code, short-memory, kept-fault}
 use Rattle.machine.proofs.budget.run.Statement.{statement}

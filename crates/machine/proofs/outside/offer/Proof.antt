@@ -4,7 +4,7 @@ use native.Mathlib.Omega.{arith}
 use mathlib.Core.Path.{refl}
 use Rattle.model.specs.Answers.{refusedOffer}
 use Rattle.model.specs.Outside.{offer}
-use Rattle.model.proofs.Refused.{offer-refuses}
+use Rattle.model.proofs.Laws.Refused.{offer-refuses}
 use Rattle.machine.proofs.Numbers.{with-number}
 use Rattle.machine.proofs.Offers.{offer-short, offer-kept}
 use Rattle.machine.proofs.outside.offer.Statement.{statement}

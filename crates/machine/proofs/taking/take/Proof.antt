@@ -4,7 +4,7 @@ use native.Mathlib.Omega.{arith}
 use mathlib.Core.Path.{refl}
 use Rattle.model.specs.Answers.{refusedTake}
 use Rattle.model.specs.Outside.{take}
-use Rattle.model.proofs.Refused.{take-refuses}
+use Rattle.model.proofs.Laws.Refused.{take-refuses}
 use Rattle.machine.proofs.Numbers.{with-number}
 use Rattle.machine.proofs.Takes.{take-short, take-kept}
 use Rattle.machine.proofs.taking.take.Statement.{statement}

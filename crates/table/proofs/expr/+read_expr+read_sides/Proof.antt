@@ -30,7 +30,7 @@ use Rattle.numbers.specs.declared.Item.the-variants.{Item as Found, Refused}
 use Rattle.numbers.specs.declared.NumberRead.{NumberRead}
 use Rattle.numbers.specs.declared.NumberRead.the-variants.{Number, Bad}
 use Rattle.model.specs.Counts.{orderOf}
-use Rattle.model.proofs.Needs.{sides-three, sides-hold}
+use Rattle.model.proofs.Tables.Needs.{sides-three, sides-hold}
 use Rattle.table.specs.declared.expr.Term.{Term}
 use Rattle.table.specs.declared.expr.ExprRead.{ExprRead}
 use Rattle.table.specs.declared.expr.ExprRead.the-variants.{Expr, Refused as NoExpr}

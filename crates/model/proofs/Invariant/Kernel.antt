@@ -1,0 +1,141 @@
+-- The machine and the processes of an Occam run: whose words hold what, who is queued, and what the outside offers.
+use Prim.Native.Nat.{ℕ, _+_, _^_, _≤_, _<_}
+use native.Mathlib.Omega.{arith}
+use mathlib.Core.Path.{_≡_}
+use mathlib.Core.Logic.{_⊎_}
+use mathlib.Core.Bool.{true, false}
+use mathlib.Core.List.{List, [], List·Memᴰ}
+use mathlib.Core.Option.{none, some}
+use lib.ListN.{length, getD}
+use Rattle.model.specs.Word.{notProcess}
+use Rattle.model.specs.Syntax.{Site, inputOf, outputOf, Program}
+use Rattle.model.specs.Counts.{processes}
+use Rattle.model.specs.Accept.{limit, memoryWords}
+use Rattle.model.specs.Layout.{base, wordOf}
+use Rattle.model.specs.Code.{Realises}
+use Rattle.model.specs.Scheme.{scheme}
+use Rattle.model.specs.Machine.{World, memorySize}
+use Rattle.model.specs.Occam.{Frame, Process, inPar, Branches, framesOf, look, State}
+use Rattle.model.specs.Demand.{liveIn}
+use Rattle.model.specs.declared.Setup.{Setup}
+use Rattle.model.specs.declared.Kept.the-variants.{Nothing}
+use Rattle.model.proofs.Quiet.Ways.{Mem}
+use Rattle.model.proofs.Quiet.Setting.{Setting}
+use Rattle.model.proofs.Occam.Paths.{Leaf, left}
+use Rattle.model.proofs.Words.Parts.{Part, Within, Fine}
+use Rattle.model.proofs.Words.FineParts.{wholePart, outsideNames}
+use Rattle.model.proofs.Quiet.Marks.{Own}
+use Rattle.model.proofs.Invariant.Trees.{Label, alone, parted, Info, Tree, labelAt}
+use Rattle.model.proofs.Invariant.Zones.{zoneOf}
+use Rattle.model.proofs.Invariant.Leaves.{member, Held}
+use Rattle.model.proofs.Effects.Queues.{Queue, Apart}
+
+-- a program whose code is in a machine: the code realises the scheme, and both are small enough
+pub record Loaded : Type 0 where
+  pub prog : Program
+  pub code : List ℕ
+  pub off : ℕ → ℕ
+  pub realises : Realises code (scheme prog) off
+  pub rises : (i k : ℕ) → i < k → k ≤ length (scheme prog) → off i < off k
+  pub slice : ℕ
+  pub fine : Fine (wordOf prog) (wholePart prog) [] (outsideNames prog) (base prog) (prog .body)
+  pub code-small : length code ≤ 16384
+  pub words-small : memoryWords prog ≤ 4096
+  pub few-inputs : prog .inputs ≤ 8
+  pub few : processes (prog .body) ≤ limit
+  -- no output to an outside input
+  pub one-way : (l : ℕ) → List·Memᴰ (inputOf l) (wholePart prog .outputs) → ⊥
+  -- no input from an outside output
+  pub no-return : (l : ℕ) → List·Memᴰ (outputOf l) (wholePart prog .inputs) → ⊥
+
+module _ (L : Loaded) where
+  pub base-small : base (L .prog) ≤ 4096
+  base-small = omega (arith, L .words-small)
+
+  -- its instructions, their places, and the words of names
+  abbrev pub S : Setting
+  S =
+      record {
+        xs = scheme (L .prog);
+        off = L .off;
+        word = wordOf (L .prog);
+        top = base (L .prog);
+        top-small = base-small;
+        rises = L .rises;
+      }
+
+  -- the whole program as a part
+  abbrev pub root : Part
+  root = wholePart (L .prog)
+
+  -- what a start fixes
+  abbrev pub setup : Setup
+  setup =
+      record {
+        code = length (L .code);
+        base = base (L .prog);
+        inputs = L .prog .inputs;
+        outputs = L .prog .outputs;
+        slice = L .slice;
+      }
+
+  -- the machine's memory
+  abbrev pub size : ℕ
+  size = memorySize setup
+
+  -- a process is found at a path, and what is known of it
+  pub record LeafAt (st : State) (t : Tree S root (st .process)) (path : List ℕ) (q : Process) (b : Part) (i : Info) : Type 0 where
+    pub found : look path (st .process) ≡ some q
+    pub leaf : Leaf q
+    pub label : labelAt S t path ≡ some (alone b i)
+
+  -- a process or a PAR
+  pub record NodeAt (st : State) (t : Tree S root (st .process)) (path : List ℕ) (l : Label) : Type 0 where
+    pub label : labelAt S t path ≡ some l
+
+  -- a channel word's holder: a process for which the channel is in scope
+  pub data Owned (st : State) (t : Tree S root (st .process)) (c : Site) (n : ℕ) : Type 0 where
+    owned : {path : List ℕ} {q : Process} {b : Part} {i : Info} → LeafAt st t path q b i → List·Memᴰ c (i .chans) → Own b n → Owned st t c n
+
+  -- what all words hold, where the processes at some paths (`Out`) are left out. `ws` are the workspaces that are queued
+  pub record Rest (st : State) (μ : Mem) (t : Tree S root (st .process)) (Out : List ℕ → Type 0) (ws : List ℕ) : Type 0 where
+    -- variables in scope are words, and stand in their words
+    pub vars : {path : List ℕ} {l : Label} → NodeAt st t path l → (x : Site) → List·Memᴰ x (zoneOf l .vars)
+        → (st .store x ≡ μ (S .word x)) × (st .store x < 2 ^ 32)
+    -- a channel in scope is empty, or some process waits at it
+    pub chans : {path : List ℕ} {l : Label} → NodeAt st t path l → (c : Site) → List·Memᴰ c (zoneOf l .chans)
+        → (μ (S .word c) ≡ notProcess) ⊎ Owned st t c (μ (S .word c))
+    -- live variables are in scope
+    pub live : {path : List ℕ} {q : Process} {b : Part} {i : Info} → LeafAt st t path q b i → Within (liveIn (framesOf q)) (i .vars)
+    pub leaf : {path : List ℕ} {q : Process} {b : Part} {i : Info} → LeafAt st t path q b i → (Out path → ⊥)
+        → Held S b i st μ (member (i .w) ws) q
+    -- a PAR's words: where it goes on, and how many branches are not over
+    pub par : {path : List ℕ} {bs : Branches} {k : List Frame} {a : Part} {vs cs : List Site} {w onward : ℕ}
+        → look path (st .process) ≡ some (inPar bs k) → NodeAt st t path (parted a vs cs w onward)
+        → (μ w ≡ S .off onward) × (μ (w + 1) ≡ left bs)
+
+  -- the process whose workspace is queued
+  pub data Whose (st : State) (t : Tree S root (st .process)) (Out : List ℕ → Type 0) (w : ℕ) : Type 0 where
+    whose : {path : List ℕ} {q : Process} {b : Part} {i : Info} → LeafAt st t path q b i → i .w ≡ w → (Out path → ⊥) → Whose st t Out w
+
+  -- each workspace that is queued is a process's, and none is queued twice
+  pub record Lined (st : State) (t : Tree S root (st .process)) (Out : List ℕ → Type 0) (ws : List ℕ) : Type 0 where
+    pub each : (w : ℕ) → List·Memᴰ w ws → Whose st t Out w
+    pub once : Apart ws
+
+  -- an outside input: nothing is offered, or the machine holds what is
+  pub data Offer (s : World) (st : State) (k : ℕ) : Type 0 where
+    no-offer : getD (s .machine .held) k false ≡ false → st .offers k ≡ none → Offer s st k
+    held-offer : (v : ℕ) → v < 2 ^ 32 → getD (s .machine .held) k false ≡ true → getD (s .machine .offers) k 0 ≡ v → st .offers k ≡ some v
+        → Offer s st k
+
+  -- the machine shows it
+  pub record Real (s : World) (st : State) (μ : Mem) (ws : List ℕ) : Type 0 where
+    pub setup-kept : s .machine .setup ≡ setup
+    pub no-fault : s .machine .fault ≡ Nothing
+    pub room : size ≤ length (s .memory)
+    pub mirror : (v : ℕ) → v < size → getD (s .memory) v 0 ≡ μ v
+    pub queue : Queue s ws
+    pub eight : (length (s .machine .offers) ≡ 8) × (length (s .machine .held) ≡ 8)
+    pub offers : (k : ℕ) → k < L .prog .inputs → Offer s st k
+    pub beyond : (k : ℕ) → L .prog .inputs ≤ k → st .offers k ≡ none

@@ -1,0 +1,71 @@
+-- What holds of a process that has not the processor: it is queued, or waits at an input, an output, a STOP or an ALT.
+use Prim.Native.Nat.{ℕ, _+_, _≤_, _<_, _^_}
+use mathlib.Core.Path.{_≡_}
+use mathlib.Core.Bool.{Bool, true, false, _||_}
+use mathlib.Core.List.{List, [], _∷_, List·Memᴰ}
+use lib.Dec.{eqb}
+use lib.ListN.{length}
+use Rattle.model.specs.Syntax.{Site, Guards}
+use Rattle.model.specs.Machine.{resumeWord, stateWord}
+use Rattle.model.specs.Execute.{waiting, ready, noneSelected}
+use Rattle.model.specs.Scheme.{sizeEnable}
+use Rattle.model.specs.Occam.{Frame, Process, atInput, atOutput, atStop, atAlt, State, Sender}
+use Rattle.model.proofs.Quiet.Ways.{Mem}
+use Rattle.model.proofs.Quiet.Setting.{Setting, whole}
+use Rattle.model.proofs.Words.Parts.{Part, Target}
+use Rattle.model.proofs.Quiet.Continuations.{Cont}
+use Rattle.model.proofs.Quiet.Marks.{Own, Ready, Guarded, AltCode, Marked, Disabling}
+use Rattle.model.proofs.Quiet.Arrivals.{Comes}
+use Rattle.model.proofs.Quiet.Names.{nameOf}
+use Rattle.model.proofs.Invariant.Trees.{Info}
+
+-- whether a workspace is among some
+unfoldable pub member : ℕ → List ℕ → Bool
+member w [] = false
+member w (v ∷ vs) = eqb w v || member w vs
+
+module _ (S : Setting) (b : Part) (i : Info) (st : State) (μ : Mem) where
+  -- no channel in scope holds a name of this part's processes
+  abbrev pub Unmarked : Type 0
+  Unmarked = (c : Site) → List·Memᴰ c (i .chans) → Own b (μ (S .word c)) → ⊥
+
+  -- only this one does
+  abbrev pub MarkedOnly : Site → Type 0
+  MarkedOnly d = (c : Site) → List·Memᴰ c (i .chans) → Own b (μ (S .word c)) → c ≡ d
+
+  -- the process goes on at an instruction: its resume word says so, and its path ends in time
+  pub record Resumes (at hi : ℕ) : Type 0 where
+    pub place : μ (resumeWord (i .w)) ≡ S .off at
+    pub soon : hi ≤ i .left + S .off at
+
+  -- a process that waits at a channel: at the channel's word, with its state word and room for it
+  pub record Waits (c : Site) (k : List Frame) (at hi : ℕ) (message : ℕ) : Type 0 where
+    pub scope : List·Memᴰ c (i .chans)
+    pub onward : Cont S b hi (i .vars) (i .chans) k at (i .w)
+    pub near : hi ≤ whole S + S .off at
+    pub resumes : Resumes at hi
+    pub space : b .bottom + 3 ≤ i .w
+    pub here : μ (S .word c) ≡ nameOf (i .w)
+    pub only : MarkedOnly c
+    pub message-at : μ (stateWord (i .w)) ≡ message
+
+  -- whether it is queued, and what it waits for
+  pub data Held : (queued : Bool) → Process → Type 0 where
+    h-queued : {q : Process} {hi at : ℕ} → Comes S b (st .store) (i .vars) (i .chans) hi q at (i .w) → Resumes at hi → at ≤ length (S .xs)
+        → Unmarked → Held true q
+    -- woken in an ALT
+    h-woken : {gs : Guards} {k : List Frame} {hi at : ℕ} (c : AltCode S b gs (i .vars) (i .chans) k hi at (i .w + 1))
+        → Resumes (at + 2 + sizeEnable gs + 1) hi → μ (stateWord (i .w)) ≡ ready
+        → Disabling S b st (i .vars) (i .chans) k gs gs (c .choice) μ (i .w) → Held true (atAlt gs k)
+    -- at an input nobody sends
+    h-input : {c x : Site} {k : List Frame} {hi at : ℕ} → Waits c k at hi (S .word x) → Target b (i .vars) x → List·Memᴰ c (b .inputs)
+        → (Sender st c → ⊥) → Held false (atInput c x k)
+    -- an output holds its value
+    h-output : {c : Site} {v : ℕ} {k : List Frame} {hi at : ℕ} → Waits c k at hi (i .w) → List·Memᴰ c (b .outputs) → i .w < b .top
+        → μ (i .w) ≡ v → v < 2 ^ 32 → Held false (atOutput c v k)
+    h-stop : {k : List Frame} → Unmarked → Held false (atStop k)
+    -- waiting in an ALT: every true guard has its mark, and none is ready
+    h-wait : {gs : Guards} {k : List Frame} {hi at : ℕ} (c : AltCode S b gs (i .vars) (i .chans) k hi at (i .w + 1))
+        → Resumes (at + 2 + sizeEnable gs + 1) hi → μ (stateWord (i .w)) ≡ waiting → μ (i .w) ≡ noneSelected
+        → ((d : Site) → Guarded (st .store) d gs → μ (S .word d) ≡ nameOf (i .w)) → (Ready st gs → ⊥)
+        → Marked S b st (i .vars) (i .chans) gs μ (i .w) → Held false (atAlt gs k)

@@ -1,0 +1,443 @@
+-- The significant instructions of an ALT behind ALTWT: DISC, DISS and ALTEND. Then all behind ALT.
+use Prim.Native.Nat.{ℕ, suc, _+_, _≤_}
+use native.Mathlib.Omega.{arith}
+use native.Mathlib.Decide.{ℕ-discrete}
+use mathlib.Core.Path.{_≡_, refl, sym, ap, _∙_, subst}
+use mathlib.Core.Logic.{_≢_, _⊎_, inl, inr, ⊎-elim}
+use mathlib.Core.Bool.{true, false}
+use mathlib.Core.List.{List, List·Memᴰ}
+use mathlib.Core.Option.{none}
+use lib.ListN.{length, set}
+use Rattle.model.specs.Word.{low, less, notProcess}
+use Rattle.model.specs.Syntax.{Site, inputOf, Expr, Stmt, ALT, Guards, noGuard, inputGuard, skipGuard}
+use Rattle.model.specs.Instruction.{ldc, Instruction, distance, operation}
+use Rattle.model.specs.Instruction as I
+use Rattle.model.specs.Code.{functionIn, operandIn}
+use Rattle.model.specs.Scheme.{size, sizeEnable, codeDisable}
+use Rattle.model.specs.Machine.{World, withCpu, withMemory, stack, goto, isHeld, stateWord}
+use Rattle.model.specs.Execute.{ready, noneSelected}
+use Rattle.model.specs.Occam.{Store, eval, isTrue, Frame, Process, before, atAlt, framesOf, begin, State, Sender, chooses}
+use Rattle.model.specs.Demand.{liveIn}
+use Rattle.model.proofs.Cases.{never}
+use Rattle.model.proofs.Quiet.Ways.{upd-same, upd-other, upd, regsOf, Mem}
+use Rattle.model.proofs.Quiet.Stretches.{Seg}
+use Rattle.model.proofs.Quiet.Setting.{Setting, whole, At}
+use Rattle.model.proofs.Quiet.CodeParts.{rises-le}
+use Rattle.model.proofs.Occam.Paths.{Leaf, leaf-begin, live-begin, silent-begin}
+use Rattle.model.proofs.Words.Parts.{Part, Within}
+use Rattle.model.proofs.Quiet.Marks.{Own, Ready, r-input, r-skip, r-past-input, r-past-skip, Picks, p-input, p-skip, p-past-input}
+use Rattle.model.proofs.Quiet.Marks.{p-past-skip, Rest as RestOf, Guarded, g-here, g-past-input, g-past-skip, AltCode, Marked}
+use Rattle.model.proofs.Quiet.Marks.{Enabling}
+use Rattle.model.proofs.Quiet.Marks.{Enables, e-input, e-skip, Disabling, Disables, d-input, d-skip, AltPoint, pt-enable, pt-wait}
+use Rattle.model.proofs.Quiet.Marks.{pt-disable, pt-choose}
+use Rattle.model.proofs.Quiet.Arrivals.{Comes, comes}
+use Rattle.model.proofs.Quiet.Onwards.{alt-goes, picks-choice, rest-picks, rest-past-input, rest-past-skip, disable-way}
+use Rattle.model.proofs.Quiet.Onwards.{branch-comes}
+use Rattle.model.proofs.Invariant.Trees.{some-same, Info, Tree, bytesLeft}
+use Rattle.model.proofs.Invariant.Leaves.{Unmarked}
+use Rattle.model.proofs.Effects.OneWord.{cpuOf}
+use Rattle.model.proofs.Effects.Acts.{disabled, exec-disc-off, exec-disc-held-first, exec-disc-held-later, exec-disc-empty}
+use Rattle.model.proofs.Effects.Acts.{exec-disc-marked, exec-disc-sender-first, exec-disc-sender-later, unskipped, exec-diss-off}
+use Rattle.model.proofs.Effects.Acts.{exec-diss-first, exec-diss-later, exec-altend}
+use Rattle.model.proofs.Invariant.Kernel.{Loaded, S, root}
+use Rattle.model.proofs.Invariant.Writes.{node}
+use Rattle.model.proofs.Invariant.Grounds.{sound-at}
+use Rattle.model.proofs.Invariant.Running.{Only, Did, Executes, executes, Acting}
+use Rattle.model.proofs.Invariant.Moving.{relaid}
+use Rattle.model.proofs.Invariant.Reals.{real-cpu}
+use Rattle.model.proofs.Quiet.PathEnds.{point-in, way-inside}
+use Rattle.model.proofs.Invariant.Finish.{silent}
+use Rattle.model.proofs.Steps.Quiets.{target}
+use Rattle.model.proofs.Steps.Advance.{advances}
+use Rattle.model.proofs.Steps.Channels.{HeldAt, held-at, not-held, held-here}
+use Rattle.model.proofs.Steps.Enabling.{true-when, false-when, alt-silent, offer-sends, space, w-some, base-mine, state-mine}
+use Rattle.model.proofs.Steps.Enabling.{base-state}
+use Rattle.model.proofs.Steps.Enabling.{mine-size, mine-holds, placed, chan-off, chan-size, chan-holds, none-own, Free, free-none}
+use Rattle.model.proofs.Steps.Enabling.{free-w}
+use Rattle.model.proofs.Steps.Enabling.{Shows, shown, own-write, chan-write, own-chan, onward, fine-rest, ChannelIs, is-empty}
+use Rattle.model.proofs.Steps.Enabling.{is-ours}
+use Rattle.model.proofs.Steps.Enabling.{is-sent, channel-is, unsent, does-enbc, does-enbs, does-altwt}
+
+-- a guarded channel, or a ready guard, that is not the first guard's is one of the rest
+past-guard : {σ : Store} {e : Expr} {d y z : Site} {g : Stmt} {hs : Guards} → Guarded σ d (inputGuard e y z g hs)
+    → (isTrue σ e ≡ true → d ≡ y → ⊥) → Guarded σ d hs
+past-guard (g-here h) f = absurd (f h refl)
+past-guard (g-past-input h) f = h
+
+past-skip-guard : {σ : Store} {e : Expr} {d : Site} {g : Stmt} {hs : Guards} → Guarded σ d (skipGuard e g hs) → Guarded σ d hs
+past-skip-guard (g-past-skip h) = h
+
+past-ready : {st : State} {e : Expr} {y z : Site} {g : Stmt} {hs : Guards} → Ready st (inputGuard e y z g hs)
+    → (isTrue (st .store) e ≡ true → Sender st y → ⊥) → Ready st hs
+past-ready (r-input h sd) f = absurd (f h sd)
+past-ready (r-past-input h) f = h
+
+past-skip-ready : {st : State} {e : Expr} {g : Stmt} {hs : Guards} → Ready st (skipGuard e g hs) → (isTrue (st .store) e ≡ true → ⊥)
+    → Ready st hs
+past-skip-ready (r-skip h) f = absurd (f h)
+past-skip-ready (r-past-skip h) f = h
+
+-- no guard is left
+unguarded : {σ : Store} {d : Site} → Guarded σ d noGuard → ⊥
+unguarded h = elim h [ ]
+
+unready : {st : State} → Ready st noGuard → ⊥
+unready h = elim h [ ]
+
+-- a picked branch is not before the first, and begins a statement
+picks-behind : {st : State} {k : List Frame} {gs : Guards} {b m : ℕ} {p : Process} → Picks st k gs b m p → b ≤ m
+picks-behind (p-input h sd) = omega arith
+picks-behind (p-skip h) = omega arith
+picks-behind (p-past-input h) = omega (arith, picks-behind h)
+picks-behind (p-past-skip h) = omega (arith, picks-behind h)
+
+picks-begins : {st : State} {k : List Frame} {gs : Guards} {b m : ℕ} {p : Process} → Picks st k gs b m p → (g : Stmt) × (p ≡ begin g k)
+picks-begins (p-input h sd) = (_, refl)
+picks-begins (p-skip h) = (_, refl)
+picks-begins (p-past-input h) = picks-begins h
+picks-begins (p-past-skip h) = picks-begins h
+
+-- a process is led on from a place in the code, or from its end
+comes-inside : (S : Setting) (a : Part) {σ : Store} {vars chans : List Site} {hi : ℕ} {p : Process} {m w : ℕ}
+    → Comes S a σ vars chans hi p m w → m ≤ length (S .xs)
+comes-inside S a {w = w} (comes sk settled sub way) =
+    way-inside S (point-in S a) (way (λ v. 0) (record { a = 0; b = 0; c = 0; w = w }) refl)
+
+-- behind ALTWT
+module _ (L : Loaded) {s : World} {st : State} {μ : Mem} {t : Tree (S L) (root L) (st .process)} {path : List ℕ} {b : Part} {i : Info}
+    {ws : List ℕ} {at hi : ℕ} {gs : Guards} {k : List Frame} (A : Acting L s st μ t path (atAlt gs k) b i (Only path) ws at hi)
+    {hi₀ i₀ : ℕ} (c : AltCode (S L) b gs (i .vars) (i .chans) k hi₀ i₀ (cpuOf s .workspace + 1)) where
+  -- the guards before hs are disabled, in a memory
+  abbrev Disabled : Guards → Mem → Type 0
+  Disabled hs ν = Disabling (S L) b st (i .vars) (i .chans) k gs hs (c .choice) ν (space s)
+
+  -- the distance to a branch, and which is chosen
+  abbrev far : ℕ → ℕ
+  far m = operandIn (L .off) (distance ldc m (c .choice))
+
+  abbrev Chosen : Guards → Mem → Type 0
+  Chosen hs ν =
+      ((m : ℕ) × (p : Process) × Picks st k gs (c .choice + 1) m p × (ν (space s) ≡ far m)) ⊎ ((ν (space s) ≡ noneSelected) × Ready st hs)
+
+  abbrev Marks : Guards → Mem → Type 0
+  Marks hs ν = Marked (S L) b st (i .vars) (i .chans) hs ν (space s)
+
+  -- the ALT's state is Ready
+  abbrev IsReady : Mem → Type 0
+  IsReady ν = ν (stateWord (space s)) ≡ ready
+
+  -- channels are as they were
+  abbrev Kept : Mem → Type 0
+  Kept ν = (d : Site) → List·Memᴰ d (i .chans) → ν (S L .word d) ≡ μ (S L .word d)
+
+  -- what is to be shown of an instruction
+  abbrev Goal : Instruction → Type 0
+  Goal x = Did L (Executes L x s) s st (bytesLeft (S L) t)
+
+  -- the disabling goes on with the rest of the guards
+  disables-on : {x : Instruction} (hs : Guards) {m : ℕ} → hi₀ ≤ hi → RestOf gs (c .choice + 1) hs m
+      → Seg (S L .xs) (suc at) (codeDisable (S L .word) (space s) (c .choice) m hs) (c .choice) → (f g h : ℕ) {l : List ℕ} (ν : Mem)
+      → Executes L x s (withCpu (stack f g h (cpuOf s)) (withMemory l s)) → Shows L A c l ν → Marks hs ν → IsReady ν → Chosen hs ν → Goal x
+  disables-on hs near past code f g h ν ran m marks state chosen =
+      onward L A c f g h ran m
+      (alt-goes (space s)
+      (disable-way (S L) b st (space s) c (sound-at L (m .rest) (A .leaf)) hs near (fine-rest L A c past) past
+      (record { marks = marks; state = state; chosen = chosen }) code refl))
+
+  -- a branch is chosen
+  chooses-it : (m : ℕ) → Shows L A c (set (s .memory) (space s) (far m)) (upd μ (space s) (far m))
+  chooses-it m = own-write L A c (space s) (far m) (base-mine L A c) (shown L A c)
+
+  kept-choosing : (m : ℕ) → Kept (upd μ (space s) (far m))
+  kept-choosing m = own-chan L A c μ (space s) (far m) (base-mine L A c)
+
+  ready-choosing : (m : ℕ) → IsReady μ → IsReady (upd μ (space s) (far m))
+  ready-choosing m h = upd-other μ (space s) (far m) (stateWord (space s)) (λ e. base-state L A c (sym e)) ∙ h
+
+  -- DISC of a guard
+  module _ (e : Expr) (y z : Site) (g : Stmt) (hs : Guards) {m : ℕ} (near : hi₀ ≤ hi)
+      (past : RestOf gs (c .choice + 1) (inputGuard e y z g hs) m) (n : Disabled (inputGuard e y z g hs) μ)
+      (branch : cpuOf s .a ≡ far m) (val : cpuOf s .b ≡ eval (st .store) e) (chan : cpuOf s .c ≡ S L .word y)
+      (code : Seg (S L .xs) (suc at) (codeDisable (S L .word) (space s) (c .choice) (m + 1 + 4 + size g + 1) hs) (c .choice)) where
+    mine : List·Memᴰ y (i .chans)
+    mine = fine-rest L A c past .2
+
+    inputs : List·Memᴰ y (b .inputs)
+    inputs = fine-rest L A c past .3
+
+    -- a memory in which the channel's word is emptied
+    abbrev emptied : Mem → Mem
+    emptied ν = upd ν (S L .word y) notProcess
+
+    -- the marks of the rest, where this guard's is gone
+    marks-past : (ν : Mem)
+        → ((d : Site) → List·Memᴰ d (i .chans) → Own b (ν (S L .word d))
+        → (ν (S L .word d) ≡ μ (S L .word d)) × (isTrue (st .store) e ≡ true → d ≡ y → ⊥))
+        → Marks hs ν
+    marks-past ν f d l o =
+        let (same, other) = f d l o in
+        let (own, h) = n .marks d l (subst (Own b) same o) in
+        (same ∙ own, past-guard h other)
+
+    marks-kept : (ν : Mem) → Kept ν → (isTrue (st .store) e ≡ true → Own b (μ (S L .word y)) → ⊥) → Marks hs ν
+    marks-kept ν same no-own =
+        marks-past ν
+        (λ d l o. (same d l, (λ h f. no-own h (subst (λ v. Own b (μ (S L .word v))) f (subst (Own b) (same d l) o)))))
+
+    marks-gone : (ν : Mem) → Kept ν → Marks hs (emptied ν)
+    marks-gone ν same = marks-past (emptied ν) (λ d l o. by d l o (ℕ-discrete (S L .word d) (S L .word y)))
+      where
+        by : (d : Site) → List·Memᴰ d (i .chans) → Own b (emptied ν (S L .word d)) → Dec (S L .word d ≡ S L .word y)
+            → (emptied ν (S L .word d) ≡ μ (S L .word d)) × (isTrue (st .store) e ≡ true → d ≡ y → ⊥)
+        by d l o (yes f) = absurd (none-own L A c (ap (emptied ν) f ∙ upd-same ν (S L .word y) notProcess) o)
+        by d l o (no f) = (upd-other ν (S L .word y) notProcess (S L .word d) f ∙ same d l, (λ h j. f (ap (S L .word) j)))
+
+    -- this guard was not ready; one was chosen before; this guard is chosen
+    chosen-past : (ν : Mem) → ν (space s) ≡ μ (space s) → (isTrue (st .store) e ≡ true → Sender st y → ⊥) → Chosen hs ν
+    chosen-past ν same f =
+        ⊎-elim (λ h. let (l, p, q, d) = h in inl (l, p, q, same ∙ d)) (λ h. inr (same ∙ h .0, past-ready (h .1) f)) (n .chosen)
+
+    chosen-before : (ν : Mem) → ν (space s) ≡ μ (space s) → μ (space s) ≢ noneSelected → Chosen hs ν
+    chosen-before ν same f = ⊎-elim (λ h. let (l, p, q, d) = h in inl (l, p, q, same ∙ d)) (λ h. absurd (f (h .0))) (n .chosen)
+
+    chosen-now : (ν : Mem) → ν (space s) ≡ far m → isTrue (st .store) e ≡ true → Sender st y → Chosen hs ν
+    chosen-now ν f h sd = inl (m, _, rest-picks past (p-input h sd), f)
+
+    -- a channel's word is not the one for the choice
+    base-off : (ν : Mem) → emptied ν (space s) ≡ ν (space s)
+    base-off ν = upd-other ν (S L .word y) notProcess (space s) (λ f. chan-off L A c (base-mine L A c) y mine (sym f))
+
+    -- nor the state word
+    state-off : (ν : Mem) → IsReady ν → IsReady (emptied ν)
+    state-off ν h =
+        upd-other ν (S L .word y) notProcess (stateWord (space s)) (λ f. chan-off L A c (state-mine L A c) y mine (sym f)) ∙ h
+
+    -- on to the next guard
+    disc-on : (a : ℕ) {l : List ℕ} (ν : Mem) → Executes L (operation I.disc) s (disabled a (withMemory l s)) → Shows L A c l ν → Marks hs ν
+        → IsReady ν → Chosen hs ν → Goal (operation I.disc)
+    disc-on a ν ran m marks state chosen =
+        disables-on hs near (rest-past-input past) code a (cpuOf s .b) (cpuOf s .c) ν ran m marks state chosen
+
+    disc-off : cpuOf s .b ≡ 0 → Goal (operation I.disc)
+    unfolding functionIn operandIn
+    disc-off f =
+        let off = false-when (st .store) e (cpuOf s .b) val f in
+        disc-on 0 μ (executes (exec-disc-off s f)) (shown L A c) (marks-kept μ (λ d l. refl) (λ h. never (cc (h, off)))) (n .state)
+        (chosen-past μ refl (λ h. never (cc (h, off))))
+
+    module _ (on : cpuOf s .b ≢ 0) where
+      is-on : isTrue (st .store) e ≡ true
+      is-on = true-when (st .store) e (cpuOf s .b) val on
+
+      -- the channel's word is emptied
+      clears : {l : List ℕ} {ν : Mem} → Kept ν → Free L A c (μ (S L .word y)) → Shows L A c l ν
+          → Shows L A c (set l (S L .word y) notProcess) (emptied ν)
+      clears same free m =
+          chan-write L A c y notProcess mine (λ other r d j l o x. free other r d j l o (subst (Own d) (same y mine) x)) (inl refl) m
+
+      -- a held offer
+      module _ (held : isHeld (S L .word y) (s .machine) ≡ true) (sd : Sender st y) (free : Free L A c (μ (S L .word y))) where
+        disc-held : Dec (μ (space s) ≡ noneSelected) → Goal (operation I.disc)
+        unfolding functionIn operandIn
+        disc-held (yes f) =
+            let ν = upd μ (space s) (far m) in
+            disc-on 1 (emptied ν)
+            (executes
+            (exec-disc-held-first (S L .word y) (far m) (space s) s branch on chan refl held (chan-size L A c y mine)
+            (mine-size L A c (base-mine L A c)) (mine-holds L A c (base-mine L A c) f)))
+            (clears (kept-choosing m) free (chooses-it m)) (marks-gone ν (kept-choosing m)) (state-off ν (ready-choosing m (n .state)))
+            (chosen-now (emptied ν) (base-off ν ∙ upd-same μ (space s) (far m)) is-on sd)
+        disc-held (no f) =
+            disc-on 0 (emptied μ)
+            (executes
+            (exec-disc-held-later (S L .word y) (space s) (μ (space s)) s on chan refl held (chan-size L A c y mine)
+            (mine-size L A c (base-mine L A c)) (mine-holds L A c (base-mine L A c) refl) f))
+            (clears (λ d l. refl) free (shown L A c)) (marks-gone μ (λ d l. refl)) (state-off μ (n .state))
+            (chosen-before (emptied μ) (base-off μ) f)
+
+      -- a sender, and no held offer
+      module _ (held : isHeld (S L .word y) (s .machine) ≡ false) where
+        disc-sent : μ (S L .word y) ≢ notProcess → μ (S L .word y) ≢ space s → (Own b (μ (S L .word y)) → ⊥) → Sender st y
+            → Dec (μ (space s) ≡ noneSelected) → Goal (operation I.disc)
+        unfolding functionIn operandIn
+        disc-sent some-name not-w no-own sd (yes f) =
+            let ν = upd μ (space s) (far m) in
+            disc-on 1 ν
+            (executes
+            (exec-disc-sender-first (S L .word y) (far m) (space s) (μ (S L .word y)) s branch on chan refl held (chan-size L A c y mine)
+            (chan-holds L A c y mine refl) some-name not-w (mine-size L A c (base-mine L A c)) (mine-holds L A c (base-mine L A c) f)))
+            (chooses-it m) (marks-kept ν (kept-choosing m) (λ x. no-own)) (ready-choosing m (n .state))
+            (chosen-now ν (upd-same μ (space s) (far m)) is-on sd)
+        disc-sent some-name not-w no-own sd (no f) =
+            disc-on 0 μ
+            (executes
+            (exec-disc-sender-later (S L .word y) (space s) (μ (S L .word y)) (μ (space s)) s on chan refl held (chan-size L A c y mine)
+            (chan-holds L A c y mine refl) some-name not-w (mine-size L A c (base-mine L A c)) (mine-holds L A c (base-mine L A c) refl) f))
+            (shown L A c) (marks-kept μ (λ d l. refl) (λ x. no-own)) (n .state) (chosen-before μ refl f)
+
+        -- by what the channel's word holds
+        disc-free : ((l : ℕ) → y ≡ inputOf l → st .offers l ≡ none) → Dec (μ (space s) ≡ noneSelected) → ChannelIs L A c y
+            → Goal (operation I.disc)
+        unfolding functionIn operandIn
+        disc-free no-offer d (is-empty f) =
+            disc-on 0 μ
+            (executes (exec-disc-empty (S L .word y) s on chan held (chan-size L A c y mine) (chan-holds L A c y mine f)))
+            (shown L A c) (marks-kept μ (λ d l. refl) (λ h. none-own L A c f)) (n .state)
+            (chosen-past μ refl (λ h. unsent L A c y mine inputs alt-silent no-offer (inl f)))
+        disc-free no-offer d (is-ours f) =
+            disc-on 0 (emptied μ)
+            (executes
+            (exec-disc-marked (S L .word y) (space s) s on chan refl held (chan-size L A c y mine) (chan-holds L A c y mine f)
+            (w-some L A c)))
+            (clears (λ d l. refl) (free-w L A c f) (shown L A c)) (marks-gone μ (λ d l. refl)) (state-off μ (n .state))
+            (chosen-past (emptied μ) (base-off μ) (λ h. unsent L A c y mine inputs alt-silent no-offer (inr f)))
+        disc-free no-offer d (is-sent f h o sd out) = disc-sent f h o sd d
+
+    -- no process outputs to an outside input, so none but this one is at it
+    module _ (one-way : (l : ℕ) → List·Memᴰ (inputOf l) (root L .outputs) → ⊥) where
+      nobody-there : {l : ℕ} → y ≡ inputOf l → ChannelIs L A c y → Free L A c (μ (S L .word y))
+      nobody-there f (is-empty h) = free-none L A c h
+      nobody-there f (is-ours h) = free-w L A c h
+      nobody-there {l} f (is-sent h q p sd out) = absurd (one-way l (subst (λ v. List·Memᴰ v (root L .outputs)) f out))
+
+      disc-true : cpuOf s .b ≢ 0 → HeldAt L s st y → ChannelIs L A c y → Dec (μ (space s) ≡ noneSelected) → Goal (operation I.disc)
+      disc-true on (held-at l v lt f wd h small q o) is d = disc-held on h (offer-sends f o) (nobody-there f is) d
+      disc-true on (not-held h no-offer) is d = disc-free on h no-offer d is
+
+      pub does-disc : Goal (operation I.disc)
+      does-disc = by (ℕ-discrete (cpuOf s .b) 0)
+        where
+          by : Dec (cpuOf s .b ≡ 0) → Goal (operation I.disc)
+          by (yes f) = disc-off f
+          by (no f) =
+              disc-true f (held-here L (A .real) (node L (A .leaf)) y mine) (channel-is L A c y mine inputs (λ o. n .marks y mine o .0))
+              (ℕ-discrete (μ (space s)) noneSelected)
+
+  -- DISS of a guard
+  module _ (e : Expr) (g : Stmt) (hs : Guards) {m : ℕ} (near : hi₀ ≤ hi) (past : RestOf gs (c .choice + 1) (skipGuard e g hs) m)
+      (n : Disabled (skipGuard e g hs) μ) (branch : cpuOf s .a ≡ far m) (val : cpuOf s .b ≡ eval (st .store) e)
+      (code : Seg (S L .xs) (suc at) (codeDisable (S L .word) (space s) (c .choice) (m + 1 + size g + 1) hs) (c .choice)) where
+    -- the marks are those of the rest
+    skip-marks : (ν : Mem) → Kept ν → Marks hs ν
+    skip-marks ν same d l o =
+        let (own, h) = n .marks d l (subst (Own b) (same d l) o) in (same d l ∙ own, past-skip-guard h)
+
+    -- on to the next guard
+    diss-on : (a : ℕ) {l : List ℕ} (ν : Mem) → Executes L (operation I.diss) s (unskipped a (withMemory l s)) → Shows L A c l ν → Kept ν
+        → IsReady ν → Chosen hs ν → Goal (operation I.diss)
+    diss-on a ν ran m same state chosen =
+        disables-on hs near (rest-past-skip past) code a (cpuOf s .c) (cpuOf s .c) ν ran m (skip-marks ν same) state chosen
+
+    diss-off : cpuOf s .b ≡ 0 → Goal (operation I.diss)
+    unfolding functionIn operandIn
+    diss-off f =
+        let off = false-when (st .store) e (cpuOf s .b) val f in
+        diss-on 0 μ (executes (exec-diss-off s f)) (shown L A c) (λ d l. refl) (n .state)
+        (⊎-elim (λ h. inl h) (λ h. inr (h .0, past-skip-ready (h .1) (λ x. never (cc (x, off))))) (n .chosen))
+
+    diss-true : cpuOf s .b ≢ 0 → Dec (μ (space s) ≡ noneSelected) → Goal (operation I.diss)
+    unfolding functionIn operandIn
+    diss-true on (yes f) =
+        diss-on 1 (upd μ (space s) (far m))
+        (executes
+        (exec-diss-first (far m) (space s) s branch on refl (mine-size L A c (base-mine L A c)) (mine-holds L A c (base-mine L A c) f)))
+        (chooses-it m) (kept-choosing m) (ready-choosing m (n .state))
+        (inl (m, _, rest-picks past (p-skip (true-when (st .store) e (cpuOf s .b) val on)), upd-same μ (space s) (far m)))
+    diss-true on (no f) =
+        diss-on 0 μ
+        (executes
+        (exec-diss-later (space s) (μ (space s)) s on refl (mine-size L A c (base-mine L A c)) (mine-holds L A c (base-mine L A c) refl) f))
+        (shown L A c) (λ d l. refl) (n .state) (⊎-elim (λ h. inl h) (λ h. absurd (f (h .0))) (n .chosen))
+
+    pub does-diss : Goal (operation I.diss)
+    does-diss = by (ℕ-discrete (cpuOf s .b) 0)
+      where
+        by : Dec (cpuOf s .b ≡ 0) → Goal (operation I.diss)
+        by (yes f) = diss-off f
+        by (no f) = diss-true f (ℕ-discrete (μ (space s)) noneSelected)
+
+  -- ALTEND: the process goes on in the chosen branch
+  module _ (here : at ≡ c .choice) (n : Disabled noGuard μ) where
+    clean : Unmarked (S L) b i st μ
+    clean d l o = unguarded (n .marks d l o .1)
+
+    module _ {m : ℕ} {p : Process} (pick : Picks st k gs (c .choice + 1) m p) (word : μ (space s) ≡ far m) where
+      led : Comes (S L) b (st .store) (i .vars) (i .chans) hi₀ p m (space s)
+      led = branch-comes (S L) b st (space s) c (sound-at L (A .rest) (A .leaf)) pick
+
+      inner : m ≤ length (S L .xs)
+      inner = comes-inside (S L) b led
+
+      abbrev there : World
+      there = withCpu (goto (low (L .off (suc at) + far m)) (cpuOf s)) s
+
+      did-altend : Executes L (operation I.altend) s there
+      unfolding functionIn operandIn
+      did-altend =
+          executes
+          (exec-altend (space s) (L .off (suc at)) (far m) s refl (A .placed) (mine-size L A c (base-mine L A c))
+          (mine-holds L A c (base-mine L A c) word))
+
+      -- the distance leads to the branch
+      reaches : cpuOf there .place ≡ L .off m
+      unfolding operandIn
+      reaches =
+          ap (λ z. low (L .off (suc at) + less (L .off m) (L .off (suc z)))) (sym here)
+          ∙ ap (λ z. low (z + less (L .off m) (L .off (suc at)))) (sym (A .placed))
+          ∙ target L A m inner
+
+      soon : hi₀ ≤ whole (S L) + L .off m
+      soon = omega (arith, c .near, rises-le (S L) i₀ m (omega (arith, c .choice-is, picks-behind pick)) inner)
+
+      altend-goes : Goal (operation I.altend)
+      altend-goes =
+          let (g, f) = picks-begins pick in
+          advances L (real-cpu L (cpuOf there) refl refl refl (A .real)) (A .leaf) (A .rest) (A .lined) clean alt-silent p
+          (subst Leaf (sym f) (leaf-begin g k)) (relaid (space s) (whole (S L)) i) (placed L A c) (omega arith)
+          (A .rest .vars (node L (A .leaf))) (A .rest .chans (node L (A .leaf)))
+          (subst (λ z. Within (liveIn (framesOf z)) (i .vars)) (sym f) (live-begin g k (i .vars) (A .rest .live (A .leaf))))
+          (λ d v l e. silent-begin g k (sym f ∙ e)) (chooses path (A .leaf .found) (picks-choice pick)) did-altend (silent L s there refl)
+          (record { run = A .run; operand = A .operand; place = reaches; work = refl; inside = inner }) led clean soon
+
+    pub does-altend : Goal (operation I.altend)
+    does-altend = ⊎-elim (λ h. let (m, p, pick, word) = h in altend-goes pick word) (λ h. absurd (unready (h .1))) (n .chosen)
+
+-- the instruction at an index is the one that executes
+pub same-does : (L : Loaded) (at : ℕ) {s : World} {st : State} {n : ℕ} {x y : Instruction} → At (S L) at x → At (S L) at y
+    → Did L (Executes L y s) s st n → Did L (Executes L x s) s st n
+same-does L at {s} {st} {n} e f h = subst (λ z. Did L (Executes L z s) s st n) (some-same (sym f ∙ e)) h
+
+module _ (L : Loaded) {s : World} {st : State} {μ : Mem} {t : Tree (S L) (root L) (st .process)} {path : List ℕ} {b : Part} {i : Info}
+    {ws : List ℕ} {at hi : ℕ} {gs : Guards} {k : List Frame} where
+  -- ENBC or ENBS
+  enable-point : Acting L s st μ t path (before (ALT gs) k) b i (Only path) ws at hi → {x : Instruction} → At (S L) at x → {hi₀ i₀ : ℕ}
+      → AltCode (S L) b gs (i .vars) (i .chans) k hi₀ i₀ (space s + 1) → hi₀ ≤ hi → {hs : Guards}
+      → Enabling (S L) b st (i .vars) (i .chans) gs hs μ (space s)
+      → Enables (S L) b st (i .vars) (i .chans) hs at (regsOf (cpuOf s)) (i₀ + 2 + sizeEnable gs)
+      → Did L (Executes L x s) s st (bytesLeft (S L) t)
+  enable-point A here c near n (e-input {e} {c = y} {x = z} {s = g} {gs = hs} f val chan code) =
+      same-does L at here f (does-enbc L A c e y z g hs near n val chan code)
+  enable-point A here c near n (e-skip {e} {s = g} {gs = hs} f val code) = same-does L at here f (does-enbs L A c e g hs near n val code)
+
+  -- DISC or DISS
+  disable-point : ((l : ℕ) → List·Memᴰ (inputOf l) (root L .outputs) → ⊥) → Acting L s st μ t path (atAlt gs k) b i (Only path) ws at hi
+      → {x : Instruction} → At (S L) at x → {hi₀ i₀ : ℕ} (c : AltCode (S L) b gs (i .vars) (i .chans) k hi₀ i₀ (space s + 1)) → hi₀ ≤ hi
+      → {hs : Guards} {m : ℕ} → RestOf gs (c .choice + 1) hs m
+      → Disabling (S L) b st (i .vars) (i .chans) k gs hs (c .choice) μ (space s)
+      → Disables (S L) b st (i .vars) (i .chans) hs (c .choice) m at (regsOf (cpuOf s)) (c .choice)
+      → Did L (Executes L x s) s st (bytesLeft (S L) t)
+  disable-point one-way A here c near past n (d-input {e} {c = y} {x = z} {s = g} {gs = hs} f branch val chan code) =
+      same-does L at here f (does-disc L A c e y z g hs near past n branch val chan code one-way)
+  disable-point one-way A here c near past n (d-skip {e} {s = g} {gs = hs} f branch val code) =
+      same-does L at here f (does-diss L A c e g hs near past n branch val code)
+
+-- every significant instruction of an ALT behind its first, where no process outputs to an outside input
+pub alt-point : (L : Loaded) → ((l : ℕ) → List·Memᴰ (inputOf l) (root L .outputs) → ⊥) → {s : World} {st : State} {μ : Mem}
+    {t : Tree (S L) (root L) (st .process)} {path : List ℕ} {q : Process} {b : Part} {i : Info} {ws : List ℕ} {at hi : ℕ}
+    → Acting L s st μ t path q b i (Only path) ws at hi → {x : Instruction} → At (S L) at x
+    → AltPoint (S L) b st (i .vars) (i .chans) q hi μ at (regsOf (cpuOf s)) → Did L (Executes L x s) s st (bytesLeft (S L) t)
+alt-point L one-way A here (pt-enable c near n p) = enable-point L A here c near n p
+alt-point L one-way A here (pt-wait {gs} {i = i₀} c n) =
+    same-does L (i₀ + 2 + sizeEnable gs) here (c .waits) (does-altwt L A c refl n)
+alt-point L one-way A here (pt-disable c near past n p) = disable-point L one-way A here c near past n p
+alt-point L one-way A here (pt-choose c n) = same-does L (c .choice) here (c .ends) (does-altend L A c refl n)

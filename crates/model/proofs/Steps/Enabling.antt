@@ -1,0 +1,646 @@
+-- The significant instructions of an ALT up to ALTWT: ALT, ENBC, ENBS and ALTWT.
+use Prim.Native.Nat.{ℕ, suc, _+_, _^_, _≤_, _<_}
+use native.Mathlib.Omega.{arith}
+use native.Mathlib.Decide.{ℕ-discrete}
+use mathlib.Core.Path.{_≡_, refl, sym, ap, _∙_, subst}
+use mathlib.Core.Logic.{_≢_, _⊎_, inl, inr, ⊎-elim}
+use mathlib.Core.Bool.{true, false}
+use mathlib.Core.List.{List, [], _∷_, List·Memᴰ}
+use mathlib.Core.Option.{Option, none, some}
+use lib.ListN.{getD, set}
+use borrow.Author.Tests.{eq-eqb, ne-eqb}
+use Rattle.model.specs.Word.{notProcess}
+use Rattle.model.specs.Syntax.{Site, inputOf, Expr, Stmt, ALT, Guards, noGuard, inputGuard, skipGuard}
+use Rattle.model.specs.Instruction.{Instruction, operation}
+use Rattle.model.specs.Instruction as I
+use Rattle.model.specs.Code.{functionIn, operandIn}
+use Rattle.model.specs.Scheme.{sizeEnable, codeEnable}
+use Rattle.model.specs.Machine.{World, withCpu, withMemory, stack, resumeWord, stateWord, isHeld}
+use Rattle.model.specs.Execute.{enabling, waiting, ready, noneSelected}
+use Rattle.model.specs.Occam.{Store, eval, isTrue, Frame, Process, before, atAlt, look, State, Sender, process, outside}
+use Rattle.model.specs.Occam.{Step, begins, go}
+use Rattle.model.specs.Demand.{step}
+use Rattle.model.proofs.Cases.{never}
+use Rattle.model.proofs.Quiet.Ways.{upd-same, upd-other, upd, regsOf, Mem}
+use Rattle.model.proofs.Quiet.Stretches.{Seg}
+use Rattle.model.proofs.Quiet.Setting.{whole}
+use Rattle.model.proofs.Quiet.CodeParts.{rises-le}
+use Rattle.model.proofs.Occam.Paths.{l-alt, same-path}
+use Rattle.model.proofs.Words.Parts.{Part, FineGuards}
+use Rattle.model.proofs.Quiet.Continuations.{Placed, placed-down, cont-placed, cont-low}
+use Rattle.model.proofs.Quiet.Marks.{Own, Ready, r-input, r-skip, Rest as RestOf, rest-all, Noticed, n-none, n-input, n-skip}
+use Rattle.model.proofs.Quiet.Marks.{Guarded}
+use Rattle.model.proofs.Quiet.Marks.{g-here, AltCode, Marked, Enabling, Disabling}
+use Rattle.model.proofs.Quiet.Onwards.{AltGoes, alt-goes, rest-past-input, rest-past-skip, rest-ready, rest-guarded, rest-fine}
+use Rattle.model.proofs.Quiet.Onwards.{noticed-past-input}
+use Rattle.model.proofs.Quiet.Onwards.{noticed-past-skip, noticed-unready, noticed-marked, enable-way, enable-first, disable-first}
+use Rattle.model.proofs.Invariant.Trees.{Info, Sits, Tree, bytesLeft, part-inside}
+use Rattle.model.proofs.Invariant.Leaves.{Unmarked, Held, h-wait}
+use Rattle.model.proofs.Invariant.Stays.{Intact, noticed-stays, marked-stays, ready-stays}
+use Rattle.model.proofs.Effects.OneWord.{cpuOf, sizeOf, stored}
+use Rattle.model.proofs.Effects.Acts.{exec-alt, enabled, exec-enbc-off, exec-enbc-held, exec-enbc-empty, exec-enbc-marked}
+use Rattle.model.proofs.Effects.Acts.{exec-enbc-sender, exec-enbs-off, exec-enbs, exec-altwt-ready, exec-altwt-wait}
+use Rattle.model.proofs.Invariant.Kernel.{Loaded, S, root, size, LeafAt, owned, Rest, Real}
+use Rattle.model.proofs.Invariant.Writes.{node, apart-parts, own-one, part-small, sits-at, write-own, write-chan}
+use Rattle.model.proofs.Invariant.Writes.{left-out}
+use Rattle.model.proofs.Invariant.Puts.{putting, treeThen, here-then, lined-then, rest-then, sender-then, sender-before}
+use Rattle.model.proofs.Invariant.Grounds.{chan-in, sound-at}
+use Rattle.model.proofs.Invariant.Traces.{t-none, t-step}
+use Rattle.model.proofs.Invariant.Running.{Only, fresh, now-alt, runs, Did, came, Executes, executes, Acting}
+use Rattle.model.proofs.Invariant.Moving.{relaid, same-leaf}
+use Rattle.model.proofs.Invariant.Reals.{size-is, mirrored, real-cpu, real-state, real-stored, link-own, link-chan}
+use Rattle.model.proofs.Invariant.Finish.{alt-goes-on, silent}
+use Rattle.model.proofs.Steps.Advance.{Silent, leaves-as}
+use Rattle.model.proofs.Steps.Channels.{Holder, holds-input, holds-output, holds-wait, holds-woken, holds-out, holder, Sends, sends}
+use Rattle.model.proofs.Steps.Channels.{sender-at, HeldAt, held-at, not-held, held-here}
+
+-- a condition's register says whether it is true
+pub true-when : (σ : Store) (e : Expr) (v : ℕ) → v ≡ eval σ e → v ≢ 0 → isTrue σ e ≡ true
+true-when σ e v q d = rw (ne-eqb (eval σ e) 0 (λ z. d (q ∙ z)))
+
+pub false-when : (σ : Store) (e : Expr) (v : ℕ) → v ≡ eval σ e → v ≡ 0 → isTrue σ e ≡ false
+false-when σ e v q d = rw (eq-eqb (eval σ e) 0 (sym q ∙ d))
+
+-- processes that begin a statement or are at an ALT send nothing
+before-silent : {s : Stmt} {k : List Frame} → Silent (before s k)
+before-silent y v l e = never (cc)
+
+pub alt-silent : {gs : Guards} {k : List Frame} → Silent (atAlt gs k)
+alt-silent y v l e = never (cc)
+
+-- an offer is a sender
+pub offer-sends : {st : State} {y : Site} {n v : ℕ} → y ≡ inputOf n → st .offers n ≡ some v → Sender st y
+offer-sends {st} e o = subst (Sender st) (sym e) (outside o)
+
+-- guards stay noticed where their marks stay
+noticed-more : {st : State} (word : Site → ℕ) (μ ν : Mem) {w : ℕ} {gs hs : Guards} → ((d : Site) → μ (word d) ≡ w → ν (word d) ≡ w)
+    → Noticed st word μ w gs hs → Noticed st word ν w gs hs
+noticed-more word μ ν f n-none = n-none
+noticed-more word μ ν f (n-input {c} g n) = n-input (λ z. (f c (g z .0), g z .1)) (noticed-more word μ ν f n)
+noticed-more word μ ν f (n-skip g n) = n-skip g (noticed-more word μ ν f n)
+
+-- the workspace of the process that has the processor
+abbrev pub space : World → ℕ
+space s = cpuOf s .workspace
+
+-- inside an ALT
+module _ (L : Loaded) {s : World} {st : State} {μ : Mem} {t : Tree (S L) (root L) (st .process)} {path : List ℕ} {q : Process} {b : Part}
+    {i : Info} {ws : List ℕ} {at hi : ℕ} (A : Acting L s st μ t path q b i (Only path) ws at hi) {gs : Guards} {k : List Frame}
+    {hi₀ i₀ : ℕ} (c : AltCode (S L) b gs (i .vars) (i .chans) k hi₀ i₀ (cpuOf s .workspace + 1)) where
+  abbrev w : ℕ
+  w = cpuOf s .workspace
+
+  -- the workspace and the words below it are the process's own
+  w-room : b .bottom + 3 ≤ w
+  w-room = omega (arith, c .fine .0)
+
+  w-under : w < b .top
+  w-under = omega (arith, cont-low (S L) b (c .after))
+
+  pub top-small : b .top ≤ 4096
+  top-small = omega (arith, part-small L (A .leaf), S L .top-small)
+
+  pub w-own : Own b w
+  w-own = (omega (arith, w-room), omega (arith, w-under))
+
+  pub w-some : w ≢ notProcess
+  w-some e = omega (arith, w-under, top-small)
+
+  -- such a word
+  abbrev pub Mine : ℕ → Type 0
+  Mine v = (b .bottom ≤ v) × (v ≤ w)
+
+  pub base-mine : Mine w
+  base-mine = (omega (arith, w-room), omega arith)
+
+  pub state-mine : Mine (stateWord w)
+  state-mine = (omega (arith, w-room, w-under, top-small), omega (arith, w-room, w-under, top-small))
+
+  pub resume-mine : Mine (resumeWord w)
+  resume-mine = (omega (arith, w-room, w-under, top-small), omega (arith, w-room, w-under, top-small))
+
+  -- they are different
+  pub base-state : w ≢ stateWord w
+  base-state e = omega (arith, w-room, w-under, top-small)
+
+  pub base-resume : w ≢ resumeWord w
+  base-resume e = omega (arith, w-room, w-under, top-small)
+
+  pub state-resume : stateWord w ≢ resumeWord w
+  state-resume e = omega (arith, w-room, w-under, top-small)
+
+  -- names in scope have other words
+  pub placed : Placed (S L) b w (i .vars) (i .chans)
+  placed = placed-down (S L) w 1 (omega (arith, w-room)) (cont-placed (S L) b (c .after))
+
+  var-off : {v : ℕ} → Mine v → (x : Site) → List·Memᴰ x (i .vars) → S L .word x ≢ v
+  var-off h x m e = absurd (omega (arith, cont-placed (S L) b (c .after) .scoped .vars-above x m, h .1, e))
+
+  pub chan-off : {v : ℕ} → Mine v → (x : Site) → List·Memᴰ x (i .chans) → S L .word x ≢ v
+  chan-off h x m e = absurd (omega (arith, cont-placed (S L) b (c .after) .scoped .chans-above x m, h .1, e))
+
+  -- they are in memory, and so are channels
+  mine-in : {v : ℕ} → Mine v → v < size L
+  mine-in h = omega (arith, h .1, w-under, part-small L (A .leaf))
+
+  pub mine-size : {v : ℕ} → Mine v → v < sizeOf s
+  mine-size h = rw (size-is L (A .real)) (mine-in h)
+
+  pub mine-holds : {v z : ℕ} → Mine v → μ v ≡ z → getD (s .memory) v 0 ≡ z
+  mine-holds {v} h e = mirrored L (A .real) v (mine-in h) e
+
+  pub chan-size : (y : Site) → List·Memᴰ y (i .chans) → S L .word y < sizeOf s
+  chan-size y m = rw (size-is L (A .real)) (chan-in L (node L (A .leaf)) y m)
+
+  pub chan-holds : (y : Site) → List·Memᴰ y (i .chans) → {z : ℕ} → μ (S L .word y) ≡ z → getD (s .memory) (S L .word y) 0 ≡ z
+  chan-holds y m e = mirrored L (A .real) (S L .word y) (chan-in L (node L (A .leaf)) y m) e
+
+  -- names: none is NotProcess, and none of another process is w
+  strange-none : {other : List ℕ} {r : Process} {d : Part} {j : Info} → LeafAt L st t other r d j → {v : ℕ} → v ≡ notProcess → Own d v
+      → ⊥
+  strange-none l e o = omega (arith, part-small L l, S L .top-small, o .1)
+
+  pub none-own : {v : ℕ} → v ≡ notProcess → Own b v → ⊥
+  none-own e o = strange-none (A .leaf) e o
+
+  strange-w : {other : List ℕ} {r : Process} {d : Part} {j : Info} → LeafAt L st t other r d j → (Only path other → ⊥) → {v : ℕ} → v ≡ w
+      → Own d v → ⊥
+  strange-w {d = d} l n e o = own-one L (apart-parts L (A .leaf) l n) w-own (subst (Own d) e o)
+
+  named-own : {other : List ℕ} {r : Process} {d : Part} {j : Info} → LeafAt L st t other r d j → {v : ℕ} → v ≡ j .w → Own d v
+  named-own l e = let p = sits-at L l .placed in (omega (arith, p .room), omega (arith, p .low))
+
+  -- a number that is no other process's name
+  abbrev pub Free : ℕ → Type 0
+  Free v = (other : List ℕ) (r : Process) (d : Part) (j : Info) → LeafAt L st t other r d j → (Only path other → ⊥) → Own d v → ⊥
+
+  pub free-none : {v : ℕ} → v ≡ notProcess → Free v
+  free-none e other r d j l n o = strange-none l e o
+
+  pub free-w : {v : ℕ} → v ≡ w → Free v
+  free-w e other r d j l n o = strange-w l n e o
+
+  -- memories that the machine may have now
+  pub record Shows (l : List ℕ) (ν : Mem) : Type 0 where
+    pub real : Real L (withMemory l s) st ν ws
+    pub rest : Rest L st ν t (Only path) ws
+
+  pub shown : Shows (s .memory) μ
+  shown = record { real = A .real; rest = A .rest }
+
+  -- an own word is written
+  pub own-write : {l : List ℕ} {ν : Mem} (v z : ℕ) → Mine v → Shows l ν → Shows (set l v z) (upd ν v z)
+  own-write v z h m =
+      let high : v < b .top = omega (arith, h .1, w-under) in
+      record {
+        real = real-stored L v z (mine-in h) (link-own L (A .lined) (A .leaf) refl v (h .0) high) (m .real);
+        rest = write-own L (A .leaf) (m .rest) v z (h .0) high (var-off h) (chan-off h) (left-out refl);
+      }
+
+  -- a channel's word is written: it gets the mark, or is empty
+  pub chan-write : {l : List ℕ} {ν : Mem} (y : Site) (z : ℕ) → List·Memᴰ y (i .chans) → Free (ν (S L .word y)) → (z ≡ notProcess) ⊎ (z ≡ w)
+      → Shows l ν → Shows (set l (S L .word y) z) (upd ν (S L .word y) z)
+  chan-write y z mine old new m =
+      record {
+        real = real-stored L (S L .word y) z (chan-in L (node L (A .leaf)) y mine) (link-chan L (A .lined) (A .leaf) refl y mine) (m .real);
+        rest = write-chan L (A .leaf) (m .rest) y z mine
+            (λ other r d j l n. (old other r d j l n, ⊎-elim (λ e. free-none e other r d j l n) (λ e. free-w e other r d j l n) new))
+            (⊎-elim (λ e. inl e) (λ e. inr (owned (A .leaf) mine (subst (Own b) (sym e) w-own))) new) refl;
+      }
+
+  -- what an own word's writing leaves as it was
+  module _ (ν : Mem) (v z : ℕ) (h : Mine v) where
+    pub own-chan : (d : Site) → List·Memᴰ d (i .chans) → upd ν v z (S L .word d) ≡ ν (S L .word d)
+    own-chan d m = upd-other ν v z (S L .word d) (chan-off h d m)
+
+    own-intact : Intact (S L) b i v st st ν (upd ν v z)
+    own-intact =
+        record {
+          own = λ a lo up d. upd-other ν v z a d;
+          reads = λ x m g. refl;
+          chans = λ d m. inl (own-chan d m);
+          sends = λ d m f. f;
+          none-sends = λ d m g o f. f;
+        }
+
+    pub own-noticed : {hs : Guards} → Noticed st (S L .word) ν w gs hs → Noticed st (S L .word) (upd ν v z) w gs hs
+    own-noticed n = noticed-stays (S L) b i (omega (arith, top-small)) (sits-at L (A .leaf)) own-intact (w + 1) w-own (c .fine .1) n
+
+    pub own-marked : Marked (S L) b st (i .vars) (i .chans) gs ν w → Marked (S L) b st (i .vars) (i .chans) gs (upd ν v z) w
+    own-marked n = marked-stays (S L) b i (omega (arith, top-small)) (sits-at L (A .leaf)) own-intact (w + 1) (c .fine .1) n
+
+  -- the process goes on inside the ALT, with another stack and another memory
+  pub onward : {x : Instruction} (f g h : ℕ) {l : List ℕ} {ν : Mem} → Executes L x s (withCpu (stack f g h (cpuOf s)) (withMemory l s))
+      → Shows l ν → AltGoes (S L) b st (i .vars) (i .chans) q hi ν (suc at) (record { a = f; b = g; c = h; w = w })
+      → Did L (Executes L x s) s st (bytesLeft (S L) t)
+  onward f g h {l} ran m way =
+      let r = stack f g h (cpuOf s) in
+      alt-goes-on L A (withCpu r (withMemory l s)) ran refl (real-cpu L r refl refl refl (m .real)) (A .run) (A .operand) (m .rest)
+      (A .lined) (suc at) hi (A .placed) (A .inside) (omega arith) way
+
+  -- the guards are fine
+  pub fine-rest : {hs : Guards} {m n : ℕ} → RestOf gs m hs n → FineGuards (S L .word) b (i .vars) (i .chans) (w + 1) hs
+  fine-rest r = rest-fine (S L .word) b (i .vars) (i .chans) (w + 1) r (c .fine .1)
+
+  -- what a channel's word holds: nothing, the ALT's own mark, or the name of a sender
+  pub data ChannelIs (y : Site) : Type 0 where
+    is-empty : μ (S L .word y) ≡ notProcess → ChannelIs y
+    is-ours : μ (S L .word y) ≡ w → ChannelIs y
+    is-sent : μ (S L .word y) ≢ notProcess → μ (S L .word y) ≢ w → (Own b (μ (S L .word y)) → ⊥) → Sender st y
+        → List·Memᴰ y (root L .outputs) → ChannelIs y
+
+  module _ (y : Site) (mine : List·Memᴰ y (i .chans)) (inputs : List·Memᴰ y (b .inputs)) where
+    by-holder : (Own b (μ (S L .word y)) → μ (S L .word y) ≡ w) → Holder L st μ t (Only path) ws y → ChannelIs y
+    by-holder marks (holds-input l n e wt x inp free) = absurd (apart-parts L (A .leaf) l n .inputs y inputs inp)
+    by-holder marks (holds-output {path = other} {b = d} l n e wt out m v z) =
+        let theirs = named-own l (wt .here) in
+        is-sent (λ f. strange-none l f theirs) (λ f. strange-w l n f theirs) (λ o. own-one L (apart-parts L (A .leaf) l n) o theirs)
+        (process _ (l .found)) (part-inside (S L) t other {b = d} (rw (l .label)) .outputs y out)
+    by-holder marks (holds-wait l n e a r f v all free m g gd inp) = absurd (apart-parts L (A .leaf) l n .inputs y inputs inp)
+    by-holder marks (holds-woken l n e a r f d g gd inp) = absurd (apart-parts L (A .leaf) l n .inputs y inputs inp)
+    by-holder marks (holds-out l o m own) =
+        is-ours (marks (same-leaf L (λ r d (j : Info). Own d (μ (S L .word y))) (sym o) l (A .leaf) own))
+
+    pub channel-is : (Own b (μ (S L .word y)) → μ (S L .word y) ≡ w) → ChannelIs y
+    channel-is marks =
+        ⊎-elim (λ e. is-empty e) (λ o. by-holder marks (holder L (A .rest) (λ other. same-path path other) o refl))
+        (A .rest .chans (node L (A .leaf)) y mine)
+
+    -- nobody sends on a channel that no sender is at and no offer is held for
+    pub unsent : Silent q → ((n : ℕ) → y ≡ inputOf n → st .offers n ≡ none) → (μ (S L .word y) ≡ notProcess) ⊎ (μ (S L .word y) ≡ w)
+        → Sender st y → ⊥
+    unsent silently no-offer here sd =
+        ⊎-elim at-word (λ f. let (n, v, e, o) = f in never (cc (no-offer n e, o)))
+        (sender-at L (A .rest) y
+        (λ other v l e o. silently y v l (some-process (sym (A .leaf .found) ∙ ap (λ z. look z (st .process)) o ∙ e))) sd)
+      where
+        some-process : {x z : Process} → _≡_ {A = Option Process} (some x) (some z) → x ≡ z
+        some-process e = cc
+
+        at-word : Sends L (A .rest) y → ⊥
+        at-word (sends l n e out m) =
+            let theirs = named-own l e in ⊎-elim (λ f. strange-none l f theirs) (λ f. strange-w l n f theirs) here
+
+-- before ALTWT
+module _ (L : Loaded) {s : World} {st : State} {μ : Mem} {t : Tree (S L) (root L) (st .process)} {path : List ℕ} {b : Part} {i : Info}
+    {ws : List ℕ} {at hi : ℕ} {gs : Guards} {k : List Frame} (A : Acting L s st μ t path (before (ALT gs) k) b i (Only path) ws at hi)
+    {hi₀ i₀ : ℕ} (c : AltCode (S L) b gs (i .vars) (i .chans) k hi₀ i₀ (cpuOf s .workspace + 1)) where
+  -- the guards before hs are enabled, in a memory
+  abbrev Enabled : Guards → Mem → Type 0
+  Enabled hs ν = Enabling (S L) b st (i .vars) (i .chans) gs hs ν (space s)
+
+  abbrev Marks : Mem → Type 0
+  Marks ν = Marked (S L) b st (i .vars) (i .chans) gs ν (space s)
+
+  -- what is to be shown of an instruction
+  abbrev Goal : Instruction → Type 0
+  Goal x = Did L (Executes L x s) s st (bytesLeft (S L) t)
+
+  abbrev state-word : ℕ
+  state-word = stateWord (space s)
+
+  state-size : state-word < sizeOf s
+  state-size = mine-size L A c (state-mine L A c)
+
+  -- the state is written
+  state-write : (z : ℕ) → Shows L A c (set (s .memory) state-word z) (upd μ state-word z)
+  state-write z = own-write L A c state-word z (state-mine L A c) (shown L A c)
+
+  -- ALT
+  module _ (here : at ≡ i₀ + 1) (near : hi₀ ≤ hi) (clean : Unmarked (S L) b i st μ) where
+    begun : Enabled gs (upd μ state-word enabling)
+    begun =
+        record {
+          rest = (0, rest-all);
+          marks = λ d m o. absurd (clean d m (subst (Own b) (own-chan L A c μ state-word enabling (state-mine L A c) d m) o));
+          state = inl (upd-same μ state-word enabling, n-none);
+        }
+
+    pub alt-begins : Goal (operation I.alt)
+    unfolding functionIn operandIn
+    alt-begins =
+        let e : i₀ + 2 ≡ suc at = omega arith in
+        let m = state-write enabling in
+        onward L A c (cpuOf s .a) (cpuOf s .b) (cpuOf s .c) (executes (exec-alt (space s) s refl state-size)) m
+        (subst (λ z. AltGoes (S L) b st (i .vars) (i .chans) (before (ALT gs) k) hi (upd μ state-word enabling) z (regsOf (cpuOf s))) e
+        (enable-first (S L) b st (space s) c (sound-at L (m .rest) (A .leaf)) near begun refl))
+
+  -- the enabling goes on with the rest of the guards
+  module _ {x : Instruction} (hs : Guards) (near : hi₀ ≤ hi)
+      (code : Seg (S L .xs) (suc at) (codeEnable (S L .word) (space s) hs) (i₀ + 2 + sizeEnable gs)) (f g h : ℕ) where
+    enables-on : {l : List ℕ} {ν : Mem} → Executes L x s (withCpu (stack f g h (cpuOf s)) (withMemory l s)) → Shows L A c l ν → Enabled hs ν
+        → Goal x
+    enables-on ran m n =
+        onward L A c f g h ran m
+        (alt-goes (space s)
+        (enable-way (S L) b st (space s) c (sound-at L (m .rest) (A .leaf)) hs near (fine-rest L A c (n .rest .1)) n code refl))
+
+    -- the state becomes Ready
+    turns-ready : Executes L x s (withCpu (stack f g h (cpuOf s)) (stored state-word ready s)) → (m : ℕ) × RestOf gs 0 hs m → Marks μ
+        → Ready st gs → Goal x
+    turns-ready ran rest marks now =
+        enables-on ran (state-write ready)
+        (record {
+          rest = rest;
+          marks = own-marked L A c μ state-word ready (state-mine L A c) marks;
+          state = inr (upd-same μ state-word ready, now);
+        })
+
+  -- ENBC of a guard
+  module _ (e : Expr) (y z : Site) (g : Stmt) (hs : Guards) (near : hi₀ ≤ hi) (n : Enabled (inputGuard e y z g hs) μ)
+      (val : cpuOf s .a ≡ eval (st .store) e) (chan : cpuOf s .b ≡ S L .word y)
+      (code : Seg (S L .xs) (suc at) (codeEnable (S L .word) (space s) hs) (i₀ + 2 + sizeEnable gs)) where
+    mine : List·Memᴰ y (i .chans)
+    mine = fine-rest L A c (n .rest .1) .2
+
+    inputs : List·Memᴰ y (b .inputs)
+    inputs = fine-rest L A c (n .rest .1) .3
+
+    past : (m : ℕ) × RestOf gs 0 hs m
+    past = (_, rest-past-input (n .rest .1))
+
+    -- nothing changes
+    passes : Executes L (operation I.enbc) s (enabled s)
+        → (isTrue (st .store) e ≡ true → (μ (S L .word y) ≡ space s) × (Sender st y → ⊥)) → Goal (operation I.enbc)
+    passes ran f =
+        enables-on hs near code (cpuOf s .a) (cpuOf s .c) (cpuOf s .c) ran (shown L A c)
+        (record {
+          rest = past;
+          marks = n .marks;
+          state = ⊎-elim (λ m. inl (m .0, noticed-past-input (m .1) f)) (λ m. inr m) (n .state);
+        })
+
+    enbc-off : cpuOf s .a ≡ 0 → Goal (operation I.enbc)
+    unfolding functionIn operandIn
+    enbc-off a = passes (executes (exec-enbc-off s a)) (λ h. never (cc (h, false-when (st .store) e (cpuOf s .a) val a)))
+
+    -- a sender is there
+    enbc-ready : cpuOf s .a ≢ 0 → Sender st y → Executes L (operation I.enbc) s (enabled (stored state-word ready s))
+        → Goal (operation I.enbc)
+    enbc-ready a sd ran =
+        turns-ready hs near code (cpuOf s .a) (cpuOf s .c) (cpuOf s .c) ran past (n .marks)
+        (rest-ready (n .rest .1) (r-input (true-when (st .store) e (cpuOf s .a) val a) sd))
+
+    -- no offer is held
+    module _ (a : cpuOf s .a ≢ 0) (free : isHeld (S L .word y) (s .machine) ≡ false)
+        (no-offer : (m : ℕ) → y ≡ inputOf m → st .offers m ≡ none) where
+      abbrev marked : Mem
+      marked = upd μ (S L .word y) (space s)
+
+      -- the marks that are there stay, and the new one is this guard's
+      mark-here : (d : Site) → S L .word d ≡ S L .word y → marked (S L .word d) ≡ space s
+      mark-here d h = ap marked h ∙ upd-same μ (S L .word y) (space s)
+
+      mark-stays : (d : Site) → μ (S L .word d) ≡ space s → marked (S L .word d) ≡ space s
+      mark-stays d f = by (ℕ-discrete (S L .word d) (S L .word y))
+        where
+          by : Dec (S L .word d ≡ S L .word y) → marked (S L .word d) ≡ space s
+          by (yes h) = mark-here d h
+          by (no h) = upd-other μ (S L .word y) (space s) (S L .word d) h ∙ f
+
+      new-marks : Marks marked
+      new-marks d m o = by (ℕ-discrete (S L .word d) (S L .word y))
+        where
+          by : Dec (S L .word d ≡ S L .word y) → (marked (S L .word d) ≡ space s) × Guarded (st .store) d gs
+          by (yes h) =
+              let same : d ≡ y = placed L A c .scoped .chans-distinct d y m mine h in
+              let it : Guarded (st .store) y gs = rest-guarded (n .rest .1) (g-here (true-when (st .store) e (cpuOf s .a) val a)) in
+              (mark-here d h, subst (λ v. Guarded (st .store) v gs) (sym same) it)
+          by (no h) =
+              let old = upd-other μ (S L .word y) (space s) (S L .word d) h in
+              let (f, it) = n .marks d m (subst (Own b) old o) in
+              (old ∙ f, it)
+
+      marks-it : μ (S L .word y) ≡ notProcess → Enabled hs marked
+      marks-it f =
+          let off = upd-other μ (S L .word y) (space s) state-word (λ h. chan-off L A c (state-mine L A c) y mine (sym h)) in
+          let it : (marked (S L .word y) ≡ space s) × (Sender st y → ⊥) =
+          (upd-same μ (S L .word y) (space s), unsent L A c y mine inputs before-silent no-offer (inl f)) in
+          record {
+            rest = past;
+            marks = new-marks;
+            state = ⊎-elim
+                (λ m. inl (off ∙ m .0, noticed-past-input (noticed-more (S L .word) μ marked mark-stays (m .1)) (λ h. it)))
+                (λ m. inr (off ∙ m .0, m .1)) (n .state);
+          }
+
+      -- an empty channel gets the mark, one that has it keeps it; a sender makes the ALT ready
+      enbc-free : ChannelIs L A c y → Goal (operation I.enbc)
+      unfolding functionIn operandIn
+      enbc-free (is-empty f) =
+          enables-on hs near code (cpuOf s .a) (cpuOf s .c) (cpuOf s .c)
+          (executes
+          (exec-enbc-empty (S L .word y) (space s) s a chan refl free (chan-size L A c y mine) (chan-holds L A c y mine f)))
+          (chan-write L A c y (space s) mine (free-none L A c f) (inr refl) (shown L A c)) (marks-it f)
+      enbc-free (is-ours f) =
+          passes
+          (executes
+          (exec-enbc-marked (S L .word y) (space s) s a chan refl free (chan-size L A c y mine) (chan-holds L A c y mine f) (w-some L A c)))
+          (λ h. (f, unsent L A c y mine inputs before-silent no-offer (inr f)))
+      enbc-free (is-sent f h o sd out) =
+          enbc-ready a sd
+          (executes
+          (exec-enbc-sender (S L .word y) (space s) (μ (S L .word y)) s a chan refl free (chan-size L A c y mine)
+          (chan-holds L A c y mine refl) f h state-size))
+
+    enbc-on : cpuOf s .a ≢ 0 → HeldAt L s st y → Goal (operation I.enbc)
+    unfolding functionIn operandIn
+    enbc-on a (held-at m v l f wd h small d o) =
+        enbc-ready a (offer-sends f o) (executes (exec-enbc-held (S L .word y) (space s) s a chan refl h state-size))
+    enbc-on a (not-held h no-offer) = enbc-free a h no-offer (channel-is L A c y mine inputs (λ o. n .marks y mine o .0))
+
+    pub does-enbc : Goal (operation I.enbc)
+    does-enbc = by (ℕ-discrete (cpuOf s .a) 0)
+      where
+        by : Dec (cpuOf s .a ≡ 0) → Goal (operation I.enbc)
+        by (yes a) = enbc-off a
+        by (no a) = enbc-on a (held-here L (A .real) (node L (A .leaf)) y mine)
+
+  -- ENBS of a guard
+  module _ (e : Expr) (g : Stmt) (hs : Guards) (near : hi₀ ≤ hi) (n : Enabled (skipGuard e g hs) μ)
+      (val : cpuOf s .a ≡ eval (st .store) e)
+      (code : Seg (S L .xs) (suc at) (codeEnable (S L .word) (space s) hs) (i₀ + 2 + sizeEnable gs)) where
+    past-skip : (m : ℕ) × RestOf gs 0 hs m
+    past-skip = (_, rest-past-skip (n .rest .1))
+
+    enbs-off : cpuOf s .a ≡ 0 → Goal (operation I.enbs)
+    unfolding functionIn operandIn
+    enbs-off a =
+        enables-on hs near code (cpuOf s .a) (cpuOf s .b) (cpuOf s .c) (executes (exec-enbs-off s a)) (shown L A c)
+        (record {
+          rest = past-skip;
+          marks = n .marks;
+          state = ⊎-elim (λ m. inl (m .0, noticed-past-skip (m .1) (false-when (st .store) e (cpuOf s .a) val a))) (λ m. inr m) (n .state);
+        })
+
+    enbs-on : cpuOf s .a ≢ 0 → Goal (operation I.enbs)
+    unfolding functionIn operandIn
+    enbs-on a =
+        turns-ready hs near code (cpuOf s .a) (cpuOf s .b) (cpuOf s .c) (executes (exec-enbs (space s) s a refl state-size)) past-skip
+        (n .marks) (rest-ready (n .rest .1) (r-skip (true-when (st .store) e (cpuOf s .a) val a)))
+
+    pub does-enbs : Goal (operation I.enbs)
+    does-enbs = by (ℕ-discrete (cpuOf s .a) 0)
+      where
+        by : Dec (cpuOf s .a ≡ 0) → Goal (operation I.enbs)
+        by (yes a) = enbs-off a
+        by (no a) = enbs-on a
+
+  -- ALTWT: the process comes to the ALT
+  abbrev waits-as : Info
+  waits-as = relaid (space s) (whole (S L)) i
+
+  abbrev then-at : State
+  then-at = putting path (atAlt gs k) st
+
+  sits-there : Sits (S L) b waits-as
+  sits-there = record { placed = placed L A c; few = omega arith }
+
+  abbrev tree-there : Tree (S L) (root L) (then-at .process)
+  tree-there = treeThen L (A .leaf) (atAlt gs k) l-alt waits-as sits-there
+
+  comes-to : Step st [] then-at
+  unfolding go
+  comes-to = begins path (A .leaf .found)
+
+  rest-there : {ν : Mem} → Rest L st ν t (Only path) ws → Rest L then-at ν tree-there (Only path) ws
+  rest-there r =
+      rest-then L (A .leaf) (atAlt gs k) l-alt waits-as sits-there r refl (r .vars (node L (A .leaf))) (r .chans (node L (A .leaf)))
+      (A .rest .live (A .leaf)) (λ d m o. m) (λ d v l e other p a j f g h. before-silent d v l e)
+      (λ d v l e other p a j f g h m o. alt-silent d v l e)
+
+  -- that changes no word, and no sender
+  intact-there : (ν : Mem) → Intact (S L) b i 0 st then-at ν ν
+  intact-there ν =
+      record {
+        own = λ v a z y. refl;
+        reads = λ x m g. refl;
+        chans = λ d m. inl refl;
+        sends = λ d m f. sender-then L (A .leaf) (atAlt gs k) l-alt waits-as sits-there d (before-silent d) f;
+        none-sends = λ d m g o f. sender-before L (A .leaf) (atAlt gs k) l-alt waits-as sits-there d (alt-silent d) f;
+      }
+
+  high : b .top < 2 ^ 32
+  high = omega (arith, top-small L A c)
+
+  marks-there : (ν : Mem) → Marks ν → Marked (S L) b then-at (i .vars) (i .chans) gs ν (space s)
+  marks-there ν m = marked-stays (S L) b i high (sits-at L (A .leaf)) (intact-there ν) (space s + 1) (c .fine .1) m
+
+  module _ (here : at ≡ i₀ + 2 + sizeEnable gs) (marks : Marks μ) where
+    -- the bytes that are left reach as far as is needed
+    soon-there : hi₀ ≤ whole (S L) + L .off (suc at)
+    soon-there = omega (arith, c .near, rises-le (S L) i₀ (suc at) (omega arith) (A .inside))
+
+    -- no branch is chosen yet
+    abbrev μ₁ : Mem
+    μ₁ = upd μ (space s) noneSelected
+
+    none-yet : Shows L A c (set (s .memory) (space s) noneSelected) μ₁
+    none-yet = own-write L A c (space s) noneSelected (base-mine L A c) (shown L A c)
+
+    marks₁ : Marks μ₁
+    marks₁ = own-marked L A c μ (space s) noneSelected (base-mine L A c) marks
+
+    -- it is Ready: the disabling begins
+    module _ (set-ready : μ state-word ≡ ready) (now : Ready st gs) where
+      disabling : Disabling (S L) b then-at (i .vars) (i .chans) k gs gs (c .choice) μ₁ (space s)
+      disabling =
+          record {
+            marks = marks-there μ₁ marks₁;
+            state = upd-other μ (space s) noneSelected state-word (λ e. base-state L A c (sym e)) ∙ set-ready;
+            chosen = inr (
+              upd-same μ (space s) noneSelected,
+              ready-stays (S L) b i high (sits-at L (A .leaf)) (intact-there μ₁) (space s + 1) (c .fine .1) now,
+            );
+          }
+
+      -- on its way to the first DISC or DISS
+      way-there : AltGoes (S L) b then-at (i .vars) (i .chans) (atAlt gs k) hi₀ μ₁ (suc at) (regsOf (cpuOf s))
+      way-there =
+          let e : i₀ + 2 + sizeEnable gs + 1 ≡ suc at = omega arith in
+          let near : hi₀ ≤ hi₀ = omega arith in
+          let sound = sound-at L (rest-there (none-yet .rest)) (here-then L (A .leaf) (atAlt gs k) l-alt waits-as sits-there) in
+          subst (λ z. AltGoes (S L) b then-at (i .vars) (i .chans) (atAlt gs k) hi₀ μ₁ z (regsOf (cpuOf s))) e
+          (disable-first (S L) b then-at (space s) c sound near disabling refl)
+
+      did-altwt : Executes L (operation I.altwt) s (stored (space s) noneSelected s)
+      unfolding functionIn operandIn
+      did-altwt =
+          executes
+          (exec-altwt-ready (space s) s refl (mine-size L A c (base-mine L A c)) state-size (mine-holds L A c (state-mine L A c) set-ready))
+
+      altwt-ready : Goal (operation I.altwt)
+      altwt-ready =
+          came (stored (space s) noneSelected s) (step [] then-at ∷ []) did-altwt (t-step comes-to t-none) (silent L s s refl)
+          (runs (real-state L (then-at .process) (st .store) (none-yet .real)) (A .run)
+          (here-then L (A .leaf) (atAlt gs k) l-alt waits-as sits-there) (rest-there (none-yet .rest))
+          (lined-then L (A .leaf) (atAlt gs k) l-alt waits-as sits-there refl (A .lined))
+          (now-alt (fresh L (suc at) (cpuOf s .place) (cpuOf s .operand) (A .inside) (A .placed) (A .operand)) way-there
+          (omega (arith, soon-there, A .placed))))
+          (inr (omega arith))
+
+    -- it waits
+    module _ (set-enabling : μ state-word ≡ enabling) (seen : Noticed st (S L .word) μ (space s) gs noGuard) where
+      abbrev resume-word : ℕ
+      resume-word = resumeWord (space s)
+
+      abbrev μ₂ : Mem
+      μ₂ = upd μ₁ state-word waiting
+
+      abbrev μ₃ : Mem
+      μ₃ = upd μ₂ resume-word (L .off (suc at))
+
+      abbrev asleep : World
+      asleep = stored resume-word (L .off (suc at)) (stored state-word waiting (stored (space s) noneSelected s))
+
+      asleep-shows : Shows L A c (asleep .memory) μ₃
+      asleep-shows =
+          own-write L A c resume-word (L .off (suc at)) (resume-mine L A c) (own-write L A c state-word waiting (state-mine L A c) none-yet)
+
+      asleep-state : μ₃ state-word ≡ waiting
+      asleep-state = upd-other μ₂ resume-word (L .off (suc at)) state-word (state-resume L A c) ∙ upd-same μ₁ state-word waiting
+
+      asleep-none : μ₃ (space s) ≡ noneSelected
+      asleep-none =
+          upd-other μ₂ resume-word (L .off (suc at)) (space s) (base-resume L A c)
+          ∙ upd-other μ₁ state-word waiting (space s) (base-state L A c)
+          ∙ upd-same μ (space s) noneSelected
+
+      asleep-seen : Noticed then-at (S L .word) μ₃ (space s) gs noGuard
+      asleep-seen =
+          noticed-stays (S L) b i high (sits-at L (A .leaf)) (intact-there μ₃) (space s + 1) (w-own L A c) (c .fine .1)
+          (own-noticed L A c μ₂ resume-word (L .off (suc at)) (resume-mine L A c)
+          (own-noticed L A c μ₁ state-word waiting (state-mine L A c)
+          (own-noticed L A c μ (space s) noneSelected (base-mine L A c) seen)))
+
+      asleep-marks : Marked (S L) b then-at (i .vars) (i .chans) gs μ₃ (space s)
+      asleep-marks =
+          marks-there μ₃
+          (own-marked L A c μ₂ resume-word (L .off (suc at)) (resume-mine L A c)
+          (own-marked L A c μ₁ state-word waiting (state-mine L A c) marks₁))
+
+      asleep-held : Held (S L) b waits-as then-at μ₃ false (atAlt gs k)
+      asleep-held =
+          let e : suc at ≡ i₀ + 2 + sizeEnable gs + 1 = omega arith in
+          h-wait c
+          (record {
+            place = upd-same μ₂ resume-word (L .off (suc at)) ∙ ap (L .off) e;
+            soon = omega (arith, soon-there, ap (L .off) e);
+          })
+          asleep-state asleep-none (λ d g. noticed-marked asleep-seen g) (noticed-unready asleep-seen) asleep-marks
+
+      altwt-waits : Goal (operation I.altwt)
+      unfolding functionIn operandIn
+      altwt-waits =
+          let no-ready : enabling ≢ ready = λ e. omega arith in
+          leaves-as L (asleep-shows .real) (A .leaf) (A .lined) (atAlt gs k) l-alt waits-as sits-there (rest-there (asleep-shows .rest))
+          asleep-held (A .operand) comes-to
+          (λ v e f. executes
+          (exec-altwt-wait (space s) (L .off (suc at)) enabling s refl (A .placed) (mine-size L A c (base-mine L A c)) state-size
+          (mine-holds L A c (state-mine L A c) set-enabling) no-ready (mine-size L A c (resume-mine L A c))
+          ∙ e))
+          (silent L s asleep refl)
+
+  pub does-altwt : at ≡ i₀ + 2 + sizeEnable gs → Enabled noGuard μ → Goal (operation I.altwt)
+  does-altwt here n =
+      ⊎-elim (λ m. altwt-waits here (n .marks) (m .0) (m .1)) (λ m. altwt-ready here (n .marks) (m .0) (m .1)) (n .state)

@@ -1,0 +1,6 @@
+-- What the parts of a program may touch: values as words (Values), parts that one process runs (Parts), the names in them (Uses), and that
+-- an accepted program's parts are apart (FineParts).
+pub mod Values
+pub mod Parts
+pub mod Uses
+pub mod FineParts
