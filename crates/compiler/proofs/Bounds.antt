@@ -3,17 +3,18 @@ use Prim.Native.Nat.{ℕ, zero, suc, _+_, _*_, _≤_, _<_}
 use native.Mathlib.Omega.{arith}
 use mathlib.Core.List.{List, [], _∷_}
 use lib.ListN.{length}
-use Rattle.model.specs.Syntax.{Site, Operator, PLUS, MINUS, TIMES, GT, EQ, AND, OR, XOR, Expr, Stmt, Stmts, noStmt, stmt, Pairs, Guards}
+use Rattle.model.specs.Syntax.{Site, Operator, PLUS, MINUS, TIMES, GT, EQ, AND, OR, XOR, Expr, Stmt, Stmts, noStmt, stmt, Pairs, Guard}
+use Rattle.model.specs.Syntax.{Guards}
 use Rattle.model.specs.Reader.{Scope}
 use Rattle.model.specs.Counts.{Order, leftFirst, rightFirst, rightStored, order, temporaries}
 use Rattle.model.specs.Instruction.{Instruction, plain, distance}
 use Rattle.model.specs.Code.{prefixesOf, bytesIn}
 use Rattle.model.specs.Scheme.{operatorSize, sidesSize, exprSize, wrapSize, wholeSize, howMany, size, sizeAll, sizePar, sizeEnds}
-use Rattle.model.specs.Scheme.{sizePairs, sizeEnable, sizeDisable, sizeBranches}
+use Rattle.model.specs.Scheme.{sizePairs, sizeEnable, sizeDisable, sizeBranches, enableSize, disableSize, inputSize}
 use Rattle.model.proofs.Coding.RoundTrip.{fewest-fits}
 use Rattle.compiler.proofs.Spelled.{ExprAt, constantAt, variableAt, notAt, binaryAt, StmtAt, skipAt, stopAt, assignAt, inputAt}
 use Rattle.compiler.proofs.Spelled.{outputAt, varAt, chanAt, seqAt, parAt, ifAt, whileAt, altAt, StmtsAt, noStmtAt, stmtsAt, PairsAt}
-use Rattle.compiler.proofs.Spelled.{noPairAt, pairAt, GuardsAt, noGuardAt, inputGuardAt, skipGuardAt}
+use Rattle.compiler.proofs.Spelled.{noPairAt, pairAt, GuardAt, inputGuardAt, skipGuardAt, GuardsAt, noGuardAt, guardsAt}
 
 operator-small : (op : Operator) → operatorSize op ≤ 2
 unfolding operatorSize
@@ -63,6 +64,11 @@ module _ (s : List ℕ) where
   unfolding wholeSize
   whole-bound {e = e} a = omega (arith, expr-bound a, wrap-small (temporaries e))
 
+  guard-bound : {w : Scope} {d i n : ℕ} {g : Guard} → GuardAt s d w i g n → enableSize g + disableSize g + inputSize g + 2 + 80 * i ≤ 80 * n
+  unfolding enableSize disableSize inputSize
+  guard-bound (inputGuardAt k e c x) = omega (arith, k .ahead, whole-bound e, c .there .ahead, x .there .ahead)
+  guard-bound (skipGuardAt k e) = omega (arith, k .ahead, whole-bound e)
+
   mutual
     unfolding size howMany
 
@@ -95,9 +101,7 @@ module _ (s : List ℕ) where
     guards-bound : {w : Scope} {d k i n : ℕ} {gs : Guards} → GuardsAt s d w k i gs n
         → sizeEnable gs + sizeDisable gs + sizeBranches gs + 80 * i ≤ 80 * n
     guards-bound noGuardAt = omega arith
-    guards-bound (inputGuardAt k e c x a g) =
-        omega (arith, k .ahead, whole-bound e, c .there .ahead, x .there .ahead, stmt-bound a, guards-bound g)
-    guards-bound (skipGuardAt k e a g) = omega (arith, k .ahead, whole-bound e, stmt-bound a, guards-bound g)
+    guards-bound (guardsAt g a h) = omega (arith, guard-bound g, stmt-bound a, guards-bound h)
 
 -- an instruction has at most eight bytes
 pub bytes-bound : (xs : List Instruction) → bytesIn xs ≤ 8 * length xs

@@ -8,7 +8,7 @@ use mathlib.Core.List.{List, [], _∷_, _++_, append-assoc}
 use lib.ListN.{length, length-append}
 use lib.Seq.{sets}
 use Rattle.model.specs.Word.{low, less, minus}
-use Rattle.model.specs.Syntax.{Site, Expr, Stmt, ALT, Guards, noGuard, inputGuard, skipGuard}
+use Rattle.model.specs.Syntax.{Site, Expr, Stmt, ALT, inputGuard, skipGuard, Guards, noGuard, guard}
 use Rattle.model.specs.Reader as M
 use Rattle.model.specs.Counts.{need, guardNeed}
 use Rattle.model.specs.Instruction as I
@@ -17,7 +17,7 @@ use Rattle.model.specs.Instruction.{enbc, enbs, functionCode, operationCode}
 use Rattle.model.specs.Prefix.{fewest, fewestFrom, enough}
 use Rattle.model.specs.Code.{prefixesOf, bytesIn, encode}
 use Rattle.model.specs.Scheme.{size, sizeEnable, sizeDisable, sizeBranches, local, guardCode, inputCode, code, codeEnable, codeDisable}
-use Rattle.model.specs.Scheme.{codeBranches, altWords}
+use Rattle.model.specs.Scheme.{codeBranches, altWords, inputSize, enableCode, disableCode, guardInput}
 use Rattle.model.proofs.Tables.WellFormed.{Laid, LaidGuards}
 use Rattle.model.proofs.Coding.Sizes.{code-length, enable-length, disable-length, branches-length}
 use Rattle.emitter.specs.Emits.{at, operationInto}
@@ -26,7 +26,8 @@ use Rattle.emitter.specs.Simples.{inInto, inputInto}
 use Rattle.compiler.specs.Alts.{stmtInto, innerAt, guardInto, guarded, behindGuard, enableInto, enabling, disableInto, choiceInto}
 use Rattle.compiler.specs.Alts.{choicesInto}
 use Rattle.compiler.specs.declared.alt.Guard.{Guard}
-use Rattle.compiler.proofs.Spelled.{NumeralAt, OneAt, ExprAt, CountAt, StmtAt, GuardsAt, noGuardAt, inputGuardAt, skipGuardAt}
+use Rattle.compiler.proofs.Spelled.{NumeralAt, OneAt, ExprAt, CountAt, StmtAt, inputGuardAt, skipGuardAt, GuardsAt, noGuardAt}
+use Rattle.compiler.proofs.Spelled.{guardsAt}
 use Rattle.compiler.proofs.Planned.{next-is, Plans}
 use Rattle.compiler.proofs.Fills.{bytes-append, fill-then, fill-before, fill-swap, Room, room-left, emits-fills, emits-at}
 use Rattle.compiler.proofs.Fills.{distance-fills, Stands, stands-first, stands-next, stands-both, stands-last, gap-fills}
@@ -85,25 +86,25 @@ module _ (word : Site → ℕ) (workspace : ℕ → ℕ) (off : ℕ → ℕ) (s 
     skipping-fills w h o k x r = rw (k .value, whole-code word off s altWords (omega arith) (scope .variables) planned w x h o r) refl
 
     enable-waits : (w : ℕ) (e : Expr) (c x : Site) (y : Stmt) (gs : Guards)
-        → codeEnable word w (inputGuard e c x y gs) ≡ waiting w e c ++ operation enbc ∷ [] ++ codeEnable word w gs
-    unfolding codeEnable
+        → codeEnable word w (guard (inputGuard e c x) y gs) ≡ waiting w e c ++ operation enbc ∷ [] ++ codeEnable word w gs
+    unfolding codeEnable enableCode
     enable-waits w e c x y gs = simp append-assoc
 
     enable-skips : (w : ℕ) (e : Expr) (y : Stmt) (gs : Guards)
-        → codeEnable word w (skipGuard e y gs) ≡ guardCode word w e ++ operation enbs ∷ [] ++ codeEnable word w gs
-    unfolding codeEnable
+        → codeEnable word w (guard (skipGuard e) y gs) ≡ guardCode word w e ++ operation enbs ∷ [] ++ codeEnable word w gs
+    unfolding codeEnable enableCode
     enable-skips w e y gs = simp append-assoc
 
     disable-waits : (w choice b : ℕ) (e : Expr) (c x : Site) (y : Stmt) (gs : Guards)
-        → codeDisable word w choice b (inputGuard e c x y gs)
+        → codeDisable word w choice b (guard (inputGuard e c x) y gs)
         ≡ waiting w e c ++ disabling disc b choice ++ codeDisable word w choice (b + 1 + 4 + size y + 1) gs
-    unfolding codeDisable
+    unfolding codeDisable disableCode inputSize
     disable-waits w choice b e c x y gs = simp append-assoc
 
     disable-skips : (w choice b : ℕ) (e : Expr) (y : Stmt) (gs : Guards)
-        → codeDisable word w choice b (skipGuard e y gs)
-        ≡ guardCode word w e ++ disabling diss b choice ++ codeDisable word w choice (b + 1 + size y + 1) gs
-    unfolding codeDisable
+        → codeDisable word w choice b (guard (skipGuard e) y gs)
+        ≡ guardCode word w e ++ disabling diss b choice ++ codeDisable word w choice (b + 1 + 0 + size y + 1) gs
+    unfolding codeDisable disableCode inputSize
     disable-skips w choice b e y gs = simp append-assoc
 
     -- the enabling of k guards is E, and their disabling has the bytes of D
@@ -125,7 +126,7 @@ module _ (word : Site → ℕ) (workspace : ℕ → ℕ) (off : ℕ → ℕ) (s 
         → ((before h : ℕ) (o : List ℕ) → Room h E → before + bytesIn D < 2 ^ 32 → Enables w k q n before h o E D)
         → Enables w (suc k) i n before h o C T
     unfolding enableInto
-    enable-more waits op on w choice b before h o G {E} {D} {C} {T} c-is t-is six op-is r l guard place rest =
+    enable-more waits op on w choice b before h o G {E} {D} {C} {T} c-is t-is six op-is r l begun place rest =
         let N = operation op ∷ [] in
         let all : bytesIn C ≡ bytesIn (G ++ N) + bytesIn E = rw c-is (bytes-append (G ++ N) E) in
         let front = bytes-append G N in
@@ -139,7 +140,7 @@ module _ (word : Site → ℕ) (workspace : ℕ → ℕ) (off : ℕ → ℕ) (s 
         let left : before + bytesIn T ≡ before + (bytesIn G + 6) + bytesIn D = omega arith in
         record {
           enables = rw (
-            guard (omega arith),
+            begun (omega arith),
             then-operation off op _ h G o op-is (omega arith),
             place,
             same,
@@ -155,16 +156,16 @@ module _ (word : Site → ℕ) (workspace : ℕ → ℕ) (off : ℕ → ℕ) (s 
         → Enables w k i n before h o (codeEnable word w gs) (codeDisable word w choice b gs)
     unfolding behindGuard guardNeed operationCode
     enable-fills w choice b before h o noGuardAt few r l = none-enabled w choice b before h o
-    enable-fills w choice b before h o (inputGuardAt {e = e} {c = c} {x = x} {b = y} {gs = gs} k t ch v a g) few r l =
+    enable-fills w choice b before h o (guardsAt {b = y} {gs = gs} (inputGuardAt {e = e} {c = c} {x = x} k t ch v) a g) few r l =
         enable-more true enbc disc w choice b before h o (waiting w e c) (enable-waits w e c x y gs)
         (disable-waits w choice b e c x y gs) (disc-bytes b choice) refl r l (waiting-fills w h o k t ch)
         (rw (next-is s (ch .there), next-is s (v .there), planned .measures a (scope-depth scope) (omega arith)))
         (λ before h o r l. enable-fills w choice (b + 1 + 4 + size y + 1) before h o g (omega arith) r l)
-    enable-fills w choice b before h o (skipGuardAt {e = e} {b = y} {gs = gs} k t a g) few r l =
+    enable-fills w choice b before h o (guardsAt {b = y} {gs = gs} (skipGuardAt {e = e} k t) a g) few r l =
         enable-more false enbs diss w choice b before h o (guardCode word w e) (enable-skips w e y gs)
         (disable-skips w choice b e y gs) (diss-bytes b choice) refl r l (skipping-fills w h o k t)
         (rw (planned .measures a (scope-depth scope) (omega arith)))
-        (λ before h o r l. enable-fills w choice (b + 1 + size y + 1) before h o g (omega arith) r l)
+        (λ before h o r l. enable-fills w choice (b + 1 + 0 + size y + 1) before h o g (omega arith) r l)
 
   -- one branch with its J, and its disabling, each in its own area
   choice-stores : (a : ℕ) (xs xs2 : List Instruction) (h : ℕ) (ys : List Instruction) (over leave : ℕ) (ys2 : List Instruction) (o : List ℕ)
@@ -212,7 +213,7 @@ module _ (word : Site → ℕ) (workspace : ℕ → ℕ) (off : ℕ → ℕ) (s 
         → ((dis h : ℕ) (o : List ℕ) → Stands off (j + size y + 1) h R → Room h R → dis + bytesIn D ≤ h → Chooses k q n base dis h o D R)
         → Chooses (suc k) i n base dis h o C A
     unfolding choicesInto disableInto functionCode prefixesOf
-    choice-more {y = y} waits op choice b j over base dis h o G F {D} {R} {C} {A} c-is a-is six op-is user index end laid few p r l guard
+    choice-more {y = y} waits op choice b j over base dis h o G F {D} {R} {C} {A} c-is a-is six op-is user index end laid few p r l begun
         branch a rest =
         let leave = j + size y in
         let T = distance ldc b choice in
@@ -238,7 +239,7 @@ module _ (word : Site → ℕ) (workspace : ℕ → ℕ) (off : ℕ → ℕ) (s 
         let place : h + bytesIn A ≡ h + bytesIn (F ++ B) + 4 + bytesIn R = omega arith in
         record {
           chooses = rw (
-            guard (omega arith),
+            begun (omega arith),
             then-distance off ldc 0x40 b choice h base dis G o refl (stands-first off p) user (room-left dis (G ++ T ∷ []) _ x-room),
             then-operation off op _ dis (G ++ T ∷ []) o op-is x-room,
             both,
@@ -262,9 +263,10 @@ module _ (word : Site → ℕ) (workspace : ℕ → ℕ) (off : ℕ → ℕ) (s 
         → Stands off b h (codeBranches word w b over gs) → Room h (codeBranches word w b over gs)
         → dis + bytesIn (codeDisable word (w - 1) choice b gs) ≤ h
         → Chooses k i n base dis h o (codeDisable word (w - 1) choice b gs) (codeBranches word w b over gs)
-    unfolding codeBranches need size inInto inputInto functionCode operationCode operationInto
+    unfolding codeBranches guardInput inputSize need size inInto inputInto functionCode operationCode operationInto
     choices-fill choice b over base dis h o noGuardAt laid few is user p r l = none-chosen choice b over base dis h o
-    choices-fill choice b over base dis h o (inputGuardAt {e = e} {c = c} {x = x} {b = y} {gs = gs} k t ch v a g) laid few is user p r l =
+    choices-fill choice b over base dis h o (guardsAt {b = y} {gs = gs} (inputGuardAt {e = e} {c = c} {x = x} k t ch v) a g) laid few is user p
+        r l =
         let after = b + 1 + 4 + size y + 1 in
         choice-more true disc choice b (b + 1 + 4) over base dis h o (waiting scope (w - 1) e c) (plain ajw 1 ∷ inputCode word w c x)
         (disable-waits scope (w - 1) choice b e c x y gs) refl (disc-bytes b choice) refl user
@@ -277,9 +279,9 @@ module _ (word : Site → ℕ) (workspace : ℕ → ℕ) (off : ℕ → ℕ) (s 
           local-is word off s (scope .variables) w v,
         )) a
         (λ dis h o p r l. choices-fill choice after over base dis h o g (laid .1) (omega arith) (omega arith) user p r l)
-    choices-fill choice b over base dis h o (skipGuardAt {e = e} {b = y} {gs = gs} k t a g) laid few is user p r l =
-        let after = b + 1 + size y + 1 in
-        choice-more false diss choice b (b + 1) over base dis h o (guardCode word (w - 1) e) (plain ajw 1 ∷ [])
+    choices-fill choice b over base dis h o (guardsAt {b = y} {gs = gs} (skipGuardAt {e = e} k t) a g) laid few is user p r l =
+        let after = b + 1 + 0 + size y + 1 in
+        choice-more false diss choice b (b + 1 + 0) over base dis h o (guardCode word (w - 1) e) (plain ajw 1 ∷ [])
         (disable-skips scope (w - 1) choice b e y gs) refl (diss-bytes b choice) refl user
         (omega arith) (omega (arith, branches-length word w after over gs)) (laid .0) (omega arith) p r l
         (skipping-fills scope (w - 1) dis o k t) (λ o. refl) a

@@ -8,14 +8,14 @@ use mathlib.Core.Logic.{_≢_}
 use mathlib.Core.List.{List}
 use borrow.Author.Tests.{lt-ltb, le-ltb, ne-eqb}
 use Rattle.model.specs.Word.{low}
-use Rattle.model.specs.Syntax.{Site, Expr, Stmt, Stmts, Pairs, Guards}
+use Rattle.model.specs.Syntax.{Site, Expr, Stmt, Stmts, Pairs, Guard, condition, Guards}
 use Rattle.model.specs.Reader.{Scope}
 use Rattle.model.specs.Counts.{temporaries, guardWords, need, mostNeed, sumNeed, pairNeed, guardNeed}
 use Rattle.numbers.specs.Items.{valueAt}
 use Rattle.emitter.specs.Extents.{extended, extentIn, simpleExtent, guardExtent, headExtent, partsOf, partsExtent, insideExtent, stmtExtent}
-use Rattle.compiler.proofs.Spelled.{NumeralAt, OneAt, ExprAt, StmtAt, skipAt, stopAt, assignAt, inputAt}
+use Rattle.compiler.proofs.Spelled.{ExprAt, StmtAt, skipAt, stopAt, assignAt, inputAt}
 use Rattle.compiler.proofs.Spelled.{outputAt, varAt, chanAt, seqAt, parAt, ifAt, whileAt, altAt, StmtsAt, noStmtAt, stmtsAt}
-use Rattle.compiler.proofs.Spelled.{PairsAt, noPairAt, pairAt, GuardsAt, noGuardAt, inputGuardAt, skipGuardAt}
+use Rattle.compiler.proofs.Spelled.{PairsAt, noPairAt, pairAt, GuardAt, inputGuardAt, skipGuardAt, GuardsAt, noGuardAt, guardsAt}
 use Rattle.compiler.proofs.Bounds.{stmt-bound}
 use Rattle.compiler.proofs.Planned.{next-is, expr-ends, PlansFrom}
 
@@ -64,19 +64,17 @@ module _ (s plan : List ℕ) {lo : ℕ} (planned : PlansFrom s lo plan) where
       let t = planned .tells a deep later in
       rw (le-ltb kind 9 l, lt-ltb kind 11 m, t .next, t .holds)
 
-  input-head : {vs cs ws : List Site} {d i n m p q : ℕ} {e : Expr} {c x : Site} → NumeralAt s i 0 n → ExprAt s vs d n e m
-      → OneAt s cs m c p → OneAt s ws p x q → d ≤ 32 → lo ≤ i → headExtent 11 plan s i ≡ extended q (guardWords (temporaries e))
+  guard-head : {w : Scope} {d i n : ℕ} {g : Guard} → GuardAt s d w i g n → d ≤ 32 → lo ≤ i
+      → (headExtent 11 plan s i ≡ extended n (guardWords (temporaries (condition g)))) × (i < n)
   unfolding headExtent guardExtent
-  input-head k a c x deep later =
+  guard-head (inputGuardAt k a c x) deep later =
+      let t = planned .tells a deep (omega (arith, k .ahead)) in (
+        rw (k .value, t .next, t .holds, next-is s (c .there), next-is s (x .there)),
+        omega (arith, k .ahead, expr-ends s a .0, c .there .ahead, x .there .ahead),
+      )
+  guard-head (skipGuardAt k a) deep later =
       let t = planned .tells a deep (omega (arith, k .ahead)) in
-      rw (k .value, t .next, t .holds, next-is s (c .there), next-is s (x .there))
-
-  skip-head : {vs : List Site} {d i n m : ℕ} {e : Expr} → NumeralAt s i 1 n → ExprAt s vs d n e m → d ≤ 32 → lo ≤ i
-      → headExtent 11 plan s i ≡ extended m (guardWords (temporaries e))
-  unfolding headExtent guardExtent
-  skip-head k a deep later =
-      let t = planned .tells a deep (omega (arith, k .ahead)) in
-      rw (k .value, t .next, t .holds)
+      (rw (k .value, t .next, t .holds), omega (arith, k .ahead, expr-ends s a .0))
 
   -- the parts of a statement, behind some that need m words
   seq-is : {w : Scope} {d k i n : ℕ} {ss : Stmts} (m : ℕ) → StmtsAt s d w k i ss n → d ≤ 32 → mostNeed ss ≤ 4096 → lo ≤ i
@@ -110,16 +108,10 @@ module _ (s plan : List ℕ) {lo : ℕ} (planned : PlansFrom s lo plan) where
       → partsExtent k 11 plan s i m ≡ extended n (max m (guardNeed gs))
   unfolding guardNeed
   guards-is {i = i} m noGuardAt deep l later = parts-over s plan 11 i m
-  guards-is m (inputGuardAt {k = k} {at = i} {q = j} {r = n} {t = z} {e = e} {b = b} {gs = gs} t c ch x a g) deep l later =
-      let behind : i < j = omega (arith, t .ahead, expr-ends s c .0, ch .there .ahead, x .there .ahead) in
-      most-turn s plan 11 k i j n z m (guardWords (temporaries e)) (need b) (guardNeed gs) (omega arith)
-      (input-head t c ch x deep later) (planned .measures a deep (omega arith) (omega arith))
-      (λ m. guards-is m g deep (omega arith) (omega (arith, stmt-bound s a)))
-  guards-is m (skipGuardAt {k = k} {at = i} {m = j} {r = n} {t = z} {e = e} {b = b} {gs = gs} t c a g) deep l later =
-      let behind : i < j = omega (arith, t .ahead, expr-ends s c .0) in
-      most-turn s plan 11 k i j n z m (guardWords (temporaries e)) (need b) (guardNeed gs) (omega arith)
-      (skip-head t c deep later) (planned .measures a deep (omega arith) (omega arith))
-      (λ m. guards-is m g deep (omega arith) (omega (arith, stmt-bound s a)))
+  guards-is m (guardsAt {k = k} {at = i} {n = j} {m = n} {p = z} {g = g} {b = b} {gs = gs} c a h) deep l later =
+      let (head, behind) = guard-head c deep later in
+      most-turn s plan 11 k i j n z m (guardWords (temporaries (condition g))) (need b) (guardNeed gs) (omega arith) head
+      (planned .measures a deep (omega arith) (omega arith)) (λ m. guards-is m h deep (omega arith) (omega (arith, stmt-bound s a)))
 
 -- a statement, by a plan that tells of all that begins behind its first byte
 pub extent-is : (s plan : List ℕ) {w : Scope} {d i n : ℕ} {b : Stmt} → PlansFrom s (suc i) plan → StmtAt s d w i b n → d ≤ 32

@@ -16,7 +16,7 @@ use Rattle.emitter.specs.Extents.{extended, extentEntry, statementAt, extentIn,
 use Rattle.emitter.specs.Makes.{plannedAt, plannedBelow, planOf}
 use Rattle.compiler.proofs.Spelled.{StmtAt, skipAt, stopAt, assignAt, inputAt, outputAt, varAt, chanAt, seqAt, parAt, ifAt}
 use Rattle.compiler.proofs.Spelled.{whileAt, altAt, StmtsAt, noStmtAt, stmtsAt, PairsAt, noPairAt, pairAt, GuardsAt, noGuardAt}
-use Rattle.compiler.proofs.Spelled.{inputGuardAt, skipGuardAt}
+use Rattle.compiler.proofs.Spelled.{guardsAt}
 use Rattle.compiler.proofs.Bounds.{stmt-bound}
 use Rattle.compiler.proofs.Planned.{expr-ends, PlansFrom, entry-is, Plans}
 use Rattle.compiler.proofs.ExtentIs.{extent-is}
@@ -58,8 +58,7 @@ module _ (s : List ℕ) where
 
     guards-inside : {w : Scope} {d k i n : ℕ} {gs : Guards} → GuardsAt s d w k i gs n → i ≤ length s → n ≤ length s
     guards-inside noGuardAt l = l
-    guards-inside (inputGuardAt k e c x a g) l = guards-inside g (stmt-inside a)
-    guards-inside (skipGuardAt k e a g) l = guards-inside g (stmt-inside a)
+    guards-inside (guardsAt g a h) l = guards-inside h (stmt-inside a)
 
   module _ (short : length s ≤ 16384) where
     -- the entries of one place more

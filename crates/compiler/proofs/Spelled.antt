@@ -14,7 +14,9 @@ use Rattle.numbers.specs.declared.NumberRead.{NumberRead}
 use Rattle.numbers.specs.declared.NumberRead.the-variants.{Number, Bad}
 use Rattle.model.specs.Syntax.{Site, Operator, Expr, constant, variable, NOT, binary, Stmt, SKIP, STOP, assign, input, output, VAR}
 use Rattle.model.specs.Syntax.{CHAN}
-use Rattle.model.specs.Syntax.{SEQ, PAR, IF, WHILE, ALT, Stmts, noStmt, stmt, Pairs, noPair, pair, Guards, noGuard, inputGuard, skipGuard}
+use Rattle.model.specs.Syntax.{SEQ, PAR, IF, WHILE, ALT, Stmts, noStmt, stmt, Pairs, noPair, pair, Guard, inputGuard, skipGuard, Guards}
+use Rattle.model.specs.Syntax.{noGuard}
+use Rattle.model.specs.Syntax.{guard}
 use Rattle.model.specs.Reader.{Parsed, parsed, fails, Reader, onward, Scope, withVariables, withChannels, readName, operators}
 use Rattle.model.specs.Reader.{exprKinds, exprOf, readExpr, readMany, stmtKinds, stmtOf, readStmt, readPair, guardKinds, guardOf}
 use Rattle.model.specs.Reader.{readGuard, Inner, readNumber, readCount, oneOf, tooDeep, anySite, canInput, canOutput, applied}
@@ -101,6 +103,12 @@ pub record CountAt (s : List ℕ) (lo hi at v n : ℕ) : Type 0 where
   pub least : lo ≤ v
   pub most : v ≤ hi
 
+-- guards
+pub data GuardAt (s : List ℕ) (d : ℕ) (w : Scope) (at : ℕ) : Guard → (next : ℕ) → Type 0 where
+  inputGuardAt : {n m p q : ℕ} {e : Expr} {c x : Site} → NumeralAt s at 0 n → ExprAt s (w .variables) d n e m
+      → OneAt s (w .channels) m c p → OneAt s (w .variables) p x q → GuardAt s d w at (inputGuard e c x) q
+  skipGuardAt : {n m : ℕ} {e : Expr} → NumeralAt s at 1 n → ExprAt s (w .variables) d n e m → GuardAt s d w at (skipGuard e) m
+
 -- statements, and the parts of a statement
 mutual
   pub data StmtAt (s : List ℕ) : (depth : ℕ) → Scope → (at : ℕ) → Stmt → (next : ℕ) → Type 0 where
@@ -139,11 +147,8 @@ mutual
 
   pub data GuardsAt (s : List ℕ) : (depth : ℕ) → Scope → (count at : ℕ) → Guards → (next : ℕ) → Type 0 where
     noGuardAt : {d at : ℕ} {w : Scope} → GuardsAt s d w 0 at noGuard at
-    inputGuardAt : {d k at n m p q r t : ℕ} {w : Scope} {e : Expr} {c x : Site} {b : Stmt} {gs : Guards} → NumeralAt s at 0 n
-        → ExprAt s (w .variables) d n e m → OneAt s (w .channels) m c p → OneAt s (w .variables) p x q → StmtAt s d w q b r
-        → GuardsAt s d w k r gs t → GuardsAt s d w (suc k) at (inputGuard e c x b gs) t
-    skipGuardAt : {d k at n m r t : ℕ} {w : Scope} {e : Expr} {b : Stmt} {gs : Guards} → NumeralAt s at 1 n
-        → ExprAt s (w .variables) d n e m → StmtAt s d w m b r → GuardsAt s d w k r gs t → GuardsAt s d w (suc k) at (skipGuard e b gs) t
+    guardsAt : {d k at n m p : ℕ} {w : Scope} {g : Guard} {b : Stmt} {gs : Guards} → GuardAt s d w at g n → StmtAt s d w n b m
+        → GuardsAt s d w k m gs p → GuardsAt s d w (suc k) at (guard g b gs) p
 
 module _ (s : List ℕ) (b : Bytes s) where
   one : {A : Type 0} (things : List A) (hi : ℕ) (at : ℕ) → length things ≡ suc hi
@@ -210,7 +215,7 @@ module _ (s : List ℕ) (b : Bytes s) where
   record PairAt (d : ℕ) (w : Scope) (f : Pairs → Pairs) (at m : ℕ) : Type 0 where
     before : (k : ℕ) (ps : Pairs) (p : ℕ) → PairsAt s d w k m ps p → PairsAt s d w (suc k) at (f ps) p
 
-  record GuardAt (d : ℕ) (w : Scope) (f : Guards → Guards) (at m : ℕ) : Type 0 where
+  record GuardBefore (d : ℕ) (w : Scope) (f : Guards → Guards) (at m : ℕ) : Type 0 where
     before : (k : ℕ) (gs : Guards) (p : ℕ) → GuardsAt s d w k m gs p → GuardsAt s d w (suc k) at (f gs) p
 
   -- with what is inside
@@ -232,26 +237,27 @@ module _ (s : List ℕ) (b : Bytes s) where
         (λ e n h. and-then _ (inner w n) (λ b m g. parses (pair e b) m (record { before = λ k ps p r. pairAt h g r }))))
         (λ at. noPairAt) (λ k f ps at n m h g. h .before k ps m g) k at
 
+    -- what follows a guard's number
+    guard-kinds : (w : Scope) (at n : ℕ)
+        → Each (λ v g. NumeralAt s at v n → Gives s (λ g m. GuardAt s d w at g m) (guardOf w (readExpr d w) g n (drop n s))) 0 guardKinds
+    unfolding guardOf
+    guard-kinds w at n = (
+      λ t. and-then _ (expr-spelled d w n)
+          (λ e m q. and-then _ (name canInput (w .channels) m)
+          (λ c p r. and-then _ (name anySite (w .variables) p) (λ x u y. parses (inputGuard e c x) u (inputGuardAt t q r y)))),
+      (λ t. and-then _ (expr-spelled d w n) (λ e m q. parses (skipGuard e) m (skipGuardAt t q)), tt),
+    )
+
     guards : (w : Scope) (k at : ℕ)
         → Gives s (λ gs n. GuardsAt s d w k at gs n) (readMany noGuard applied (readGuard w (within w)) k at (drop at s))
-    unfolding readGuard guardOf
+    unfolding readGuard
     guards w k at =
-        many (λ f at n. GuardAt d w f at n) (λ k gs at n. GuardsAt s d w k at gs n) noGuard applied (readGuard w (within w))
+        many (λ f at n. GuardBefore d w f at n) (λ k gs at n. GuardsAt s d w k at gs n) noGuard applied (readGuard w (within w))
         (λ at. and-then _ (one guardKinds 1 at refl)
-        (λ g n h. each (λ v g. NumeralAt s at v n → Gives s (λ f m. GuardAt d w f at m) (guardOf w (within w) g n (drop n s)))
-        guardKinds (h .index) (
-          λ t. and-then _ (expr-spelled d w n)
-              (λ e m q. and-then _ (name canInput (w .channels) m)
-              (λ c p r. and-then _ (name anySite (w .variables) p)
-              (λ x u y. and-then _ (inner w u)
-              (λ b z i. parses (inputGuard e c x b) z (record { before = λ k gs p l. inputGuardAt t q r y i l }))))),
-          (
-            λ t. and-then _ (expr-spelled d w n)
-                (λ e m q. and-then _ (inner w m) (λ b z i. parses (skipGuard e b) z (record { before = λ k gs p l. skipGuardAt t q i l }))),
-            tt,
-          ),
-        )
-        (h .listed) (h .there)))
+        (λ kind n h. and-then _
+        (each (λ v g. NumeralAt s at v n → Gives s (λ g m. GuardAt s d w at g m) (guardOf w (readExpr d w) g n (drop n s))) guardKinds
+        (h .index) (guard-kinds w at n) (h .listed) (h .there))
+        (λ g m q. and-then _ (inner w m) (λ b z i. parses (guard g b) z (record { before = λ k gs p l. guardsAt q i l })))))
         (λ at. noGuardAt) (λ k f gs at n m h g. h .before k gs m g) k at
 
     -- what follows each kind

@@ -28,7 +28,8 @@ unfolding Word.signed Number.groups Number.number Reader.readNumber Reader.oneOf
     Counts.processes Counts.need Accept.checks Accept.accept Instruction.functionCode
     Instruction.operationCode Instruction.coded Instruction.functionOf Instruction.operationOf Prefix.shifted Prefix.firstPrefix
     Prefix.prefixes Prefix.withPrefixes Prefix.enough Prefix.fewestFrom Prefix.fewest Prefix.decode Layout.layout Layout.workspaceOf
-    Layout.wordOf Scheme.operatorCode Scheme.initialise Scheme.sidesSize Scheme.exprSize Scheme.wrapSize Scheme.wholeSize Scheme.sidesCode
+    Layout.wordOf Scheme.operatorCode Scheme.initialise Scheme.sidesSize Scheme.exprSize Scheme.wrapSize Scheme.wholeSize
+    Scheme.enableSize Scheme.disableSize Scheme.inputSize Scheme.enableCode Scheme.disableCode Scheme.guardInput Scheme.sidesCode
     Scheme.wrapped Scheme.size Scheme.exprCode Scheme.code Scheme.scheme
     Code.prefixesOf Code.bytesIn Code.placeOf Code.functionIn Code.operandIn Code.encode Code.codeOf Code.fitting Code.compile
     Machine.peek Machine.poke Machine.testPlace Machine.resume Machine.release Machine.join Execute.loadLocal Execute.storeLocal

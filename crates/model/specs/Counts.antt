@@ -4,8 +4,8 @@ use mathlib.Core.Bool.{cond, _&&_}
 use lib.Dec.{ltb, eqb}
 use Rattle.model.specs.Limits.{registerLimit}
 use Rattle.model.specs.Syntax.{Expr, constant, variable, NOT, binary, Stmt, SKIP, STOP, assign, input, output}
-use Rattle.model.specs.Syntax.{VAR, CHAN, SEQ, PAR, IF, WHILE, ALT, Stmts, noStmt, stmt, Pairs, noPair, pair, Guards, noGuard}
-use Rattle.model.specs.Syntax.{inputGuard, skipGuard}
+use Rattle.model.specs.Syntax.{VAR, CHAN, SEQ, PAR, IF, WHILE, ALT, Stmts, noStmt, stmt, Pairs, noPair, pair, condition}
+use Rattle.model.specs.Syntax.{Guards, noGuard, guard}
 
 -- 02, order 2: an operator whose sides need the same number needs one more, otherwise the larger, and never over 3
 unfoldable pub sidesNeed : (left right : ℕ) → ℕ
@@ -77,8 +77,7 @@ unfoldable mutual
   -- ALT: the largest part
   pub guardProcesses : Guards → ℕ
   guardProcesses noGuard = 0
-  guardProcesses (inputGuard e c x s gs) = max (processes s) (guardProcesses gs)
-  guardProcesses (skipGuard e s gs) = max (processes s) (guardProcesses gs)
+  guardProcesses (guard g s gs) = max (processes s) (guardProcesses gs)
 
 -- 02, order 2: an ALT needs at least t + 8 words for a guard's condition that stores; without stored values it asks for none
 unfoldable pub guardWords : (t : ℕ) → ℕ
@@ -121,5 +120,4 @@ unfoldable mutual
   -- ALT: the most of the parts, and of what the conditions ask for
   pub guardNeed : Guards → ℕ
   guardNeed noGuard = 0
-  guardNeed (inputGuard e c x s gs) = max (guardWords (temporaries e)) (max (need s) (guardNeed gs))
-  guardNeed (skipGuard e s gs) = max (guardWords (temporaries e)) (max (need s) (guardNeed gs))
+  guardNeed (guard g s gs) = max (guardWords (temporaries (condition g))) (max (need s) (guardNeed gs))

@@ -11,7 +11,7 @@ use lib.IntN.{pos, negℤ}
 use Rattle.model.specs.Word.{less, minus, signed, notProcess}
 use Rattle.model.specs.Syntax.{Site, inputOf, declared, PLUS, MINUS, TIMES, GT, AND, XOR, Expr, NOT, constant, variable, binary, Stmt}
 use Rattle.model.specs.Syntax.{SKIP, STOP, assign, input, output, VAR, CHAN, SEQ, PAR, IF, WHILE, ALT, Stmts, noStmt, stmt, noPair}
-use Rattle.model.specs.Syntax.{pair, Guards, noGuard, inputGuard, skipGuard}
+use Rattle.model.specs.Syntax.{pair, inputGuard, skipGuard, Guards, noGuard, guard}
 use Rattle.model.specs.Reader.{refused}
 use Rattle.model.specs.Counts.{registers, temporaries, processes, need}
 use Rattle.model.specs.Limits.{tableLimit, codeLimit, wordLimit, depthLimit, registerLimit, channelLimit, nameLimit, partLimit}
@@ -105,10 +105,10 @@ abbrev ifOnly : Expr → Stmt → Stmt
 ifOnly e s = IF (pair e s noPair)
 
 abbrev altInput : Expr → Stmt → Stmt
-altInput e s = ALT (inputGuard e c x s noGuard)
+altInput e s = ALT (guard (inputGuard e c x) s noGuard)
 
 abbrev altSkip : Expr → Stmt → Stmt
-altSkip e s = ALT (skipGuard e s noGuard)
+altSkip e s = ALT (guard (skipGuard e) s noGuard)
 
 -- the smallest statement of every kind, each "at least" of 01 and of order 2 of 02, and where a part decides
 abbrev statements : List Stmt
@@ -157,7 +157,7 @@ numbersOf r =
 
 -- an ALT of two guards whose conditions store a value
 abbrev guards : Guards
-guards = inputGuard storesOne c x SKIP (skipGuard storesOne SKIP noGuard)
+guards = guard (inputGuard storesOne c x) SKIP (guard (skipGuard storesOne) SKIP noGuard)
 
 -- their conditions' code between AJW -6 and AJW 6, and what follows it
 abbrev wrapped : (condition rest : List Instruction) → List Instruction

@@ -10,8 +10,9 @@ use Rattle.model.specs.Word.{low, less, truth, notProcess}
 use Rattle.model.specs.Instruction.{Function, j, ldlp, ldc, ldl, cj, ajw, eqc, stl, opr, Operation, rev, endp, diff, «in», prod, gt}
 use Rattle.model.specs.Instruction.{startp, outword, stopp, ldpi, disc, diss, xor, mint, alt, altwt, altend, and, enbc, enbs, or, sum}
 use Rattle.model.specs.Instruction.{operationOf}
-use Rattle.model.specs.Machine.{Act, _>>=_, _>>_, return, fault, withOffers, registers, setRegisters, setup, communicate}
-use Rattle.model.specs.Machine.{stack, goto, work, peek, poke, testPlace, resumeWord, stateWord, release, join, isHeld, done}
+use Rattle.model.specs.Machine.{Act, return, fault, withOffers, registers, setRegisters, setup, communicate, _>>=_, _>>_}
+use Rattle.model.specs.Machine.{stack, goto, work, peek, poke, testPlace, resumeWord, stateWord, nameOf, spaceOf, release, join}
+use Rattle.model.specs.Machine.{isHeld, done}
 use Rattle.model.specs.declared.Cpu.{Cpu}
 use Rattle.model.specs.declared.FaultKind.the-variants.{Operation as BadOperation, Count}
 
@@ -42,7 +43,7 @@ jump n = do
       (setRegisters (goto (low (r .place + n)) r))
       (do
         poke (resumeWord (r .workspace)) (low (r .place + n))
-        join (r .workspace)
+        join (nameOf (r .workspace))
         release
         testPlace (low (r .place + n)))
 
@@ -81,7 +82,7 @@ unfoldable pub startProcess : Act (Unit {0})
 startProcess = do
   r ← registers
   poke (resumeWord (r .a)) (low (r .place + r .b))
-  join (r .a)
+  join (nameOf (r .a))
 
 -- ENDP: A is the workspace of the PAR. The last branch goes on as the PAR, with its count towards the slice; another frees the processor
 unfoldable pub endProcess : Act (Unit {0})
@@ -103,7 +104,7 @@ stopProcess = do
 unfoldable pub waitAt : (channel message : ℕ) → Act (Unit {0})
 waitAt c m = do
   r ← registers
-  poke c (r .workspace)
+  poke c (nameOf (r .workspace))
   poke (resumeWord (r .workspace)) (r .place)
   poke (stateWord (r .workspace)) m
 
@@ -116,7 +117,7 @@ dropOffer c s =
 -- the value of the sender that waits at a channel's word
 unfoldable pub receive : (sender : ℕ) → Act ℕ
 receive p = do
-  m ← peek (stateWord p)
+  m ← peek (stateWord (spaceOf p))
   peek m
 
 -- the channel is empty again, the process that waited there is woken, and the communication is made
@@ -176,7 +177,7 @@ noneSelected = 2 ^ 32 - 1
 -- a sender or an offer acts on an ALT's state: it becomes Ready, and a process that is Waiting is woken
 unfoldable pub notify : (process state : ℕ) → Act (Unit {0})
 notify p s = do
-  poke (stateWord p) ready
+  poke (stateWord (spaceOf p)) ready
   cond (eqb s waiting) (join p) (return tt)
 
 -- a process that waits in IN gets the value at its message place
@@ -194,7 +195,7 @@ outputWord = do
   cond (eqb p notProcess)
       (do waitAt (r .b) (r .workspace); release)
       (do
-        s ← peek (stateWord p)
+        s ← peek (stateWord (spaceOf p))
         cond (isAltState s)
             (do waitAt (r .b) (r .workspace); notify p s; release)
             (deliver (r .b) p s (r .a)))
@@ -211,13 +212,14 @@ setReady = do
   r ← registers
   poke (stateWord (r .workspace)) ready
 
--- where no offer is held: an empty channel gets the mark W, which it may have already; a sender makes the ALT ready
+-- where no offer is held: an empty channel gets the process's name as a mark, which it may have already; a sender makes the ALT ready
 abbrev pub enableUnheld : Cpu → (channel : ℕ) → Act (Unit {0})
 enableUnheld r c = do
   p ← peek c
-  cond (eqb p notProcess) (poke c (r .workspace)) (cond (eqb p (r .workspace)) (return tt) setReady)
+  cond (eqb p notProcess) (poke c (nameOf (r .workspace)))
+      (cond (eqb p (nameOf (r .workspace))) (return tt) setReady)
 
--- ENBC with a true condition: an empty channel gets the mark W; a held offer or a sender makes the ALT ready
+-- ENBC with a true condition: an empty channel gets a mark; a held offer or a sender makes the ALT ready
 unfoldable pub enableReady : (channel : ℕ) → Act (Unit {0})
 enableReady c = do
   r ← registers
@@ -264,7 +266,7 @@ disableReady c b = do
   p ← peek c
   cond h
       (do t ← select b; poke c notProcess; return t)
-      (cond (eqb p notProcess) (return 0) (cond (eqb p (r .workspace)) (do poke c notProcess; return 0) (select b)))
+      (cond (eqb p notProcess) (return 0) (cond (eqb p (nameOf (r .workspace))) (do poke c notProcess; return 0) (select b)))
 
 -- DISC: A is the branch's distance, B the condition, C the channel. A' says whether it was chosen; B and C keep
 unfoldable pub disableChannel : Act (Unit {0})

@@ -4,8 +4,7 @@ use mathlib.Core.Bool.{true, false}
 use mathlib.Core.List.{List, [], _∷_, _++_}
 use lib.Dec.{eqb}
 use Rattle.model.specs.Syntax.{Site, inputOf, outputOf, declared, Stmt, SKIP, STOP, assign, input, output, VAR, CHAN, SEQ, PAR}
-use Rattle.model.specs.Syntax.{IF, WHILE, ALT, Stmts, noStmt, stmt, Pairs, noPair, pair, Guards, noGuard, inputGuard, skipGuard}
-use Rattle.model.specs.Syntax.{Program}
+use Rattle.model.specs.Syntax.{IF, WHILE, ALT, Stmts, noStmt, stmt, Pairs, noPair, pair, Guards, noGuard, guard, Program}
 use Rattle.model.specs.Counts.{need}
 
 -- a VAR or CHAN, by its place, and the W of its body
@@ -44,8 +43,7 @@ unfoldable mutual
 
   pub layoutGuards : (w : ℕ) → Guards → List Laid
   layoutGuards w noGuard = []
-  layoutGuards w (inputGuard e c x s gs) = layout w s ++ layoutGuards w gs
-  layoutGuards w (skipGuard e s gs) = layout w s ++ layoutGuards w gs
+  layoutGuards w (guard g s gs) = layout w s ++ layoutGuards w gs
 
 -- the W of the declaration at a place
 unfoldable pub workspaceOf : ℕ → List Laid → ℕ

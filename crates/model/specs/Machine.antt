@@ -162,12 +162,20 @@ linkWord w = less w 2
 abbrev pub stateWord : ℕ → ℕ
 stateWord w = less w 3
 
+-- a process as the words of queues and channels hold it: its name, which is its workspace
+abbrev pub nameOf : (workspace : ℕ) → ℕ
+nameOf w = w
+
+-- the workspace of a process, by its name
+abbrev pub spaceOf : (name : ℕ) → ℕ
+spaceOf p = p
+
 -- a process gets the processor: it goes on at its resume place, and its count towards the slice starts again
-unfoldable pub resume : ℕ → Act (Unit {0})
-resume w = do
-  p ← peek (resumeWord w)
+unfoldable pub resume : (name : ℕ) → Act (Unit {0})
+resume p = do
+  i ← peek (resumeWord (spaceOf p))
   r ← registers
-  setRegisters (running true (counting 0 (goto p (work w r))))
+  setRegisters (running true (counting 0 (goto i (work (spaceOf p) r))))
 
 -- the front of the queue gets the processor: its link is read first, then its resume place
 unfoldable pub takeFront : Act (Unit {0})
@@ -175,7 +183,7 @@ takeFront = do
   r ← registers
   cond (eqb (r .front) (r .back))
       (setRegisters (queueing (r .front) (r .back) false r))
-      (do f ← peek (linkWord (r .front)); setRegisters (queueing f (r .back) true r))
+      (do f ← peek (linkWord (spaceOf (r .front))); setRegisters (queueing f (r .back) true r))
   resume (r .front)
 
 -- the processor is free: it takes the front of the queue, which counts no instruction; where none is queued no process runs
@@ -185,14 +193,14 @@ release = do
   cond (r .queued) takeFront (setRegisters (running false r))
 
 -- a woken or started process joins the back of the queue; a free processor takes it at once
-unfoldable pub join : ℕ → Act (Unit {0})
-join w = do
+unfoldable pub join : (name : ℕ) → Act (Unit {0})
+join p = do
   r ← registers
   cond (r .running)
       (cond (r .queued)
-      (do poke (linkWord (r .back)) w; setRegisters (queueing (r .front) w true r))
-      (setRegisters (queueing w w true r)))
-      (do setRegisters (queueing w w false r); resume w)
+      (do poke (linkWord (spaceOf (r .back))) p; setRegisters (queueing (r .front) p true r))
+      (setRegisters (queueing p p true r)))
+      (do setRegisters (queueing p p false r); resume p)
 
 -- whether an offer is held on a channel word: by address, the start's W + k
 abbrev pub isHeld : ℕ → Machine → Bool

@@ -10,7 +10,7 @@ use lib.Signed.{ltZ}
 use Rattle.model.specs.Word.{low, less, signed, truth}
 use Rattle.model.specs.Syntax.{Site, inputOf, outputOf, Operator, PLUS, MINUS, TIMES, GT, EQ, AND, OR, XOR, Expr, constant, variable}
 use Rattle.model.specs.Syntax.{NOT, binary, Stmt, SKIP, STOP, assign, input, output, VAR, CHAN, SEQ, PAR, IF, WHILE, ALT}
-use Rattle.model.specs.Syntax.{Stmts, noStmt, stmt, Pairs, noPair, pair, Guards, inputGuard, skipGuard, Program}
+use Rattle.model.specs.Syntax.{Stmts, noStmt, stmt, Pairs, noPair, pair, Guard, inputGuard, skipGuard, Guards, guard, Program}
 use Rattle.model.specs.Reader.{names}
 use Rattle.model.specs.Usage.{same, isIn}
 use Rattle.model.specs.declared.OfferAnswer.{OfferAnswer}
@@ -226,6 +226,11 @@ pub record Communication : Type 0 where
 abbrev pub over-channel : Site → ℕ → List Communication
 over-channel c v = record { channel = c; value = v } ∷ []
 
+-- what an ALT goes on with where it takes a guard: the guard's input, if it waits for one, then its statement
+abbrev pub branchOf : Guard → Stmt → Stmt
+branchOf (inputGuard e c x) s = SEQ (stmt (input c x) (stmt s noStmt))
+branchOf (skipGuard e) s = s
+
 -- the steps of a state
 module _ (st : State) where
   -- another process and store, the offers as they are
@@ -241,13 +246,15 @@ module _ (st : State) where
     process : (path : List ℕ) {c : Site} {v : ℕ} {k : List Frame} → look path (st .process) ≡ some (atOutput c v k) → Sender c
     outside : {n v : ℕ} → st .offers n ≡ some v → Sender (inputOf n)
 
-  -- an ALT takes any one true guard that is SKIP or whose channel has a sender; the guard's input is a later step
+  -- a true guard that is SKIP or whose channel has a sender
+  pub data Ready : Guard → Type 0 where
+    by-input : {e : Expr} {c x : Site} → isTrue (st .store) e ≡ true → Sender c → Ready (inputGuard e c x)
+    by-skip : {e : Expr} → isTrue (st .store) e ≡ true → Ready (skipGuard e)
+
+  -- an ALT takes any one ready guard; the guard's input is a later step
   pub data Choice (k : List Frame) : Guards → Process → Type 0 where
-    by-input : {e : Expr} {c x : Site} {s : Stmt} {gs : Guards} → isTrue (st .store) e ≡ true → Sender c
-        → Choice k (inputGuard e c x s gs) (begin (SEQ (stmt (input c x) (stmt s noStmt))) k)
-    by-skip : {e : Expr} {s : Stmt} {gs : Guards} → isTrue (st .store) e ≡ true → Choice k (skipGuard e s gs) (begin s k)
-    past-input : {e : Expr} {c x : Site} {s : Stmt} {gs : Guards} {p : Process} → Choice k gs p → Choice k (inputGuard e c x s gs) p
-    past-skip : {e : Expr} {s : Stmt} {gs : Guards} {p : Process} → Choice k gs p → Choice k (skipGuard e s gs) p
+    first-guard : {g : Guard} {s : Stmt} {gs : Guards} → Ready g → Choice k (guard g s gs) (begin (branchOf g s) k)
+    later-guard : {g : Guard} {s : Stmt} {gs : Guards} {p : Process} → Choice k gs p → Choice k (guard g s gs) p
 
   -- any live process that can go may take the next step
   pub data Step : List Communication → State → Type 0 where

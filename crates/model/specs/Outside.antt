@@ -7,8 +7,8 @@ use lib.ListN.{getD, set}
 use lib.Dec.{ltb, eqb}
 use Rattle.model.specs.Word.{notProcess}
 use Rattle.model.specs.Limits.{channelLimit}
-use Rattle.model.specs.Machine.{registers, Result, done, faults, Act, _>>=_, _>>_, return, withOffers, setup, peek, stateWord}
-use Rattle.model.specs.Machine.{memorySize}
+use Rattle.model.specs.Machine.{registers, Result, done, faults, Act, return, withOffers, setup, peek, stateWord, _>>=_, _>>_}
+use Rattle.model.specs.Machine.{spaceOf, memorySize}
 use Rattle.model.specs.Execute.{isAltState, notify, deliver, receive, received}
 use Rattle.model.specs.Run.{land, keep, shortMemory, After, unchanged, worldOf}
 use Rattle.model.specs.declared.Machine.{Machine}
@@ -40,7 +40,7 @@ offering k v = waking (do
   cond (eqb p notProcess)
       (hold k v)
       (do
-        s ← peek (stateWord p)
+        s ← peek (stateWord (spaceOf p))
         cond (isAltState s)
             (do hold k v; notify p s)
             (deliver (u .base + k) p s v)))

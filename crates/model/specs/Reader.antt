@@ -10,7 +10,7 @@ use Rattle.model.specs.Number.{Number, number}
 use Rattle.model.specs.Limits.{tableLimit, depthLimit, channelLimit, nameLimit, partLimit, branchLimit}
 use Rattle.model.specs.Syntax.{Site, inputOf, outputOf, declared, Operator, PLUS, MINUS, TIMES, GT, EQ, AND, OR, XOR, Expr, constant}
 use Rattle.model.specs.Syntax.{variable, NOT, binary, Stmt, SKIP, STOP, assign, input, output, VAR, CHAN, SEQ, PAR, IF, WHILE}
-use Rattle.model.specs.Syntax.{ALT, noStmt, stmt, Pairs, noPair, pair, Guards, noGuard, inputGuard, skipGuard, Program}
+use Rattle.model.specs.Syntax.{ALT, noStmt, stmt, Pairs, noPair, pair, Guard, inputGuard, skipGuard, Guards, noGuard, guard, Program}
 
 -- what was read, the place of the next byte and the bytes from there on; or a refusal's number and place
 pub data Parsed (A : Type 0) : Type 0 where
@@ -205,24 +205,18 @@ readPair scope inner = do
   s ← inner .stmt scope
   pure (pair e s)
 
--- 01: condition, channel, variable, statement (waits for input), or condition, statement (SKIP guard)
-unfoldable pub guardOf : Scope → Inner → GuardKind → Reader (Guards → Guards)
-guardOf scope inner isInputGuard = do
-  e ← inner .expr
-  c ← readInput scope
-  x ← readVariable scope
-  s ← inner .stmt scope
-  pure (inputGuard e c x s)
-guardOf scope inner isSkipGuard = do
-  e ← inner .expr
-  s ← inner .stmt scope
-  pure (skipGuard e s)
+-- 01: condition, channel, variable (waits for input), or condition (SKIP guard)
+unfoldable pub guardOf : Scope → Reader Expr → GuardKind → Reader Guard
+guardOf scope expr isInputGuard = do e ← expr; c ← readInput scope; x ← readVariable scope; pure (inputGuard e c x)
+guardOf scope expr isSkipGuard = do e ← expr; pure (skipGuard e)
 
--- a guard is no level of depth: its number is read at the ALT's level
+-- a guard, then its statement. A guard is no level of depth: its number is read at the ALT's level
 unfoldable pub readGuard : Scope → Inner → Reader (Guards → Guards)
 readGuard scope inner = do
   k ← oneOf guardKinds
-  guardOf scope inner k
+  g ← guardOf scope (inner .expr) k
+  s ← inner .stmt scope
+  pure (guard g s)
 
 -- a pair or guard in front of the ones after it
 abbrev pub applied : {L : Type 0} → (L → L) → L → L

@@ -4,7 +4,8 @@ use mathlib.Core.List.{List, [], _∷_, _++_}
 use Rattle.model.specs.Word.{less, minus}
 use Rattle.model.specs.Syntax.{Site, Operator, PLUS, MINUS, TIMES, GT, EQ, AND, OR, XOR, Expr, constant, variable, NOT, binary}
 use Rattle.model.specs.Syntax.{Stmt, SKIP, STOP, assign, input, output, VAR, CHAN, SEQ, PAR, IF, WHILE, ALT, Stmts, noStmt, stmt}
-use Rattle.model.specs.Syntax.{Pairs, noPair, pair, Guards, noGuard, inputGuard, skipGuard, Program}
+use Rattle.model.specs.Syntax.{Pairs, noPair, pair, Guard, inputGuard, skipGuard, Guards, noGuard}
+use Rattle.model.specs.Syntax.{guard, Program}
 use Rattle.model.specs.Counts.{Order, leftFirst, rightFirst, rightStored, order, temporaries, need}
 use Rattle.model.specs.Layout.{base, wordOf}
 use Rattle.model.specs.Instruction as I
@@ -77,6 +78,19 @@ wrapSize (suc t) = 2
 unfoldable pub wholeSize : Expr → ℕ
 wholeSize e = exprSize e + wrapSize (temporaries e)
 
+-- how many instructions a guard's enabling has, its disabling, and the input that its branch begins with
+unfoldable pub enableSize : Guard → ℕ
+enableSize (inputGuard e c x) = wholeSize e + 3
+enableSize (skipGuard e) = wholeSize e + 1
+
+unfoldable pub disableSize : Guard → ℕ
+disableSize (inputGuard e c x) = wholeSize e + 4
+disableSize (skipGuard e) = wholeSize e + 2
+
+unfoldable pub inputSize : Guard → ℕ
+inputSize (inputGuard e c x) = 4
+inputSize (skipGuard e) = 0
+
 -- how many statements or branches there are
 unfoldable pub howMany : Stmts → ℕ
 howMany noStmt = 0
@@ -117,18 +131,15 @@ unfoldable mutual
 
   pub sizeEnable : Guards → ℕ
   sizeEnable noGuard = 0
-  sizeEnable (inputGuard e c x s gs) = wholeSize e + 3 + sizeEnable gs
-  sizeEnable (skipGuard e s gs) = wholeSize e + 1 + sizeEnable gs
+  sizeEnable (guard g s gs) = enableSize g + sizeEnable gs
 
   pub sizeDisable : Guards → ℕ
   sizeDisable noGuard = 0
-  sizeDisable (inputGuard e c x s gs) = wholeSize e + 4 + sizeDisable gs
-  sizeDisable (skipGuard e s gs) = wholeSize e + 2 + sizeDisable gs
+  sizeDisable (guard g s gs) = disableSize g + sizeDisable gs
 
   pub sizeBranches : Guards → ℕ
   sizeBranches noGuard = 0
-  sizeBranches (inputGuard e c x s gs) = 1 + 4 + size s + 1 + sizeBranches gs
-  sizeBranches (skipGuard e s gs) = 1 + size s + 1 + sizeBranches gs
+  sizeBranches (guard g s gs) = 1 + inputSize g + size s + 1 + sizeBranches gs
 
 -- the code, where names stand in the words of `word`. `w` is W as adjusted at the place, `i` the index of the first instruction
 module _ (word : Site → ℕ) where
@@ -154,6 +165,23 @@ module _ (word : Site → ℕ) where
   -- 01, input: LDLP variable, LDLP channel, LDC 4, IN
   abbrev pub inputCode : (w : ℕ) → (channel variable : Site) → List Instruction
   inputCode w c x = plain ldlp (local w x) ∷ plain ldlp (local w c) ∷ plain ldc 4 ∷ operation «in» ∷ []
+
+  -- enabling a guard: condition, LDLP channel, REV, ENBC, or condition, ENBS
+  unfoldable pub enableCode : (w : ℕ) → Guard → List Instruction
+  enableCode w (inputGuard e c x) = guardCode w e ++ plain ldlp (local w c) ∷ operation rev ∷ operation enbc ∷ []
+  enableCode w (skipGuard e) = guardCode w e ++ operation enbs ∷ []
+
+  -- disabling it: condition, LDLP channel, REV, LDC branch, DISC, or condition, LDC branch, DISS. `choice` is the index of ALTEND, b that
+  -- of the branch
+  unfoldable pub disableCode : (w choice b : ℕ) → Guard → List Instruction
+  disableCode w choice b (inputGuard e c x) =
+      guardCode w e ++ plain ldlp (local w c) ∷ operation rev ∷ distance ldc b choice ∷ operation disc ∷ []
+  disableCode w choice b (skipGuard e) = guardCode w e ++ distance ldc b choice ∷ operation diss ∷ []
+
+  -- the input that its branch begins with, if it waits for one
+  unfoldable pub guardInput : (w : ℕ) → Guard → List Instruction
+  guardInput w (inputGuard e c x) = inputCode w c x
+  guardInput w (skipGuard e) = []
 
   -- 01's listings. STOP: STOPP. Assign: value, STL. Output: value, LDLP channel, REV, AJW -1, OUTWORD, AJW 1.
   -- VAR n: AJW -n, then LDC 0, STL j for each j, body, AJW n. CHAN: the same with MINT. WHILE: condition, CJ end, body, J start.
@@ -238,40 +266,23 @@ module _ (word : Site → ℕ) where
         ++ distance I.j over leave
         ∷ codePairs w (leave + 1) over ps
 
-    -- per guard condition, LDLP channel, REV, ENBC, or condition, ENBS
+    -- ALT: the enabling of each guard
     pub codeEnable : (w : ℕ) → Guards → List Instruction
     codeEnable w noGuard = []
-    codeEnable w (inputGuard e c x s gs) =
-        guardCode w e ++ plain ldlp (local w c) ∷ operation rev ∷ operation enbc ∷ codeEnable w gs
-    codeEnable w (skipGuard e s gs) = guardCode w e ++ operation enbs ∷ codeEnable w gs
+    codeEnable w (guard g s gs) = enableCode w g ++ codeEnable w gs
 
-    -- per guard condition, LDLP channel, REV, LDC branch, DISC, or condition, LDC branch, DISS.
-    -- `choice` is the index of ALTEND, b that of the first branch
+    -- the disabling of each guard; b is the index of the first branch
     pub codeDisable : (w choice b : ℕ) → Guards → List Instruction
     codeDisable w choice b noGuard = []
-    codeDisable w choice b (inputGuard e c x s gs) =
-        guardCode w e
-        ++ plain ldlp (local w c)
-        ∷ operation rev
-        ∷ distance ldc b choice
-        ∷ operation disc
-        ∷ codeDisable w choice (b + 1 + 4 + size s + 1) gs
-    codeDisable w choice b (skipGuard e s gs) =
-        guardCode w e ++ distance ldc b choice ∷ operation diss ∷ codeDisable w choice (b + 1 + size s + 1) gs
+    codeDisable w choice b (guard g s gs) = disableCode w choice b g ++ codeDisable w choice (b + 1 + inputSize g + size s + 1) gs
 
     -- per branch AJW 1, the input if any, statement, J end; the last branch too
     pub codeBranches : (w i over : ℕ) → Guards → List Instruction
     codeBranches w i over noGuard = []
-    codeBranches w i over (inputGuard e c x s gs) =
-        let leave = i + 1 + 4 + size s in
-        plain ajw 1
-        ∷ inputCode w c x
-        ++ code w (i + 1 + 4) s
-        ++ distance I.j over leave
-        ∷ codeBranches w (leave + 1) over gs
-    codeBranches w i over (skipGuard e s gs) =
-        let leave = i + 1 + size s in
-        plain ajw 1 ∷ code w (i + 1) s ++ distance I.j over leave ∷ codeBranches w (leave + 1) over gs
+    codeBranches w i over (guard g s gs) =
+        let first = i + 1 + inputSize g in
+        let leave = first + size s in
+        plain ajw 1 ∷ guardInput w g ++ code w first s ++ distance I.j over leave ∷ codeBranches w (leave + 1) over gs
 
 -- the scheme for a program
 unfoldable pub scheme : Program → List Instruction

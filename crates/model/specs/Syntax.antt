@@ -20,6 +20,16 @@ pub data Expr : Type 0 where
   NOT : Expr → Expr
   binary : Operator → Expr → Expr → Expr
 
+-- 01: a guard that waits for input has a condition, a channel and a variable; a SKIP guard has a condition
+pub data Guard : Type 0 where
+  inputGuard : Expr → (channel variable : Site) → Guard
+  skipGuard : Expr → Guard
+
+-- a guard's condition
+abbrev pub condition : Guard → Expr
+condition (inputGuard e c x) = e
+condition (skipGuard e) = e
+
 -- VAR, CHAN and PAR have the place of their first byte: it tells declarations apart, and refusal 7 returns it
 mutual
   -- a statement: 01's kinds 0 SKIP to 11 ALT
@@ -45,11 +55,10 @@ mutual
     noPair : Pairs
     pair : Expr → Stmt → Pairs → Pairs
 
-  -- a guard that waits for input, or a SKIP guard, and the statement that it guards
+  -- the guards of an ALT, each with the statement that it guards
   pub data Guards : Type 0 where
     noGuard : Guards
-    inputGuard : Expr → (channel variable : Site) → Stmt → Guards → Guards
-    skipGuard : Expr → Stmt → Guards → Guards
+    guard : Guard → Stmt → Guards → Guards
 
 -- outside input channels, outside output channels, the statement
 pub record Program : Type 0 where

@@ -7,7 +7,7 @@ use mathlib.Core.Option.{Option, none, some}
 use lib.Dec.{eqb}
 use Rattle.model.specs.Syntax.{Site, inputOf, outputOf, declared, Expr, constant, variable, NOT, binary, Stmt, SKIP}
 use Rattle.model.specs.Syntax.{STOP, assign, input, output, VAR, CHAN, SEQ, PAR, IF, WHILE, ALT, Stmts, noStmt, stmt, Pairs, noPair}
-use Rattle.model.specs.Syntax.{pair, Guards, noGuard, inputGuard, skipGuard}
+use Rattle.model.specs.Syntax.{pair, Guard, inputGuard, skipGuard, Guards, noGuard, guard}
 
 -- what a part of the program does to names. Names that it declares itself are among them, and in no other part
 pub record Usage : Type 0 where
@@ -54,7 +54,12 @@ inputting c = record { changes = []; uses = []; inputs = c ∷ []; outputs = [] 
 abbrev pub outputting : Site → Usage
 outputting c = record { changes = []; uses = []; inputs = []; outputs = c ∷ [] }
 
--- what a statement does to names, and the parts of a SEQ or PAR, an IF and an ALT. A guard inputs from its channel into its variable
+-- a guard that waits for input inputs from its channel into its variable
+abbrev pub guardUsage : Guard → Usage
+guardUsage (inputGuard e c x) = reading e ⊕ inputting c ⊕ changing x
+guardUsage (skipGuard e) = reading e
+
+-- what a statement does to names, and the parts of a SEQ or PAR, an IF and an ALT
 unfoldable mutual
   pub usage : Stmt → Usage
   usage SKIP = nothing
@@ -80,8 +85,7 @@ unfoldable mutual
 
   pub usageGuards : Guards → Usage
   usageGuards noGuard = nothing
-  usageGuards (inputGuard e c x s gs) = reading e ⊕ inputting c ⊕ changing x ⊕ usage s ⊕ usageGuards gs
-  usageGuards (skipGuard e s gs) = reading e ⊕ usage s ⊕ usageGuards gs
+  usageGuards (guard g s gs) = guardUsage g ⊕ usage s ⊕ usageGuards gs
 
 -- two names are one: the same declaration and number, or the same outside channel
 unfoldable pub same : Site → Site → Bool
@@ -151,5 +155,4 @@ unfoldable mutual
 
   pub firstClashGuards : Guards → Option ℕ
   firstClashGuards noGuard = none
-  firstClashGuards (inputGuard e c x s gs) = orElse (firstClash s) (firstClashGuards gs)
-  firstClashGuards (skipGuard e s gs) = orElse (firstClash s) (firstClashGuards gs)
+  firstClashGuards (guard g s gs) = orElse (firstClash s) (firstClashGuards gs)

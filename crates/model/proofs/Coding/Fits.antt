@@ -7,18 +7,18 @@ use mathlib.Core.Option.{some}
 use lib.ListN.{length, getElem?}
 use Rattle.model.specs.Syntax.{Site, Operator, PLUS, MINUS, TIMES, GT, EQ, AND, OR, XOR, Expr, constant, variable, NOT, binary, Stmt}
 use Rattle.model.specs.Syntax.{SKIP, STOP, assign, input, output, VAR, CHAN, SEQ, PAR, IF, WHILE, ALT, Stmts, noStmt, stmt, Pairs}
-use Rattle.model.specs.Syntax.{noPair, pair, Guards, noGuard, inputGuard, skipGuard, Program}
+use Rattle.model.specs.Syntax.{noPair, pair, Guard, inputGuard, skipGuard, condition, Guards, noGuard, guard, Program}
 use Rattle.model.specs.Reader.{Scope, withVariables, withChannels}
 use Rattle.model.specs.Counts.{Order, leftFirst, rightFirst, rightStored, order, sidesHold, temporaries, guardWords, need, mostNeed}
 use Rattle.model.specs.Counts.{sumNeed, pairNeed, guardNeed}
 use Rattle.model.specs.Instruction.{operationCode, Instruction, plain, distance, operation, ldc, mint}
 use Rattle.model.specs.Layout.{base, wordOf}
 use Rattle.model.specs.Scheme.{operatorCode, initialise, sidesCode, wrapped, altWords, wholeSize, howMany, size, sizeAll, sizePar}
-use Rattle.model.specs.Scheme.{sizeEnds, sizePairs, sizeEnable}
+use Rattle.model.specs.Scheme.{sizeEnds, sizePairs, sizeEnable, inputSize, enableCode, disableCode, guardInput}
 use Rattle.model.specs.Scheme.{sizeDisable, sizeBranches, exprCode, wholeCode, guardCode, code, codeAll, codePar, codeStarts}
 use Rattle.model.specs.Scheme.{codeEnds, codePairs}
 use Rattle.model.specs.Scheme.{codeEnable, codeDisable, codeBranches, scheme}
-use Rattle.model.proofs.Tables.WellFormed.{WellExpr, Well, WellAll, WellPairs, WellGuards, WellProgram, outermost}
+use Rattle.model.proofs.Tables.WellFormed.{WellExpr, Well, WellAll, WellPairs, WellGuard, WellGuards, WellProgram, outermost}
 use Rattle.model.proofs.Coding.Sizes.{code-length}
 
 -- an operand is a word; what a distance reaches is in the list or its end, what uses it is in the list
@@ -107,31 +107,38 @@ module _ (word : Site → ℕ) (count : ℕ) where
   starts-fit d i b (stmt s ss) hi hb =
       omega arith ▸ omega arith ▸ omega arith ▸ starts-fit (d + need s) (i + 3) (b + size s + 2) ss (omega arith) (omega arith)
 
+  -- a guard's enabling, its disabling, and its branch's input
+  enable-one : (sc : Scope) (w : ℕ) (g : Guard) → WellGuard sc g → guardWords (temporaries (condition g)) ≤ 4096
+      → AllFit count (enableCode word w g)
+  unfolding enableCode operationCode
+  enable-one sc w (inputGuard e c x) h few = guard-fits sc w e (h .0) few ⊕ omega arith ▸ omega arith ▸ omega arith ▸ nil-fits
+  enable-one sc w (skipGuard e) h few = guard-fits sc w e h few ⊕ omega arith ▸ nil-fits
+
+  disable-one : (sc : Scope) (w choice b : ℕ) (g : Guard) → WellGuard sc g → guardWords (temporaries (condition g)) ≤ 4096 → choice < count
+      → b ≤ count → AllFit count (disableCode word w choice b g)
+  unfolding disableCode operationCode
+  disable-one sc w choice b (inputGuard e c x) h few hc hb =
+      guard-fits sc w e (h .0) few ⊕ omega arith ▸ omega arith ▸ omega arith ▸ omega arith ▸ nil-fits
+  disable-one sc w choice b (skipGuard e) h few hc hb = guard-fits sc w e h few ⊕ omega arith ▸ omega arith ▸ nil-fits
+
+  input-fits : (w : ℕ) (g : Guard) → AllFit count (guardInput word w g)
+  unfolding guardInput operationCode
+  input-fits w (inputGuard e c x) = omega arith ▸ omega arith ▸ omega arith ▸ omega arith ▸ nil-fits
+  input-fits w (skipGuard e) = nil-fits
+
   enable-fits : (sc : Scope) (w : ℕ) (gs : Guards) → WellGuards sc gs → guardNeed gs ≤ 4096 → AllFit count (codeEnable word w gs)
-  unfolding codeEnable operationCode guardNeed
+  unfolding codeEnable guardNeed
   enable-fits sc w noGuard h hn = nil-fits
-  enable-fits sc w (inputGuard e c x s gs) h hn =
-      guard-fits sc w e (h .0) (omega arith) ⊕ omega arith ▸ omega arith ▸ omega arith ▸ enable-fits sc w gs (h .4) (omega arith)
-  enable-fits sc w (skipGuard e s gs) h hn =
-      guard-fits sc w e (h .0) (omega arith) ⊕ omega arith ▸ enable-fits sc w gs (h .2) (omega arith)
+  enable-fits sc w (guard g s gs) h hn = enable-one sc w g (h .0) (omega arith) ⊕ enable-fits sc w gs (h .2) (omega arith)
 
   disable-fits : (sc : Scope) (w choice b : ℕ) (gs : Guards) → WellGuards sc gs → guardNeed gs ≤ 4096 → choice < count
       → b + sizeBranches gs ≤ count
       → AllFit count (codeDisable word w choice b gs)
-  unfolding codeDisable sizeBranches operationCode guardNeed
+  unfolding codeDisable sizeBranches guardNeed
   disable-fits sc w choice b noGuard h hn hc hb = nil-fits
-  disable-fits sc w choice b (inputGuard e c x s gs) h hn hc hb =
-      guard-fits sc w e (h .0) (omega arith)
-      ⊕ omega arith
-      ▸ omega arith
-      ▸ omega arith
-      ▸ omega arith
-      ▸ disable-fits sc w choice (b + 1 + 4 + size s + 1) gs (h .4) (omega arith) hc (omega arith)
-  disable-fits sc w choice b (skipGuard e s gs) h hn hc hb =
-      guard-fits sc w e (h .0) (omega arith)
-      ⊕ omega arith
-      ▸ omega arith
-      ▸ disable-fits sc w choice (b + 1 + size s + 1) gs (h .2) (omega arith) hc (omega arith)
+  disable-fits sc w choice b (guard g s gs) h hn hc hb =
+      disable-one sc w choice b g (h .0) (omega arith) hc (omega arith)
+      ⊕ disable-fits sc w choice (b + 1 + inputSize g + size s + 1) gs (h .2) (omega arith) hc (omega arith)
 
   -- what stands from index i is within i + size, and the words below the workspace pointer are at most 4,096
   mutual
@@ -154,7 +161,7 @@ module _ (word : Site → ℕ) (count : ℕ) where
         ⊕ omega arith ▸ nil-fits
     code-fits sc w i (SEQ ss) h hn hi = all-fit sc w i ss h (omega arith) hi
     code-fits sc w i (PAR p ss) h hn hi = par-fits sc w i ss (h .0) (h .1) (omega arith) hi
-    code-fits sc w i (IF ps) h hn hi = pairs-fit sc w i _ ps h (omega arith) (omega arith) hi
+    code-fits sc w i (IF ps) h hn hi = pairs-fit sc w i (i + sizePairs ps) ps h (omega arith) (omega arith) hi
     code-fits sc w i (WHILE e s) h hn hi =
         whole-fits sc w e (h .0) (omega arith)
         ⊕ omega arith ▸ code-fits sc w (i + wholeSize e + 1) s (h .1) (omega arith) (omega arith)
@@ -201,13 +208,10 @@ module _ (word : Site → ℕ) (count : ℕ) where
     branches-fit : (sc : Scope) (w i over : ℕ) (gs : Guards) → WellGuards sc gs → guardNeed gs ≤ 4096 → over ≤ count
         → i + sizeBranches gs ≤ count → AllFit count (codeBranches word w i over gs)
     branches-fit sc w i over noGuard h hn ho hi = nil-fits
-    branches-fit sc w i over (inputGuard e c x s gs) h hn ho hi =
-        omega arith ▸ omega arith ▸ omega arith ▸ omega arith ▸ omega arith
-        ▸ code-fits sc w (i + 1 + 4) s (h .3) (omega arith) (omega arith)
-        ⊕ omega arith ▸ branches-fit sc w (i + 1 + 4 + size s + 1) over gs (h .4) (omega arith) ho (omega arith)
-    branches-fit sc w i over (skipGuard e s gs) h hn ho hi =
-        omega arith ▸ code-fits sc w (i + 1) s (h .1) (omega arith) (omega arith)
-        ⊕ omega arith ▸ branches-fit sc w (i + 1 + size s + 1) over gs (h .2) (omega arith) ho (omega arith)
+    branches-fit sc w i over (guard g s gs) h hn ho hi =
+        omega arith ▸ input-fits w g
+        ⊕ code-fits sc w (i + 1 + inputSize g) s (h .1) (omega arith) (omega arith)
+        ⊕ omega arith ▸ branches-fit sc w (i + 1 + inputSize g + size s + 1) over gs (h .2) (omega arith) ho (omega arith)
 
 pub scheme-fits : (p : Program) → WellProgram p → need (p .body) ≤ 4096 → AllFit (length (scheme p)) (scheme p)
 unfolding scheme

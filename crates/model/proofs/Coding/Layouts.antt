@@ -6,7 +6,7 @@ use native.Mathlib.Nat.{le-trans}
 use native.Mathlib.Omega.{arith}
 use borrow.Author.Tests.{eq-eqb, ne-eqb}
 use Rattle.model.specs.Syntax.{Stmt, SKIP, STOP, assign, input, output, VAR, CHAN, SEQ, PAR, IF, WHILE, ALT, Stmts, noStmt, stmt}
-use Rattle.model.specs.Syntax.{Pairs, noPair, pair, Guards, noGuard, inputGuard, skipGuard}
+use Rattle.model.specs.Syntax.{Pairs, noPair, pair, Guards, noGuard, guard}
 use Rattle.model.specs.Counts.{need}
 use Rattle.model.specs.Layout.{Laid as Entry, layout, layoutAll, layoutBranches, layoutPairs, layoutGuards, workspaceOf}
 use Rattle.model.proofs.Tables.WellFormed.{Placed, PlacedAll, PlacedPairs, PlacedGuards, Laid, LaidAll, LaidBranches, LaidPairs}
@@ -57,8 +57,7 @@ mutual
 
   rising-guards : (lo hi w : ℕ) (gs : Guards) → PlacedGuards lo hi gs → Rising hi lo (layoutGuards w gs)
   rising-guards lo hi w noGuard h = level h
-  rising-guards lo hi w (inputGuard e c x s gs) h = rising-append (rising lo h.0 w s (h .1)) (rising-guards h.0 hi w gs (h .2))
-  rising-guards lo hi w (skipGuard e s gs) h = rising-append (rising lo h.0 w s (h .1)) (rising-guards h.0 hi w gs (h .2))
+  rising-guards lo hi w (guard g s gs) h = rising-append (rising lo h.0 w s (h .1)) (rising-guards h.0 hi w gs (h .2))
 
 -- `at` gives every entry's place its workspace
 data Right (at : ℕ → ℕ) : List Entry → Type 0 where
@@ -123,8 +122,7 @@ module _ {at : ℕ → ℕ} where
 
     laid-guards : (w : ℕ) (gs : Guards) → Right at (layoutGuards w gs) → LaidGuards at w gs
     laid-guards w noGuard = λ r. tt
-    laid-guards w (inputGuard e c x s gs) = right-both (layout w s) (laid w s) (laid-guards w gs)
-    laid-guards w (skipGuard e s gs) = right-both (layout w s) (laid w s) (laid-guards w gs)
+    laid-guards w (guard g s gs) = right-both (layout w s) (laid w s) (laid-guards w gs)
 
 -- the look-up gives each declaration of a placed statement the W of its body
 pub program-laid : (lo hi w : ℕ) (s : Stmt) → Placed lo hi s → Laid (λ q. workspaceOf q (layout w s)) w s

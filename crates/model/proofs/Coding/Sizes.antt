@@ -6,14 +6,15 @@ use mathlib.Core.List.{List}
 use lib.ListN.{length, length-append}
 use Rattle.model.specs.Syntax.{Site, Operator, PLUS, MINUS, TIMES, GT, EQ, AND, OR, XOR, Expr, constant, variable, NOT, binary, Stmt}
 use Rattle.model.specs.Syntax.{SKIP, STOP, assign, input, output, VAR, CHAN, SEQ, PAR, IF, WHILE, ALT, Stmts, noStmt, stmt, Pairs}
-use Rattle.model.specs.Syntax.{noPair, pair, Guards, noGuard, inputGuard, skipGuard}
+use Rattle.model.specs.Syntax.{noPair, pair, Guard, inputGuard, skipGuard, Guards, noGuard, guard}
 use Rattle.model.specs.Counts.{Order, leftFirst, rightFirst, rightStored, order, temporaries, need}
 use Rattle.model.specs.Instruction.{Instruction}
 use Rattle.model.specs.Scheme.{operatorCode, operatorSize, initialise, sidesCode, sidesSize, exprSize, wrapped, wrapSize, wholeSize}
 use Rattle.model.specs.Scheme.{altWords, howMany, size, sizeAll, sizePar, sizeEnds, sizePairs}
 use Rattle.model.specs.Scheme.{sizeEnable, sizeDisable, sizeBranches, exprCode, wholeCode, guardCode, code, codeAll, codePar}
 use Rattle.model.specs.Scheme.{codeStarts, codeEnds}
-use Rattle.model.specs.Scheme.{codePairs, codeEnable, codeDisable, codeBranches}
+use Rattle.model.specs.Scheme.{codePairs, codeEnable, codeDisable, codeBranches, enableSize, disableSize, inputSize, enableCode}
+use Rattle.model.specs.Scheme.{disableCode, guardInput}
 
 pub operator-length : (op : Operator) → length (operatorCode op) ≡ operatorSize op
 unfolding operatorCode operatorSize
@@ -71,19 +72,31 @@ module _ (word : Site → ℕ) where
   starts-length d i b noStmt = refl
   starts-length d i b (stmt s ss) = omega (arith, starts-length (d + need s) (i + 3) (b + size s + 2) ss)
 
+  enable-one : (w : ℕ) (g : Guard) → length (enableCode word w g) ≡ enableSize g
+  unfolding enableCode enableSize
+  enable-one w (inputGuard e c x) = simp (length-append, guard-length w e)
+  enable-one w (skipGuard e) = simp (length-append, guard-length w e)
+
+  disable-one : (w choice b : ℕ) (g : Guard) → length (disableCode word w choice b g) ≡ disableSize g
+  unfolding disableCode disableSize
+  disable-one w choice b (inputGuard e c x) = simp (length-append, guard-length w e)
+  disable-one w choice b (skipGuard e) = simp (length-append, guard-length w e)
+
+  pub input-length : (w : ℕ) (g : Guard) → length (guardInput word w g) ≡ inputSize g
+  unfolding guardInput inputSize
+  input-length w (inputGuard e c x) = refl
+  input-length w (skipGuard e) = refl
+
   pub enable-length : (w : ℕ) (gs : Guards) → length (codeEnable word w gs) ≡ sizeEnable gs
   unfolding codeEnable sizeEnable
   enable-length w noGuard = refl
-  enable-length w (inputGuard e c x s gs) = simp (length-append, guard-length w e, enable-length w gs) (omega arith)
-  enable-length w (skipGuard e s gs) = simp (length-append, guard-length w e, enable-length w gs) (omega arith)
+  enable-length w (guard g s gs) = simp (length-append, enable-one w g, enable-length w gs)
 
   pub disable-length : (w choice b : ℕ) (gs : Guards) → length (codeDisable word w choice b gs) ≡ sizeDisable gs
   unfolding codeDisable sizeDisable
   disable-length w choice b noGuard = refl
-  disable-length w choice b (inputGuard e c x s gs) =
-      simp (length-append, guard-length w e, disable-length w choice (b + 1 + 4 + size s + 1) gs) (omega arith)
-  disable-length w choice b (skipGuard e s gs) =
-      simp (length-append, guard-length w e, disable-length w choice (b + 1 + size s + 1) gs) (omega arith)
+  disable-length w choice b (guard g s gs) =
+      simp (length-append, disable-one w choice b g, disable-length w choice (b + 1 + inputSize g + size s + 1) gs)
 
   mutual
     unfolding code size
@@ -134,7 +147,11 @@ module _ (word : Site → ℕ) where
 
     pub branches-length : (w i over : ℕ) (gs : Guards) → length (codeBranches word w i over gs) ≡ sizeBranches gs
     branches-length w i over noGuard = refl
-    branches-length w i over (inputGuard e c x s gs) =
-        simp (length-append, code-length w (i + 1 + 4) s, branches-length w (i + 1 + 4 + size s + 1) over gs) (omega arith)
-    branches-length w i over (skipGuard e s gs) =
-        simp (length-append, code-length w (i + 1) s, branches-length w (i + 1 + size s + 1) over gs) (omega arith)
+    branches-length w i over (guard g s gs) =
+        simp (
+          length-append,
+          input-length w g,
+          code-length w (i + 1 + inputSize g) s,
+          branches-length w (i + 1 + inputSize g + size s + 1) over gs,
+        )
+        (omega arith)

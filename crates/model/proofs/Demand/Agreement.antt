@@ -24,7 +24,7 @@ use Rattle.model.proofs.Quiet.CodeParts.{inside}
 use Rattle.model.proofs.Occam.Paths.{Leaf, l-before, l-input, l-alt, l-finished, leaf-par, Form, leaf, par, form}
 use Rattle.model.proofs.Occam.Paths.{look-in, look-nil, look-append}
 use Rattle.model.proofs.Words.Parts.{Part, the-end, joins}
-use Rattle.model.proofs.Quiet.Marks.{Ready}
+use Rattle.model.proofs.Quiet.Marks.{AnyReady}
 use Rattle.model.proofs.Quiet.Arrivals.{cont-live}
 use Rattle.model.proofs.Invariant.Trees.{some-same, Label, alone, alone-part, alone-parted, Info, Tree, t-leaf, t-par, Forest}
 use Rattle.model.proofs.Invariant.Trees.{f-none, f-live, f-over, labelAt, labelIn, label-alone, labelled, owner-of, owner}
@@ -170,7 +170,7 @@ module _ (L : Loaded) where
     not-finished : Waiting finished → ⊥
     not-finished (waiting h) = elim h [ ]
 
-    unready : {gs : Guards} {k : List Frame} → Waiting (atAlt gs k) → Ready st gs → ⊥
+    unready : {gs : Guards} {k : List Frame} → Waiting (atAlt gs k) → AnyReady st gs → ⊥
     unready (waiting (h-wait c r e n m no-guard marks)) = no-guard
 
     unsent : {c x : Site} {k : List Frame} → Waiting (atInput c x k) → Sender st c → ⊥

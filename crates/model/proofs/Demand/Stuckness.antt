@@ -6,12 +6,12 @@ use mathlib.Core.List.{List, [], _∷_}
 use mathlib.Core.Option.{some}
 use Rattle.model.specs.Syntax.{Site, Stmt, Guards, noGuard}
 use Rattle.model.specs.Occam.{Frame, Process, before, atInput, atOutput, atStop, atAlt, inPar, finished, look, State, Communication}
-use Rattle.model.specs.Occam.{Choice, by-input, by-skip, past-input, past-skip, Step, begins, ends, chooses, Stuck}
+use Rattle.model.specs.Occam.{Choice, first-guard, later-guard, Step, begins, ends, chooses, Stuck}
 use Rattle.model.proofs.Quiet.Ways.{Regs, Mem}
 use Rattle.model.proofs.Quiet.Setting.{Setting}
 use Rattle.model.proofs.Occam.Paths.{look-prefix, prefixed, look-under, under, par-whole}
 use Rattle.model.proofs.Words.Parts.{Part}
-use Rattle.model.proofs.Quiet.Marks.{Ready, r-input, r-skip, r-past-input, r-past-skip, Skips, s-none, s-skip, s-par}
+use Rattle.model.proofs.Quiet.Marks.{AnyReady, r-first, r-later, Skips, s-none, s-skip, s-par}
 use Rattle.model.proofs.Quiet.Marks.{Settled, Disabling, AltPoint, pt-enable, pt-wait, pt-disable, pt-choose}
 use Rattle.model.proofs.Quiet.Arrivals.{Comes, comes}
 use Rattle.model.proofs.Quiet.Onwards.{picks-choice, ready-picks, rest-ready, AltGoes}
@@ -32,7 +32,7 @@ stuck-unable h (is-over e) = h .unfinished e
 pub data Active (st : State) : Process → Type 0 where
   a-begins : {s : Stmt} {k : List Frame} → Active st (before s k)
   a-ends : Active st finished
-  a-chooses : {gs : Guards} {k : List Frame} → Ready st gs → Active st (atAlt gs k)
+  a-chooses : {gs : Guards} {k : List Frame} → AnyReady st gs → Active st (atAlt gs k)
 
 -- a process that has finished is a branch of a PAR, which can end, or all there is
 finished-able : {st : State} (path : List ℕ) → look path (st .process) ≡ some finished → Able st
@@ -53,11 +53,9 @@ active-able path e a-ends = finished-able path e
 active-able path e (a-chooses {k} r) = let (t, p, g) = ready-picks k 0 r in steps _ _ (chooses path e (picks-choice g))
 
 -- a choice is of a ready guard
-pub choice-ready : {st : State} {k : List Frame} {gs : Guards} {p : Process} → Choice st k gs p → Ready st gs
-choice-ready (by-input e s) = r-input e s
-choice-ready (by-skip e) = r-skip e
-choice-ready (past-input c) = r-past-input (choice-ready c)
-choice-ready (past-skip c) = r-past-skip (choice-ready c)
+pub choice-ready : {st : State} {k : List Frame} {gs : Guards} {p : Process} → Choice st k gs p → AnyReady st gs
+choice-ready (first-guard r) = r-first r
+choice-ready (later-guard c) = r-later (choice-ready c)
 
 pub settled-active : {st : State} (q : Process) → Settled q → Active st q
 settled-active (before s k) h = a-begins
@@ -78,12 +76,12 @@ module _ (S : Setting) (a : Part) {st : State} where
   pub comes-active : {vars chans : List Site} {hi i w : ℕ} {p : Process} → Comes S a (st .store) vars chans hi p i w → Active st p
   comes-active (comes {q} sk settled sub way) = skips-active q settled sk
 
-  unready : Ready st noGuard → ⊥
+  unready : AnyReady st noGuard → ⊥
   unready h = elim h [ ]
 
   -- a guard of an ALT is ready while it disables
   disabling-ready : {vars chans : List Site} {k : List Frame} {gs hs : Guards} {choice w : ℕ} {μ : Mem}
-      → Disabling S a st vars chans k gs hs choice μ w → (Ready st hs → Ready st gs) → Ready st gs
+      → Disabling S a st vars chans k gs hs choice μ w → (AnyReady st hs → AnyReady st gs) → AnyReady st gs
   disabling-ready n f = ⊎-elim (λ h. let (t, p, g, e) = h in choice-ready (picks-choice g)) (λ h. f (h .1)) (n .chosen)
 
   alt-active : {vars chans : List Site} {q : Process} (h : ℕ) (μ : Mem) (i : ℕ) (r : Regs) → AltPoint S a st vars chans q h μ i r

@@ -6,7 +6,7 @@ use mathlib.Core.List.{List, [], _∷_, List·Memᴰ}
 use lib.Dec.{eqb}
 use lib.ListN.{length}
 use Rattle.model.specs.Syntax.{Site, Guards}
-use Rattle.model.specs.Machine.{resumeWord, stateWord}
+use Rattle.model.specs.Machine.{resumeWord, stateWord, nameOf}
 use Rattle.model.specs.Execute.{waiting, ready, noneSelected}
 use Rattle.model.specs.Scheme.{sizeEnable}
 use Rattle.model.specs.Occam.{Frame, Process, atInput, atOutput, atStop, atAlt, State, Sender}
@@ -14,9 +14,8 @@ use Rattle.model.proofs.Quiet.Ways.{Mem}
 use Rattle.model.proofs.Quiet.Setting.{Setting, whole}
 use Rattle.model.proofs.Words.Parts.{Part, Target}
 use Rattle.model.proofs.Quiet.Continuations.{Cont}
-use Rattle.model.proofs.Quiet.Marks.{Own, Ready, Guarded, AltCode, Marked, Disabling}
+use Rattle.model.proofs.Quiet.Marks.{Own, AnyReady, Guarded, AltCode, Marked, Disabling}
 use Rattle.model.proofs.Quiet.Arrivals.{Comes}
-use Rattle.model.proofs.Quiet.Names.{nameOf}
 use Rattle.model.proofs.Invariant.Trees.{Info}
 
 -- whether a workspace is among some
@@ -67,5 +66,5 @@ module _ (S : Setting) (b : Part) (i : Info) (st : State) (μ : Mem) where
     -- waiting in an ALT: every true guard has its mark, and none is ready
     h-wait : {gs : Guards} {k : List Frame} {hi at : ℕ} (c : AltCode S b gs (i .vars) (i .chans) k hi at (i .w + 1))
         → Resumes (at + 2 + sizeEnable gs + 1) hi → μ (stateWord (i .w)) ≡ waiting → μ (i .w) ≡ noneSelected
-        → ((d : Site) → Guarded (st .store) d gs → μ (S .word d) ≡ nameOf (i .w)) → (Ready st gs → ⊥)
+        → ((d : Site) → Guarded (st .store) d gs → μ (S .word d) ≡ nameOf (i .w)) → (AnyReady st gs → ⊥)
         → Marked S b st (i .vars) (i .chans) gs μ (i .w) → Held false (atAlt gs k)

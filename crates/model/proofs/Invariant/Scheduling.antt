@@ -94,6 +94,42 @@ module _ (L : Loaded) where
           inside = stands .inside;
         }
 
+  -- a process got the processor: the moves without code that it makes, and the invariant
+  pub data Got (s : World) (st : State) (n : ℕ) : Type 0 where
+    got : {st′ : State} (g : Segment) → Trace st g st′ [] [] → Inv L s st′ n → Got s st n
+
+  -- its registers: it goes on at its resume place
+  pub record Given (s : World) (μ : Mem) (w : ℕ) : Type 0 where
+    pub run : cpuOf s .running ≡ true
+    pub operand : cpuOf s .operand ≡ 0
+    pub place : cpuOf s .place ≡ μ (resumeWord w)
+    pub work : cpuOf s .workspace ≡ w
+
+  -- a process that can go on gets the processor, whomever it is taken from
+  pub gets : {s : World} {st : State} {μ : Mem} {t : Tree (S L) (root L) (st .process)} {path : List ℕ} {q : Process} {b : Part} {i : Info}
+      {ws : List ℕ} → Given s μ (i .w) → Real L s st μ ws → Rest L st μ t (Only path) ws → Lined L st t (Only path) ws
+      → LeafAt L st t path q b i → Held (S L) b i st μ true q → Got s st (bytesLeft (S L) t)
+  gets {s} {t = t} {i = i} has real rest lines leaf (h-queued {at} c r h clean) =
+      let stands : Stands s i at = record {
+        run = has .run;
+        operand = has .operand;
+        place = has .place ∙ r .place;
+        work = has .work;
+        inside = h;
+      } in
+      elim (settle real leaf rest lines (i .left) stands c clean (r .soon) (sits-at L leaf .few)) [
+        | settles {st′} {l} g ms inv e ↦
+            let same : l ≡ bytesLeft (S L) t = omega arith in got g ms (subst (λ z. Inv L s st′ z) same inv)
+      ]
+  gets {s} {st} {b = b} {i = i} has real rest lines leaf (h-woken {gs} {hi = hi} {at} c r state d) =
+      let near : at + 2 + sizeEnable gs + 1 ≤ length (S L .xs) = omega (arith, c .choice-is, inside (S L) (c .ends)) in
+      let same : hi ≤ hi = omega arith in
+      got [] t-none
+      (runs real (has .run) leaf rest lines
+      (now-alt
+      (fresh L (at + 2 + sizeEnable gs + 1) (cpuOf s .place) (cpuOf s .operand) near (has .place ∙ r .place) (has .operand))
+      (disable-first (S L) b st (i .w) c (sound-at L rest leaf) same d (has .work)) (omega (arith, r .soon, has .place ∙ r .place))))
+
   -- the processor is let go: the front of the queue gets it, or no process runs
   pub data LetGo (s : World) (st : State) (m : ℕ) : Type 0 where
     let-go : (u : World) {st′ : State} (g : Segment) → release s ≡ done tt u → u .talk ≡ s .talk → Trace st g st′ [] [] → Inv L u st′ m
@@ -142,32 +178,15 @@ module _ (L : Loaded) where
                 once = a;
               }
 
-      front-stands : {at : ℕ} → μ (resumeWord (i .w)) ≡ L .off at → at ≤ length (S L .xs) → Stands front i at
-      front-stands e h =
-          record {
+      front-goes : Held (S L) b i st μ true q → LetGo s st (bytesLeft (S L) t)
+      front-goes held =
+          let given : Given front μ (i .w) = record {
             run = refl;
             operand = operand;
-            place = mirrored L real (resumeWord (i .w)) low e;
+            place = mirrored L real (resumeWord (i .w)) low refl;
             work = refl;
-            inside = h;
-          }
-
-      front-goes : {r : Process} → LeafAt L st t path r b i → Held (S L) b i st μ true r → LetGo s st (bytesLeft (S L) t)
-      front-goes here (h-queued {at} c r h clean) =
-          let few = sits-at L leaf .few in
-          elim (settle front-real here front-rest front-lines (i .left) (front-stands (r .place) h) c clean (r .soon) few) [
-            | settles {st′} {l} g ms inv e ↦
-                let same : l ≡ bytesLeft (S L) t = omega arith in let-go front g gone refl ms (subst (λ z. Inv L front st′ z) same inv)
-          ]
-      front-goes here (h-woken {gs} {k} {hi} {at} c r state d) =
-          let near : at + 2 + sizeEnable gs + 1 ≤ length (S L .xs) = omega (arith, c .choice-is, inside (S L) (c .ends)) in
-          let st-at = front-stands (r .place) near in
-          let same : hi ≤ hi = omega arith in
-          let-go front [] gone refl t-none
-          (runs front-real refl here front-rest front-lines
-          (now-alt
-          (fresh L (at + 2 + sizeEnable gs + 1) (cpuOf front .place) (cpuOf front .operand) near (st-at .place) (st-at .operand))
-          (disable-first (S L) b st (i .w) c (sound-at L rest here) same d refl) (omega (arith, r .soon, st-at .place))))
+          } in
+          elim (gets given front-real front-rest front-lines leaf held) [ got g ms inv ↦ let-go front g gone refl ms inv ]
 
     pub lets-go : {ws : List ℕ} → Real L s st μ ws → Rest L st μ t Nobody ws → Lined L st t Nobody ws → LetGo s st (bytesLeft (S L) t)
     lets-go {ws = []} real rest lines =
@@ -178,7 +197,7 @@ module _ (L : Loaded) where
       | whose {q} {b} {i} leaf e n ↦
           let f : i .w ∷ ws ≡ w ∷ ws = ap (λ z. z ∷ ws) e in
           let rest′ : Rest L st μ t Nobody (i .w ∷ ws) = subst (λ l. Rest L st μ t Nobody l) (sym f) rest in
-          front-goes (subst (λ l. Real L s st μ l) (sym f) real) rest′ (subst (λ l. Lined L st t Nobody l) (sym f) lines) leaf leaf
+          front-goes (subst (λ l. Real L s st μ l) (sym f) real) rest′ (subst (λ l. Lined L st t Nobody l) (sym f) lines) leaf
           (subst (λ z. Held (S L) b i st μ z q) (member-head (i .w) ws) (rest′ .leaf leaf (λ o. o)))
     ]
 

@@ -6,16 +6,17 @@ use mathlib.Core.Logic.{_≢_, _⊎_, inl, inr, ⊎-elim}
 use mathlib.Core.Bool.{Bool, cond, not}
 use mathlib.Core.List.{List, List·Memᴰ}
 use lib.Dec.{eqb}
-use Rattle.model.specs.Syntax.{Site, Expr, constant, variable, NOT, binary, Pairs, noPair, pair, Guards}
+use Rattle.model.specs.Syntax.{Site, Expr, constant, variable, NOT, binary, Pairs, noPair, pair, Guard, inputGuard}
+use Rattle.model.specs.Syntax.{skipGuard, condition, Guards}
 use Rattle.model.specs.Machine.{resumeWord, linkWord, stateWord}
-use Rattle.model.specs.Occam.{Store, eval, isTrue, Frame, Process, firstTrue, deny, operate, State, Sender}
+use Rattle.model.specs.Occam.{Store, eval, isTrue, Frame, Process, firstTrue, deny, operate, State, Sender, Ready, by-input, by-skip}
 use Rattle.model.proofs.Quiet.Ways.{Regs, Mem, way-stable}
 use Rattle.model.proofs.Words.Values.{FineExpr}
 use Rattle.model.proofs.Quiet.Setting.{Setting}
-use Rattle.model.proofs.Words.Parts.{Part, FinePairs, FineGuards}
+use Rattle.model.proofs.Words.Parts.{Part, guardRoom, FineWhole, FineInput, FinePairs, FineGuards}
 use Rattle.model.proofs.Quiet.Continuations.{cont-low}
-use Rattle.model.proofs.Quiet.Marks.{Own, Ready, r-input, r-skip, r-past-input, r-past-skip, Picks, p-input, p-skip, p-past-input}
-use Rattle.model.proofs.Quiet.Marks.{p-past-skip, Guarded, g-here, g-past-input, g-past-skip, Noticed, n-none, n-input, n-skip}
+use Rattle.model.proofs.Quiet.Marks.{Own, AnyReady, r-first, r-later, Picks, p-first, p-later, Guarded, g-first, g-later, Unready}
+use Rattle.model.proofs.Quiet.Marks.{Noticed, n-none, n-later}
 use Rattle.model.proofs.Quiet.Marks.{Marked}
 use Rattle.model.proofs.Quiet.Marks.{Disabling, Point, pt-stop, pt-assign, pt-var, pt-chan, pt-taken, pt-none, pt-while, pt-in}
 use Rattle.model.proofs.Quiet.Marks.{pt-out}
@@ -49,9 +50,8 @@ module _ (b : Part) (vars : List Site) {σ τ : Store} (same : (x : Site) → Li
 
   pub guarded-same : (word : Site → ℕ) (chans : List Site) (w : ℕ) {c : Site} {gs : Guards} → FineGuards word b vars chans w gs
       → Guarded σ c gs → Guarded τ c gs
-  guarded-same word chans w f (g-here {e} h) = g-here (sym (true-same e (f .0)) ∙ h)
-  guarded-same word chans w f (g-past-input g) = g-past-input (guarded-same word chans w (f .5) g)
-  guarded-same word chans w f (g-past-skip g) = g-past-skip (guarded-same word chans w (f .2) g)
+  guarded-same word chans w f (g-first {e} h) = g-first (sym (true-same e (f .0)) ∙ h)
+  guarded-same word chans w f (g-later g) = g-later (guarded-same word chans w (f .3) g)
 
 module _ (S : Setting) (b : Part) (vars chans : List Site) {σ τ : Store}
     (same : (x : Site) → List·Memᴰ x vars → List·Memᴰ x (b .reads) → σ x ≡ τ x) where
@@ -178,39 +178,43 @@ module _ (S : Setting) (b : Part) (i : Info) (high : b .top < 2 ^ 32) (sits : Si
 
   -- guards
   module _ (vw : ℕ) where
-    pub ready-stays : {gs : Guards} → FineGuards (S .word) b (i .vars) (i .chans) vw gs → Ready st gs → Ready st′ gs
-    ready-stays f (r-input {e} {c} h s) = r-input (sym (true-same b (i .vars) (intact .reads) e (f .0)) ∙ h) (intact .sends c (f .3) s)
-    ready-stays f (r-skip {e} h) = r-skip (sym (true-same b (i .vars) (intact .reads) e (f .0)) ∙ h)
-    ready-stays f (r-past-input g) = r-past-input (ready-stays (f .5) g)
-    ready-stays f (r-past-skip g) = r-past-skip (ready-stays (f .2) g)
+    -- a guard that is ready stays so
+    guard-stays : {g : Guard} → FineWhole b (i .vars) vw guardRoom (condition g) → FineInput b (i .vars) (i .chans) g → Ready st g
+        → Ready st′ g
+    guard-stays f c (by-input {e} {c = d} h s) = by-input (sym (true-same b (i .vars) (intact .reads) e f) ∙ h) (intact .sends d (c .2) s)
+    guard-stays f c (by-skip {e} h) = by-skip (sym (true-same b (i .vars) (intact .reads) e f) ∙ h)
+
+    pub ready-stays : {gs : Guards} → FineGuards (S .word) b (i .vars) (i .chans) vw gs → AnyReady st gs → AnyReady st′ gs
+    ready-stays f (r-first r) = r-first (guard-stays (f .0) (f .1) r)
+    ready-stays f (r-later g) = r-later (ready-stays (f .3) g)
 
     pub picks-stays : {k : List Frame} {gs : Guards} {b′ t : ℕ} {p : Process}
         → FineGuards (S .word) b (i .vars) (i .chans) vw gs → Picks st k gs b′ t p
         → Picks st′ k gs b′ t p
-    picks-stays f (p-input {e} {c} h s) = p-input (sym (true-same b (i .vars) (intact .reads) e (f .0)) ∙ h) (intact .sends c (f .3) s)
-    picks-stays f (p-skip {e} h) = p-skip (sym (true-same b (i .vars) (intact .reads) e (f .0)) ∙ h)
-    picks-stays f (p-past-input g) = p-past-input (picks-stays (f .5) g)
-    picks-stays f (p-past-skip g) = p-past-skip (picks-stays (f .2) g)
+    picks-stays f (p-first r) = p-first (guard-stays (f .0) (f .1) r)
+    picks-stays f (p-later g) = p-later (picks-stays (f .3) g)
 
     -- none becomes ready where each true guard is marked
     pub unready-stays : {gs : Guards} → FineGuards (S .word) b (i .vars) (i .chans) vw gs
-        → ((d : Site) → Guarded (st .store) d gs → Own b (μ (S .word d))) → (Ready st gs → ⊥) → Ready st′ gs → ⊥
-    unready-stays f m n (r-input {e} {c} h s) =
+        → ((d : Site) → Guarded (st .store) d gs → Own b (μ (S .word d))) → (AnyReady st gs → ⊥) → AnyReady st′ gs → ⊥
+    unready-stays f m n (r-first (by-input {e} {c} h s)) =
         let t = true-same b (i .vars) (intact .reads) e (f .0) ∙ h in
-        n (r-input t (intact .none-sends c (f .2) (f .3) (m c (g-here t)) s))
-    unready-stays f m n (r-skip {e} h) = n (r-skip (true-same b (i .vars) (intact .reads) e (f .0) ∙ h))
-    unready-stays f m n (r-past-input g) = unready-stays (f .5) (λ d h. m d (g-past-input h)) (λ h. n (r-past-input h)) g
-    unready-stays f m n (r-past-skip g) = unready-stays (f .2) (λ d h. m d (g-past-skip h)) (λ h. n (r-past-skip h)) g
+        n (r-first (by-input t (intact .none-sends c (f .1 .1) (f .1 .2) (m c (g-first t)) s)))
+    unready-stays f m n (r-first (by-skip {e} h)) = n (r-first (by-skip (true-same b (i .vars) (intact .reads) e (f .0) ∙ h)))
+    unready-stays f m n (r-later g) = unready-stays (f .3) (λ d h. m d (g-later h)) (λ h. n (r-later h)) g
+
+    guard-unready : {w : ℕ} → Own b w → (g : Guard) → FineWhole b (i .vars) vw guardRoom (condition g) → FineInput b (i .vars) (i .chans) g
+        → Unready st (S .word) μ w g → Unready st′ (S .word) ν w g
+    guard-unready o (inputGuard e c x) f d u = λ z.
+        let g = u (true-same b (i .vars) (intact .reads) e f ∙ z) in
+        let mine = subst (Own b) (sym (g .0)) o in
+        (own-on c (d .1) mine ∙ g .0, (λ s. g .1 (intact .none-sends c (d .1) (d .2) mine s)))
+    guard-unready o (skipGuard e) f d u = sym (true-same b (i .vars) (intact .reads) e f) ∙ u
 
     pub noticed-stays : {gs hs : Guards} {w : ℕ} → Own b w → FineGuards (S .word) b (i .vars) (i .chans) vw gs
         → Noticed st (S .word) μ w gs hs → Noticed st′ (S .word) ν w gs hs
     noticed-stays o f n-none = n-none
-    noticed-stays {w = w} o f (n-input {e} {c} h n) =
-        n-input (λ z.
-        let g = h (true-same b (i .vars) (intact .reads) e (f .0) ∙ z) in
-        let mine = subst (Own b) (sym (g .0)) o in
-        (own-on c (f .2) mine ∙ g .0, (λ s. g .1 (intact .none-sends c (f .2) (f .3) mine s)))) (noticed-stays o (f .5) n)
-    noticed-stays o f (n-skip {e} h n) = n-skip (sym (true-same b (i .vars) (intact .reads) e (f .0)) ∙ h) (noticed-stays o (f .2) n)
+    noticed-stays o f (n-later {g} u n) = n-later (guard-unready o g (f .0) (f .1) u) (noticed-stays o (f .3) n)
 
     pub marked-stays : {gs : Guards} {w : ℕ} → FineGuards (S .word) b (i .vars) (i .chans) vw gs
         → Marked S b st (i .vars) (i .chans) gs μ w → Marked S b st′ (i .vars) (i .chans) gs ν w

@@ -5,13 +5,13 @@ use mathlib.Core.Path.{_≡_, subst, _∙_}
 use mathlib.Core.List.{List, [], _∷_}
 use mathlib.Core.Option.{some}
 use Rattle.model.specs.Syntax.{Stmt, SKIP, STOP, assign, input, output, VAR, CHAN, SEQ, PAR, IF, WHILE, ALT, Stmts, noStmt, stmt}
-use Rattle.model.specs.Syntax.{Pairs, noPair, pair, Guards, Program}
+use Rattle.model.specs.Syntax.{Pairs, noPair, pair, Guard, inputGuard, skipGuard, Guards, Program}
 use Rattle.model.specs.Reader.{names}
 use Rattle.model.specs.Counts.{processes, mostProcesses, sumProcesses, pairProcesses, guardProcesses}
 use Rattle.model.specs.Occam.{Store, isTrue, Frame, inSeq, inVar, inWhile, enter, enterAll, resume, begin, branches, firstTrue, go}
 use Rattle.model.specs.Occam.{Process, before, atInput, atOutput, atStop, atAlt, inPar, finished, Branches, noBranch, branch, over}
 use Rattle.model.specs.Occam.{branchAt, setBranch, endBranch, allOver, closed, branchesOf, framesOf, look, put, State, Communication}
-use Rattle.model.specs.Occam.{Choice, by-input, by-skip, past-input, past-skip, Step, begins, ends, chooses, communicates, receives}
+use Rattle.model.specs.Occam.{branchOf, Choice, first-guard, later-guard, Step, begins, ends, chooses, communicates, receives}
 use Rattle.model.specs.Occam.{Event, Outside, offered, held, taken, nobody, initial}
 use Rattle.model.proofs.Cases.{never, of-cond}
 use Rattle.model.proofs.Occam.Paths.{under, look-under, put-in, par-whole, l-input, l-output, leaves-differ, look-put-other}
@@ -150,13 +150,15 @@ most-if σ (pair e s ps) k =
     (omega (arith, most-if σ ps k))
 
 -- an ALT
+most-branch : (g : Guard) (s : Stmt) (k : List Frame) → most (begin (branchOf g s) k) ≤ max (processes s) (mostAfter k)
+unfolding processes
+most-branch (inputGuard e c x) s k = omega (arith, most-begin (SEQ (stmt (input c x) (stmt s noStmt))) k, processes-one s)
+most-branch (skipGuard e) s k = most-begin s k
+
 most-choice : {st : State} {k : List Frame} {gs : Guards} {p : Process} → Choice st k gs p → most p ≤ max (guardProcesses gs) (mostAfter k)
-unfolding guardProcesses processes
-most-choice {k} (by-input {c} {x} {s} e f) =
-    omega (arith, most-begin (SEQ (stmt (input c x) (stmt s noStmt))) k, processes-one s)
-most-choice {k} (by-skip {s} e) = omega (arith, most-begin s k)
-most-choice (past-input c) = omega (arith, most-choice c)
-most-choice (past-skip c) = omega (arith, most-choice c)
+unfolding guardProcesses
+most-choice {k} (first-guard {g} {s} r) = omega (arith, most-branch g s k)
+most-choice (later-guard c) = omega (arith, most-choice c)
 
 -- the step that begins a statement
 pub most-go : (s : Stmt) (k : List Frame) (σ : Store) → most (go s k σ .process) ≤ most (before s k)

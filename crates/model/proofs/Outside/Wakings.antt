@@ -12,7 +12,6 @@ use Rattle.model.specs.Word.{notProcess}
 use Rattle.model.specs.Syntax.{Site, inputOf, outputOf, Stmts}
 use Rattle.model.specs.Reader.{numbered}
 use Rattle.model.specs.Usage.{same}
-use Rattle.model.specs.Scheme.{sizeEnable}
 use Rattle.model.specs.Machine.{Talk, World, done, return, testPlace, join, resumeWord}
 use Rattle.model.specs.Run.{land}
 use Rattle.model.specs.Occam.{store, Frame, Process, Branches, atOutput, framesOf, put, resume, State, Sender, process}
@@ -27,12 +26,11 @@ use Rattle.model.proofs.Occam.Paths.{Leaf, leaf-resume, live-resume, si
 use Rattle.model.proofs.Words.Parts as Parts
 use Rattle.model.proofs.Words.Parts.{Part, Target}
 use Rattle.model.proofs.Quiet.Marks.{Own}
-use Rattle.model.proofs.Quiet.Onwards.{disable-first}
 use Rattle.model.proofs.Invariant.Trees.{some-same, Label, alone, Info, Sits, Tree, t-leaf, t-par, Forest, f-none, f-live, f-over}
 use Rattle.model.proofs.Invariant.Trees.{labelAt}
 use Rattle.model.proofs.Invariant.Trees.{labelIn, part-inside, bytesLeft, leaf-bytes}
 use Rattle.model.proofs.Invariant.Zones.{zoneOf, Distant}
-use Rattle.model.proofs.Invariant.Leaves.{Unmarked, Waits, Held, h-queued, h-woken}
+use Rattle.model.proofs.Invariant.Leaves.{Unmarked, Waits, Held}
 use Rattle.model.proofs.Invariant.Stays.{Intact, intact-trans}
 use Rattle.model.proofs.Effects.OneWord.{cpuOf}
 use Rattle.model.proofs.Effects.Acts.{when-true, when-false, testPlace-in}
@@ -45,11 +43,11 @@ use Rattle.model.proofs.Invariant.Puts.{sender-before}
 use Rattle.model.proofs.Invariant.Grounds.{chan-in, small-size, sound-at, code-end}
 use Rattle.model.proofs.Words.FineParts.{outsideNames}
 use Rattle.model.proofs.Invariant.Traces.{Trace, t-none, trace-then}
-use Rattle.model.proofs.Invariant.Running.{Only, Here, within, at-end, off-small, fresh, Now, now-goes, now-alt, Inv, runs, starts}
+use Rattle.model.proofs.Invariant.Running.{Only, Here, within, at-end, off-small, Now, now-goes, now-alt, Inv, runs, starts}
 use Rattle.model.proofs.Invariant.Running.{idle}
 use Rattle.model.proofs.Invariant.Moving.{rest-out, lined-in}
 use Rattle.model.proofs.Invariant.Reals.{size-is, mirrored, real-state, real-queue, real-talk}
-use Rattle.model.proofs.Invariant.Scheduling.{Stands, settles, settle, linkedTo, wakes}
+use Rattle.model.proofs.Invariant.Scheduling.{got, Given, gets, linkedTo, wakes}
 use Rattle.model.proofs.Steps.Meets.{resumed}
 use Rattle.model.proofs.Steps.Advance.{Silent}
 use Rattle.model.specs.declared.Setup.{Setup}
@@ -235,35 +233,19 @@ module _ (L : Loaded) where
       free-lines : Lined L st t (Only other) []
       free-lines = subst (λ l. Lined L st t (Only other) l) (F .unqueued) (lined-in L (λ here e. inr e) lines)
 
-      stands : {at : ℕ} → μ (resumeWord (j .w)) ≡ L .off at → at ≤ length (S L .xs) → Stands L taken j at
-      stands e h =
-          record {
+      -- it gets the processor
+      joins-free : Held (S L) d j st μ true r → Joins (j .w) s st (bytesLeft (S L) t)
+      joins-free held =
+          let given : Given L taken μ (j .w) = record {
             run = refl;
             operand = same-regs .operand ∙ F .operand;
-            place = mirrored L real (resumeWord (j .w)) low e;
+            place = mirrored L real (resumeWord (j .w)) low refl;
             work = refl;
-            inside = h;
-          }
-
-      -- it gets the processor
-      joins-free : {p : Process} → LeafAt L st t other p d j → Held (S L) d j st μ true p → Joins (j .w) s st (bytesLeft (S L) t)
-      joins-free here (h-queued {at} c e h clean) =
-          elim (settle L free-real here free-rest free-lines (j .left) (stands (e .place) h) c clean (e .soon) (sits-at L leaf .few)) [
-            | settles {st′} {l} g ms inv z ↦
-                let even : l ≡ bytesLeft (S L) t = omega arith in joins taken g join-is refl ms (subst (λ n. Inv L taken st′ n) even inv)
-          ]
-      joins-free here (h-woken {gs} {k} {hi} {at} c e state dis) =
-          let near : at + 2 + sizeEnable gs + 1 ≤ length (S L .xs) = omega (arith, c .choice-is, inside (S L) (c .ends)) in
-          let st-at = stands (e .place) near in
-          let even : hi ≤ hi = omega arith in
-          joins taken [] join-is refl t-none
-          (runs free-real refl here free-rest free-lines
-          (now-alt
-          (fresh L (at + 2 + sizeEnable gs + 1) (cpuOf taken .place) (cpuOf taken .operand) near (st-at .place) (st-at .operand))
-          (disable-first (S L) d st (j .w) c (sound-at L rest here) even dis refl) (omega (arith, e .soon, st-at .place))))
+          } in
+          elim (gets L given free-real free-rest free-lines leaf held) [ got g ms inv ↦ joins taken g join-is refl ms inv ]
 
     pub goes-on : Held (S L) d j st μ true r → Joins (j .w) s st (bytesLeft (S L) t)
-    goes-on held = ⊎-elim (λ run. joins-back run held) (λ F. joins-free F leaf held) (G .free)
+    goes-on held = ⊎-elim (λ run. joins-back run held) (λ F. joins-free F held) (G .free)
 
     -- it waited at a channel, whose word is another now: it goes on behind its input or output
     module _ {st₁ : State} {μ₁ : Mem} {c : Site} {k : List Frame} {at hi m : ℕ} (waits : Waits (S L) d j st₁ μ₁ c k at hi m)

@@ -6,63 +6,59 @@ use mathlib.Core.Bool.{true, false}
 use mathlib.Core.List.{List, _∷_, _++_, List·Memᴰ}
 use Rattle.model.specs.Word.{low, less, notProcess}
 use Rattle.model.specs.Syntax.{Site, Expr, Stmt, SKIP, STOP, assign, input, output, VAR, CHAN, SEQ, PAR, IF, WHILE, ALT}
-use Rattle.model.specs.Syntax.{Stmts, noStmt, stmt, Pairs, Guards, noGuard, inputGuard, skipGuard}
+use Rattle.model.specs.Syntax.{Stmts, noStmt, stmt, Pairs, Guard, inputGuard, skipGuard, Guards, noGuard, guard}
 use Rattle.model.specs.Reader.{names}
 use Rattle.model.specs.Counts.{need, sumNeed}
 use Rattle.model.specs.Instruction.{ldc, ldlp, cj, ajw, stl, Instruction, plain, distance, operation}
 use Rattle.model.specs.Instruction as I
 use Rattle.model.specs.Scheme.{howMany, size, code, codeStarts, codeEnds, codeEnable, codeDisable, codeBranches, sizeEnable}
-use Rattle.model.specs.Scheme.{sizeDisable}
+use Rattle.model.specs.Scheme.{sizeDisable, inputSize}
 use Rattle.model.specs.Code.{operandIn}
 use Rattle.model.specs.Execute.{enabling, ready, noneSelected}
-use Rattle.model.specs.Machine.{stateWord}
+use Rattle.model.specs.Machine.{stateWord, nameOf, spaceOf}
 use Rattle.model.specs.Occam.{Store, eval, isTrue, Frame, inWhile, Process, before, atInput, atOutput, atStop, atAlt, inPar}
-use Rattle.model.specs.Occam.{finished, resume, begin, firstTrue, State, Sender}
-use Rattle.model.proofs.Quiet.Names.{nameOf, spaceOf}
+use Rattle.model.specs.Occam.{finished, resume, begin, firstTrue, State, Sender, branchOf, Ready}
 use Rattle.model.proofs.Quiet.Ways.{Regs, Mem}
 use Rattle.model.proofs.Quiet.Stretches.{Seg}
 use Rattle.model.proofs.Quiet.Setting.{Setting, whole, At}
 use Rattle.model.proofs.Words.Parts.{Part, joins, Words, FineWhole, Fine, FinePairs, FineBranches}
 use Rattle.model.proofs.Quiet.Continuations.{Placed, Cont}
 
--- a guard that is ready
-pub data Ready (st : State) : Guards → Type 0 where
-  r-input : {e : Expr} {c x : Site} {s : Stmt} {gs : Guards} → isTrue (st .store) e ≡ true → Sender st c → Ready st (inputGuard e c x s gs)
-  r-skip : {e : Expr} {s : Stmt} {gs : Guards} → isTrue (st .store) e ≡ true → Ready st (skipGuard e s gs)
-  r-past-input : {e : Expr} {c x : Site} {s : Stmt} {gs : Guards} → Ready st gs → Ready st (inputGuard e c x s gs)
-  r-past-skip : {e : Expr} {s : Stmt} {gs : Guards} → Ready st gs → Ready st (skipGuard e s gs)
+-- a guard of a list is ready
+pub data AnyReady (st : State) : Guards → Type 0 where
+  r-first : {g : Guard} {s : Stmt} {gs : Guards} → Ready st g → AnyReady st (guard g s gs)
+  r-later : {g : Guard} {s : Stmt} {gs : Guards} → AnyReady st gs → AnyReady st (guard g s gs)
+
+-- where the branch behind a guard's has its first instruction, if that guard's has its own at b
+abbrev pub nextBranch : (b : ℕ) → Guard → Stmt → ℕ
+nextBranch b g s = b + 1 + inputSize g + size s + 1
 
 -- the guard whose branch has its first instruction at t is ready; p is the process that goes on there. The first guard's branch is at b
 pub data Picks (st : State) (k : List Frame) : Guards → (b t : ℕ) → Process → Type 0 where
-  p-input : {e : Expr} {c x : Site} {s : Stmt} {gs : Guards} {b : ℕ} → isTrue (st .store) e ≡ true → Sender st c
-      → Picks st k (inputGuard e c x s gs) b b (begin (SEQ (stmt (input c x) (stmt s noStmt))) k)
-  p-skip : {e : Expr} {s : Stmt} {gs : Guards} {b : ℕ} → isTrue (st .store) e ≡ true → Picks st k (skipGuard e s gs) b b (begin s k)
-  p-past-input : {e : Expr} {c x : Site} {s : Stmt} {gs : Guards} {b t : ℕ} {p : Process} → Picks st k gs (b + 1 + 4 + size s + 1) t p
-      → Picks st k (inputGuard e c x s gs) b t p
-  p-past-skip : {e : Expr} {s : Stmt} {gs : Guards} {b t : ℕ} {p : Process} → Picks st k gs (b + 1 + size s + 1) t p
-      → Picks st k (skipGuard e s gs) b t p
+  p-first : {g : Guard} {s : Stmt} {gs : Guards} {b : ℕ} → Ready st g → Picks st k (guard g s gs) b b (begin (branchOf g s) k)
+  p-later : {g : Guard} {s : Stmt} {gs : Guards} {b t : ℕ} {p : Process} → Picks st k gs (nextBranch b g s) t p
+      → Picks st k (guard g s gs) b t p
 
 -- the second list is the rest of the first; their first guards' branches are at b and t
 pub data Rest : Guards → (b : ℕ) → Guards → (t : ℕ) → Type 0 where
   rest-all : {gs : Guards} {b : ℕ} → Rest gs b gs b
-  rest-input : {e : Expr} {c x : Site} {s : Stmt} {gs hs : Guards} {b t : ℕ} → Rest gs (b + 1 + 4 + size s + 1) hs t
-      → Rest (inputGuard e c x s gs) b hs t
-  rest-skip : {e : Expr} {s : Stmt} {gs hs : Guards} {b t : ℕ} → Rest gs (b + 1 + size s + 1) hs t → Rest (skipGuard e s gs) b hs t
+  rest-later : {g : Guard} {s : Stmt} {gs hs : Guards} {b t : ℕ} → Rest gs (nextBranch b g s) hs t → Rest (guard g s gs) b hs t
 
--- of the guards from the first list up to the second, which is the rest of it, none is ready; each with a true condition is marked with w
+-- a guard that is not ready; one that waits for input is marked with w where its condition is true
+abbrev pub Unready : State → (Site → ℕ) → Mem → (w : ℕ) → Guard → Type 0
+Unready st word μ w (inputGuard e c x) = isTrue (st .store) e ≡ true → (μ (word c) ≡ w) × (Sender st c → ⊥)
+Unready st word μ w (skipGuard e) = isTrue (st .store) e ≡ false
+
+-- of the guards from the first list up to the second, which is the rest of it, none is ready
 pub data Noticed (st : State) (word : Site → ℕ) (μ : Mem) (w : ℕ) : Guards → Guards → Type 0 where
   n-none : {gs : Guards} → Noticed st word μ w gs gs
-  n-input : {e : Expr} {c x : Site} {s : Stmt} {gs hs : Guards}
-      → (isTrue (st .store) e ≡ true → (μ (word c) ≡ w) × (Sender st c → ⊥))
-      → Noticed st word μ w gs hs → Noticed st word μ w (inputGuard e c x s gs) hs
-  n-skip : {e : Expr} {s : Stmt} {gs hs : Guards} → isTrue (st .store) e ≡ false → Noticed st word μ w gs hs
-      → Noticed st word μ w (skipGuard e s gs) hs
+  n-later : {g : Guard} {s : Stmt} {gs hs : Guards} → Unready st word μ w g → Noticed st word μ w gs hs
+      → Noticed st word μ w (guard g s gs) hs
 
 -- a channel that a guard of a list with a true condition inputs from
 pub data Guarded (σ : Store) (c : Site) : Guards → Type 0 where
-  g-here : {e : Expr} {x : Site} {s : Stmt} {gs : Guards} → isTrue σ e ≡ true → Guarded σ c (inputGuard e c x s gs)
-  g-past-input : {e : Expr} {d x : Site} {s : Stmt} {gs : Guards} → Guarded σ c gs → Guarded σ c (inputGuard e d x s gs)
-  g-past-skip : {e : Expr} {s : Stmt} {gs : Guards} → Guarded σ c gs → Guarded σ c (skipGuard e s gs)
+  g-first : {e : Expr} {x : Site} {s : Stmt} {gs : Guards} → isTrue σ e ≡ true → Guarded σ c (guard (inputGuard e c x) s gs)
+  g-later : {g : Guard} {s : Stmt} {gs : Guards} → Guarded σ c gs → Guarded σ c (guard g s gs)
 
 -- steps without code: SKIP and a PAR of none
 pub data Skips : Process → Process → Type 0 where
@@ -215,32 +211,32 @@ module _ (S : Setting) (a : Part) where
     pub record Enabling (gs hs : Guards) (μ : Mem) (w : ℕ) : Type 0 where
       pub rest : (t : ℕ) × Rest gs 0 hs t
       pub marks : Marked gs μ w
-      pub state : ((μ (stateWord w) ≡ enabling) × Noticed st (S .word) μ w gs hs) ⊎ ((μ (stateWord w) ≡ ready) × Ready st gs)
+      pub state : ((μ (stateWord w) ≡ enabling) × Noticed st (S .word) μ w gs hs) ⊎ ((μ (stateWord w) ≡ ready) × AnyReady st gs)
 
     -- before the ENBC or ENBS of the first guard of a list, with the rest of the enabling behind it
     pub data Enables : Guards → (i : ℕ) → Regs → (i′ : ℕ) → Type 0 where
       e-input : {e : Expr} {c x : Site} {s : Stmt} {gs : Guards} {i i′ : ℕ} {r : Regs} → At S i (operation I.enbc) → r .a ≡ eval σ e
-          → r .b ≡ S .word c → Seg (S .xs) (suc i) (codeEnable (S .word) (r .w) gs) i′ → Enables (inputGuard e c x s gs) i r i′
+          → r .b ≡ S .word c → Seg (S .xs) (suc i) (codeEnable (S .word) (r .w) gs) i′ → Enables (guard (inputGuard e c x) s gs) i r i′
       e-skip : {e : Expr} {s : Stmt} {gs : Guards} {i i′ : ℕ} {r : Regs} → At S i (operation I.enbs) → r .a ≡ eval σ e
-          → Seg (S .xs) (suc i) (codeEnable (S .word) (r .w) gs) i′ → Enables (skipGuard e s gs) i r i′
+          → Seg (S .xs) (suc i) (codeEnable (S .word) (r .w) gs) i′ → Enables (guard (skipGuard e) s gs) i r i′
 
     -- the guards of an ALT before hs are disabled: no mark of theirs is left; it is Ready; a branch is chosen, or one of the rest is ready
     pub record Disabling (k : List Frame) (gs hs : Guards) (choice : ℕ) (μ : Mem) (w : ℕ) : Type 0 where
       pub marks : Marked hs μ w
       pub state : μ (stateWord w) ≡ ready
       pub chosen : ((t : ℕ) × (p : Process) × Picks st k gs (choice + 1) t p × (μ w ≡ operandIn (S .off) (distance ldc t choice)))
-          ⊎ ((μ w ≡ noneSelected) × Ready st hs)
+          ⊎ ((μ w ≡ noneSelected) × AnyReady st hs)
 
     -- before the DISC or DISS of the first guard of a list, whose branch is at b, with the rest of the disabling behind it
     pub data Disables : Guards → (choice b i : ℕ) → Regs → (i′ : ℕ) → Type 0 where
       d-input : {e : Expr} {c x : Site} {s : Stmt} {gs : Guards} {choice b i i′ : ℕ} {r : Regs} → At S i (operation I.disc)
           → r .a ≡ operandIn (S .off) (distance ldc b choice) → r .b ≡ eval σ e → r .c ≡ S .word c
-          → Seg (S .xs) (suc i) (codeDisable (S .word) (r .w) choice (b + 1 + 4 + size s + 1) gs) i′
-          → Disables (inputGuard e c x s gs) choice b i r i′
+          → Seg (S .xs) (suc i) (codeDisable (S .word) (r .w) choice (nextBranch b (inputGuard e c x) s) gs) i′
+          → Disables (guard (inputGuard e c x) s gs) choice b i r i′
       d-skip : {e : Expr} {s : Stmt} {gs : Guards} {choice b i i′ : ℕ} {r : Regs} → At S i (operation I.diss)
           → r .a ≡ operandIn (S .off) (distance ldc b choice) → r .b ≡ eval σ e
-          → Seg (S .xs) (suc i) (codeDisable (S .word) (r .w) choice (b + 1 + size s + 1) gs) i′
-          → Disables (skipGuard e s gs) choice b i r i′
+          → Seg (S .xs) (suc i) (codeDisable (S .word) (r .w) choice (nextBranch b (skipGuard e) s) gs) i′
+          → Disables (guard (skipGuard e) s gs) choice b i r i′
 
     -- the significant instructions of an ALT behind its first
     pub data AltPoint : Process → (up : ℕ) → Mem → ℕ → Regs → Type 0 where

@@ -4,14 +4,7 @@ use native.Mathlib.Omega.{arith}
 use mathlib.Core.Path.{_≡_, refl}
 use mathlib.Core.Logic.{_≢_}
 use Rattle.model.specs.Word.{notProcess}
-
--- the name of the process at a workspace
-abbrev pub nameOf : ℕ → ℕ
-nameOf w = w
-
--- the workspace of a name
-abbrev pub spaceOf : ℕ → ℕ
-spaceOf n = n
+use Rattle.model.specs.Machine.{nameOf, spaceOf}
 
 -- there and back
 pub name-back : (w : ℕ) → spaceOf (nameOf w) ≡ w

@@ -1,45 +1,46 @@
 -- The paths between the significant instructions of an ALT and of a PAR's start.
 use Prim.Native.Nat.{ℕ, zero, suc, _+_, _-_, _^_, _≤_, _<_}
 use native.Mathlib.Omega.{arith}
+use native.Mathlib.Nat.{add-zero}
 use mathlib.Core.Path.{_≡_, refl, sym, ap, _∙_, subst}
 use mathlib.Core.Logic.{inl, inr, ⊎-elim}
-use mathlib.Core.Bool.{true, false}
-use mathlib.Core.List.{List, [], _∷_, _++_, List·Memᴰ}
+use mathlib.Core.List.{List, [], _∷_, _++_, append-nil, List·Memᴰ}
 use lib.ListN.{length, length-append}
 use Rattle.model.specs.Word.{low, less, minus}
 use Rattle.model.specs.Code.{functionIn, operandIn}
 use Rattle.model.specs.Counts.{temporaries, need, sumNeed}
-use Rattle.model.specs.Syntax.{Site, Expr, Stmt, input, SEQ, ALT, Stmts, noStmt, stmt, Guards, noGuard, inputGuard, skipGuard}
+use Rattle.model.specs.Syntax.{Site, Expr, Stmt, input, ALT, Stmts, noStmt, stmt, Guard, inputGuard, skipGuard, Guards}
+use Rattle.model.specs.Syntax.{noGuard, guard}
 use Rattle.model.specs.Instruction.{ldc, ldlp, ajw, Instruction, plain, distance, operation}
 use Rattle.model.specs.Instruction as I
-use Rattle.model.specs.Scheme.{size, sizeEnable, sizeEnds, altWords, local, guardCode, inputCode, code, codeAll}
-use Rattle.model.specs.Scheme.{codeStarts, codeEnds, codeEnable, codeDisable, codeBranches}
+use Rattle.model.specs.Scheme.{size, sizeEnable, sizeEnds, altWords, local, guardCode, code, codeAll}
+use Rattle.model.specs.Scheme.{codeStarts, codeEnds, codeEnable, codeDisable, codeBranches, inputSize, enableCode, disableCode}
+use Rattle.model.specs.Scheme.{guardInput}
 use Rattle.model.specs.Machine.{stateWord}
-use Rattle.model.specs.Occam.{Store, eval, isTrue, Sender, Frame, Process, before, atAlt, resume, begin, enter, enterAll, State}
-use Rattle.model.specs.Occam.{Choice, by-input, by-skip, past-input, past-skip}
+use Rattle.model.specs.Occam.{Store, eval, Sender, Frame, Process, before, atAlt, begin, State}
+use Rattle.model.specs.Occam.{branchOf, Ready, by-input, by-skip, Choice, first-guard, later-guard}
 use Rattle.model.proofs.Quiet.Ways.{Regs, pushing, pointing, reversing, moving, Mem, Way, arrived, quiet}
 use Rattle.model.proofs.Quiet.Ways.{quiet-ldc, quiet-ajw, quiet-ldlp, quiet-rev}
-use Rattle.model.proofs.Quiet.Stretches.{Seg, nil, at, split, apart, cut, seg-length, local-word}
+use Rattle.model.proofs.Quiet.Stretches.{Seg, nil, at, split, apart-first, cut, seg-length, local-word}
 use Rattle.model.proofs.Quiet.ExprPaths.{evaluates-whole}
-use Rattle.model.proofs.Coding.Sizes.{code-length}
+use Rattle.model.proofs.Coding.Sizes.{input-length, code-length}
 use Rattle.model.proofs.Quiet.Setting.{Setting, whole, At}
 use Rattle.model.proofs.Quiet.CodeParts.{inside, rises-le}
 use Rattle.model.proofs.Words.Parts.{need-two, sum-first, need-next, Part, Ending, the-end, joins, partOf, lowered, guardRoom}
 use Rattle.model.proofs.Words.Parts.{FineWhole}
-use Rattle.model.proofs.Words.Parts.{Fine, FineGuards}
+use Rattle.model.proofs.Words.Parts.{Fine, FineInput, FineGuards}
 use Rattle.model.proofs.Words.Parts.{FineBranches}
 use Rattle.model.proofs.Quiet.Continuations.{Scoped, scoped-below, placed-down, Cont, c-end, c-join, c-chan, c-up, c-hop}
 use Rattle.model.proofs.Quiet.Continuations.{cont-inside, cont-low}
 use Rattle.model.proofs.Quiet.Continuations.{cont-placed, cont-scoped, cont-bound}
-use Rattle.model.proofs.Quiet.Marks.{Ready, r-input, r-skip, r-past-input, r-past-skip, Picks, p-input, p-skip, p-past-input}
-use Rattle.model.proofs.Quiet.Marks.{p-past-skip}
-use Rattle.model.proofs.Quiet.Marks.{Rest, rest-all, rest-input, rest-skip, Noticed, n-none, n-input, n-skip, AltCode, ParCode}
+use Rattle.model.proofs.Quiet.Marks.{AnyReady, r-first, r-later, nextBranch, Picks, p-first, p-later, Rest, rest-all, rest-later}
+use Rattle.model.proofs.Quiet.Marks.{Unready, Noticed, n-none, n-later, AltCode, ParCode}
 use Rattle.model.proofs.Quiet.Marks.{Enabling}
 use Rattle.model.proofs.Quiet.Marks.{e-input, e-skip, Disabling, d-input, d-skip, AltPoint, pt-enable, pt-wait, pt-disable}
 use Rattle.model.proofs.Quiet.Marks.{pt-choose}
-use Rattle.model.proofs.Quiet.Marks.{Own, Spare, Marked, StartPoint, Guarded, g-here, g-past-input, g-past-skip}
+use Rattle.model.proofs.Quiet.Marks.{Own, Spare, Marked, StartPoint, Guarded, g-first, g-later}
 use Rattle.model.proofs.Cases.{never}
-use Rattle.model.proofs.Quiet.Arrivals.{seg-join, spare-below, Sound, Comes, comes, enters, enters-all, arrives}
+use Rattle.model.proofs.Quiet.Arrivals.{spare-below, Sound, Comes, comes, enters, arrives}
 
 -- past one instruction
 seg-tail : {xs ys : List Instruction} {y : Instruction} {i i′ : ℕ} → Seg xs i (y ∷ ys) i′ → Seg xs (suc i) ys i′
@@ -47,82 +48,59 @@ seg-tail (at e g) = g
 
 -- what is picked is one of Occam's choices
 pub picks-choice : {st : State} {k : List Frame} {gs : Guards} {b t : ℕ} {p : Process} → Picks st k gs b t p → Choice st k gs p
-picks-choice (p-input e s) = by-input e s
-picks-choice (p-skip e) = by-skip e
-picks-choice (p-past-input h) = past-input (picks-choice h)
-picks-choice (p-past-skip h) = past-skip (picks-choice h)
+picks-choice (p-first r) = first-guard r
+picks-choice (p-later h) = later-guard (picks-choice h)
 
 -- a ready guard can be picked
-pub ready-picks : {st : State} (k : List Frame) {gs : Guards} (b : ℕ) → Ready st gs → (t : ℕ) × (p : Process) × Picks st k gs b t p
-ready-picks k b (r-input e s) = (_, _, p-input e s)
-ready-picks k b (r-skip e) = (_, _, p-skip e)
-ready-picks k b (r-past-input h) = let (t, p, g) = ready-picks k _ h in (t, p, p-past-input g)
-ready-picks k b (r-past-skip h) = let (t, p, g) = ready-picks k _ h in (t, p, p-past-skip g)
+pub ready-picks : {st : State} (k : List Frame) {gs : Guards} (b : ℕ) → AnyReady st gs → (t : ℕ) × (p : Process) × Picks st k gs b t p
+ready-picks k b (r-first r) = (_, _, p-first r)
+ready-picks k b (r-later h) = let (t, p, g) = ready-picks k _ h in (t, p, p-later g)
 
 -- a pick from the rest is one from all
 pub rest-picks : {st : State} {k : List Frame} {gs hs : Guards} {b c t : ℕ} {p : Process} → Rest gs b hs c → Picks st k hs c t p
     → Picks st k gs b t p
 rest-picks rest-all h = h
-rest-picks (rest-input g) h = p-past-input (rest-picks g h)
-rest-picks (rest-skip g) h = p-past-skip (rest-picks g h)
+rest-picks (rest-later g) h = p-later (rest-picks g h)
 
 -- the rest goes on with its next guard
-pub rest-past-input : {gs : Guards} {e : Expr} {d x : Site} {s : Stmt} {hs : Guards} {b c : ℕ} → Rest gs b (inputGuard e d x s hs) c
-    → Rest gs b hs (c + 1 + 4 + size s + 1)
-rest-past-input rest-all = rest-input rest-all
-rest-past-input (rest-input g) = rest-input (rest-past-input g)
-rest-past-input (rest-skip g) = rest-skip (rest-past-input g)
-
-pub rest-past-skip : {gs : Guards} {e : Expr} {s : Stmt} {hs : Guards} {b c : ℕ} → Rest gs b (skipGuard e s hs) c
-    → Rest gs b hs (c + 1 + size s + 1)
-rest-past-skip rest-all = rest-skip rest-all
-rest-past-skip (rest-input g) = rest-input (rest-past-skip g)
-rest-past-skip (rest-skip g) = rest-skip (rest-past-skip g)
+pub rest-past : {gs : Guards} {g : Guard} {s : Stmt} {hs : Guards} {b c : ℕ} → Rest gs b (guard g s hs) c → Rest gs b hs (nextBranch c g s)
+rest-past rest-all = rest-later rest-all
+rest-past (rest-later h) = rest-later (rest-past h)
 
 -- one more guard is noticed
-pub noticed-past-input : {st : State} {word : Site → ℕ} {μ : Mem} {w : ℕ} {gs : Guards} {e : Expr} {c x : Site} {s : Stmt} {hs : Guards}
-    → Noticed st word μ w gs (inputGuard e c x s hs) → (isTrue (st .store) e ≡ true → (μ (word c) ≡ w) × (Sender st c → ⊥))
-    → Noticed st word μ w gs hs
-noticed-past-input n-none h = n-input h n-none
-noticed-past-input (n-input g n) h = n-input g (noticed-past-input n h)
-noticed-past-input (n-skip f n) h = n-skip f (noticed-past-input n h)
-
-pub noticed-past-skip : {st : State} {word : Site → ℕ} {μ : Mem} {w : ℕ} {gs : Guards} {e : Expr} {s : Stmt} {hs : Guards}
-    → Noticed st word μ w gs (skipGuard e s hs) → isTrue (st .store) e ≡ false → Noticed st word μ w gs hs
-noticed-past-skip n-none h = n-skip h n-none
-noticed-past-skip (n-input g n) h = n-input g (noticed-past-skip n h)
-noticed-past-skip (n-skip f n) h = n-skip f (noticed-past-skip n h)
+pub noticed-past : {st : State} {word : Site → ℕ} {μ : Mem} {w : ℕ} {gs : Guards} (g : Guard) {s : Stmt} {hs : Guards}
+    → Noticed st word μ w gs (guard g s hs) → Unready st word μ w g → Noticed st word μ w gs hs
+noticed-past g n-none h = n-later h n-none
+noticed-past g (n-later u n) h = n-later u (noticed-past g n h)
 
 -- where all are noticed none is ready, and each guarded channel is marked
-pub noticed-unready : {st : State} {word : Site → ℕ} {μ : Mem} {w : ℕ} {gs : Guards} → Noticed st word μ w gs noGuard → Ready st gs → ⊥
-noticed-unready (n-input g n) (r-input e s) = g e .1 s
-noticed-unready (n-input g n) (r-past-input h) = noticed-unready n h
-noticed-unready (n-skip f n) (r-skip e) = never (cc (f, e))
-noticed-unready (n-skip f n) (r-past-skip h) = noticed-unready n h
+unready : {st : State} (word : Site → ℕ) (μ : Mem) (w : ℕ) {g : Guard} → Unready st word μ w g → Ready st g → ⊥
+unready word μ w u (by-input e s) = u e .1 s
+unready word μ w u (by-skip e) = never (cc (u, e))
+
+pub noticed-unready : {st : State} {word : Site → ℕ} {μ : Mem} {w : ℕ} {gs : Guards} → Noticed st word μ w gs noGuard → AnyReady st gs → ⊥
+noticed-unready {word} {μ} {w} (n-later u n) (r-first r) = unready word μ w u r
+noticed-unready (n-later u n) (r-later h) = noticed-unready n h
 
 pub noticed-marked : {st : State} {word : Site → ℕ} {μ : Mem} {w : ℕ} {gs : Guards} {c : Site} → Noticed st word μ w gs noGuard
     → Guarded (st .store) c gs → μ (word c) ≡ w
-noticed-marked (n-input g n) (g-here e) = g e .0
-noticed-marked (n-input g n) (g-past-input h) = noticed-marked n h
-noticed-marked (n-skip f n) (g-past-skip h) = noticed-marked n h
+noticed-marked (n-later u n) (g-first e) = u e .0
+noticed-marked (n-later u n) (g-later h) = noticed-marked n h
 
 -- a ready guard of the rest is one of all
-pub rest-ready : {st : State} {gs hs : Guards} {b c : ℕ} → Rest gs b hs c → Ready st hs → Ready st gs
+pub rest-ready : {st : State} {gs hs : Guards} {b c : ℕ} → Rest gs b hs c → AnyReady st hs → AnyReady st gs
 rest-ready rest-all h = h
-rest-ready (rest-input g) h = r-past-input (rest-ready g h)
-rest-ready (rest-skip g) h = r-past-skip (rest-ready g h)
+rest-ready (rest-later g) h = r-later (rest-ready g h)
 
 -- a guarded channel of the rest is one of all
 pub rest-guarded : {σ : Store} {d : Site} {gs hs : Guards} {b c : ℕ} → Rest gs b hs c → Guarded σ d hs → Guarded σ d gs
 rest-guarded rest-all h = h
-rest-guarded (rest-input g) h = g-past-input (rest-guarded g h)
-rest-guarded (rest-skip g) h = g-past-skip (rest-guarded g h)
+rest-guarded (rest-later g) h = g-later (rest-guarded g h)
 
 -- a guarded channel that has a sender is ready
-pub guarded-ready : {st : State} {c : Site} {gs : Guards} → Guarded (st .store) c gs → Sender st c → Ready st gs
-guarded-ready (g-here e) h = r-input e h
-guarded-ready (g-past-input g) h = r-past-input (guarded-ready g h)
-guarded-ready (g-past-skip g) h = r-past-skip (guarded-ready g h)
+pub guarded-ready : {st : State} {c : Site} {gs : Guards} → Guarded (st .store) c gs → Sender st c → AnyReady st gs
+guarded-ready (g-first e) h = r-first (by-input e h)
+guarded-ready (g-later g) h = r-later (guarded-ready g h)
 
 -- the next branch of a PAR
 pub ends-next : (s : Stmt) (ss : Stmts) (b : ℕ) {n : ℕ} → b + sizeEnds (stmt s ss) ≤ n → b + size s + 2 + sizeEnds ss ≤ n
@@ -149,15 +127,13 @@ marked-same S a st vars chans hs μ ν w same h d m o = let g = h d m (subst (Ow
 module _ (word : Site → ℕ) (a : Part) (vars chans : List Site) (w : ℕ) where
   pub rest-fine : {gs hs : Guards} {b c : ℕ} → Rest gs b hs c → FineGuards word a vars chans w gs → FineGuards word a vars chans w hs
   rest-fine rest-all f = f
-  rest-fine (rest-input g) f = rest-fine g (f .5)
-  rest-fine (rest-skip g) f = rest-fine g (f .2)
+  rest-fine (rest-later g) f = rest-fine g (f .3)
 
   -- a guarded channel is in scope, and the part inputs from it
   pub guarded-fine : {σ : Store} {c : Site} {gs : Guards} → Guarded σ c gs → FineGuards word a vars chans w gs
       → List·Memᴰ c chans × List·Memᴰ c (a .inputs)
-  guarded-fine (g-here e) f = (f .2, f .3)
-  guarded-fine (g-past-input g) f = guarded-fine g (f .5)
-  guarded-fine (g-past-skip g) f = guarded-fine g (f .2)
+  guarded-fine (g-first e) f = (f .1 .1, f .1 .2)
+  guarded-fine (g-later g) f = guarded-fine g (f .3)
 
 module _ (S : Setting) (a : Part) (st : State) where
   -- the significant instructions of an ALT whose workspace is w, and the words for stored values, which are below the ALT's own
@@ -220,11 +196,14 @@ module _ (S : Setting) (a : Part) (st : State) where
       state-kept : ν (stateWord w) ≡ μ (stateWord w)
       state-kept = same (stateWord w) (omega (arith, c .fine .0, alt-wide))
 
+      unready-kept : (g : Guard) → FineInput a vars chans g → Unready st (S .word) μ w g → Unready st (S .word) ν w g
+      unready-kept (inputGuard e d x) f u = λ z. (chan-kept d (f .1) ∙ u z .0, u z .1)
+      unready-kept (skipGuard e) f u = u
+
       noticed-kept : {fs hs : Guards} → FineGuards (S .word) a vars chans (w + 1) fs → Noticed st (S .word) μ w fs hs
           → Noticed st (S .word) ν w fs hs
       noticed-kept f n-none = n-none
-      noticed-kept f (n-input {c = d} h n) = n-input (λ z. (chan-kept d (f .2) ∙ h z .0, h z .1)) (noticed-kept (f .5) n)
-      noticed-kept f (n-skip h n) = n-skip h (noticed-kept (f .2) n)
+      noticed-kept f (n-later {g} u n) = n-later (unready-kept g (f .1) u) (noticed-kept (f .3) n)
 
       enabling-kept : {hs : Guards} → Enabling S a st vars chans gs hs μ w → Enabling S a st vars chans gs hs ν w
       enabling-kept n =
@@ -246,14 +225,15 @@ module _ (S : Setting) (a : Part) (st : State) where
 
     -- past a condition, to ENBC
     enable-input : (e : Expr) (d x : Site) (s : Stmt) (hs : Guards) {hi′ j m : ℕ} {μ : Mem} {r : Regs} → hi ≤ hi′
-        → FineGuards (S .word) a vars chans (w + 1) (inputGuard e d x s hs) → Enabling S a st vars chans gs (inputGuard e d x s hs) μ w
+        → FineGuards (S .word) a vars chans (w + 1) (guard (inputGuard e d x) s hs)
+        → Enabling S a st vars chans gs (guard (inputGuard e d x) s hs) μ w
         → Seg (S .xs) j (guardCode (S .word) w e) m
         → Seg (S .xs) m (plain ldlp (local (S .word) w d) ∷ operation I.rev ∷ operation I.enbc ∷ codeEnable (S .word) w hs)
         (i + 2 + sizeEnable gs) → r .w ≡ w → AltWay vars chans (before (ALT gs) k) w hi′ μ j r
     unfolding functionIn operandIn
     enable-input e d x s hs {hi′} {m} {μ} l f n g₁ (at p₁ (at p₂ (at p₃ g₂))) q =
         let o = less (S .word d) w in
-        let vd : low (w + o) ≡ S .word d = local-word w (S .word d) alt-wide (v .chans-word d (f .2)) in
+        let vd : low (w + o) ≡ S .word d = local-word w (S .word d) alt-wide (v .chans-word d (f .1 .1)) in
         let bound : S .off (suc (suc (suc m))) ≤ hi′ = alt-bound (suc (suc m)) l (omega (arith, c .choice-is, seg-length g₂)) in
         through-guard (before (ALT gs) k) e (f .0) g₁ q (λ ν r′ same val q′.
         quiet (pointing o) p₁ (quiet-ldlp o)
@@ -264,7 +244,8 @@ module _ (S : Setting) (a : Part) (st : State) where
 
     -- past a condition, to ENBS
     enable-skip : (e : Expr) (s : Stmt) (hs : Guards) {hi′ j m : ℕ} {μ : Mem} {r : Regs} → hi ≤ hi′
-        → FineGuards (S .word) a vars chans (w + 1) (skipGuard e s hs) → Enabling S a st vars chans gs (skipGuard e s hs) μ w
+        → FineGuards (S .word) a vars chans (w + 1) (guard (skipGuard e) s hs)
+        → Enabling S a st vars chans gs (guard (skipGuard e) s hs) μ w
         → Seg (S .xs) j (guardCode (S .word) w e) m → Seg (S .xs) m (operation I.enbs ∷ codeEnable (S .word) w hs) (i + 2 + sizeEnable gs)
         → r .w ≡ w → AltWay vars chans (before (ALT gs) k) w hi′ μ j r
     enable-skip e s hs {hi′} {m} {μ} l f n g₁ (at p₁ g₂) q =
@@ -276,31 +257,34 @@ module _ (S : Setting) (a : Part) (st : State) where
     pub enable-way : (hs : Guards) {hi′ j : ℕ} {μ : Mem} {r : Regs} → hi ≤ hi′ → FineGuards (S .word) a vars chans (w + 1) hs
         → Enabling S a st vars chans gs hs μ w → Seg (S .xs) j (codeEnable (S .word) w hs) (i + 2 + sizeEnable gs) → r .w ≡ w
         → AltWay vars chans (before (ALT gs) k) w hi′ μ j r
-    unfolding codeEnable
+    unfolding codeEnable enableCode
     enable-way noGuard {hi′} {μ} {r} l f n nil q =
         arrived (at-w r q (pt-wait c n))
         (alt-bound (i + 2 + sizeEnable gs) l (omega (arith, c .choice-is)))
-    enable-way (inputGuard e d x s hs) l f n g q = elim (apart (guardCode (S .word) w e) g) [
+    enable-way (guard (inputGuard e d x) s hs) l f n g q = elim (apart-first (guardCode (S .word) w e) _ _ g) [
       | split g₁ g₂ ↦ enable-input e d x s hs l f n g₁ g₂ q
     ]
-    enable-way (skipGuard e s hs) l f n g q = elim (apart (guardCode (S .word) w e) g) [ split g₁ g₂ ↦ enable-skip e s hs l f n g₁ g₂ q ]
+    enable-way (guard (skipGuard e) s hs) l f n g q = elim (apart-first (guardCode (S .word) w e) _ _ g) [
+      | split g₁ g₂ ↦ enable-skip e s hs l f n g₁ g₂ q
+    ]
 
     -- past a condition, to DISC
     disable-input : (e : Expr) (d x : Site) (s : Stmt) (hs : Guards) {hi′ j b m : ℕ} {μ : Mem} {r : Regs} → hi ≤ hi′
-        → FineGuards (S .word) a vars chans (w + 1) (inputGuard e d x s hs) → Rest gs (c .choice + 1) (inputGuard e d x s hs) b
-        → Disabling S a st vars chans k gs (inputGuard e d x s hs) (c .choice) μ w → Seg (S .xs) j (guardCode (S .word) w e) m
+        → FineGuards (S .word) a vars chans (w + 1) (guard (inputGuard e d x) s hs)
+        → Rest gs (c .choice + 1) (guard (inputGuard e d x) s hs) b
+        → Disabling S a st vars chans k gs (guard (inputGuard e d x) s hs) (c .choice) μ w → Seg (S .xs) j (guardCode (S .word) w e) m
         → Seg (S .xs) m
         (plain ldlp (local (S .word) w d)
         ∷ operation I.rev
         ∷ distance ldc b (c .choice)
         ∷ operation I.disc
-        ∷ codeDisable (S .word) w (c .choice) (b + 1 + 4 + size s + 1) hs)
+        ∷ codeDisable (S .word) w (c .choice) (nextBranch b (inputGuard e d x) s) hs)
         (c .choice) → r .w ≡ w → AltWay vars chans (atAlt gs k) w hi′ μ j r
     unfolding functionIn operandIn
     disable-input e d x s hs {hi′} {b} {m} {μ} l f t n g₁ (at p₁ (at p₂ (at p₃ (at p₄ g₂)))) q =
         let o = less (S .word d) w in
         let z = less (S .off b) (S .off (suc (c .choice))) in
-        let vd : low (w + o) ≡ S .word d = local-word w (S .word d) alt-wide (v .chans-word d (f .2)) in
+        let vd : low (w + o) ≡ S .word d = local-word w (S .word d) alt-wide (v .chans-word d (f .1 .1)) in
         let bound : S .off (suc (suc (suc (suc m)))) ≤ hi′ = alt-bound (suc (suc (suc m))) l (omega (arith, seg-length g₂)) in
         through-guard (atAlt gs k) e (f .0) g₁ q (λ ν r′ same val q′.
         quiet (pointing o) p₁ (quiet-ldlp o)
@@ -312,10 +296,10 @@ module _ (S : Setting) (a : Part) (st : State) where
 
     -- past a condition, to DISS
     disable-skip : (e : Expr) (s : Stmt) (hs : Guards) {hi′ j b m : ℕ} {μ : Mem} {r : Regs} → hi ≤ hi′
-        → FineGuards (S .word) a vars chans (w + 1) (skipGuard e s hs) → Rest gs (c .choice + 1) (skipGuard e s hs) b
-        → Disabling S a st vars chans k gs (skipGuard e s hs) (c .choice) μ w → Seg (S .xs) j (guardCode (S .word) w e) m
+        → FineGuards (S .word) a vars chans (w + 1) (guard (skipGuard e) s hs) → Rest gs (c .choice + 1) (guard (skipGuard e) s hs) b
+        → Disabling S a st vars chans k gs (guard (skipGuard e) s hs) (c .choice) μ w → Seg (S .xs) j (guardCode (S .word) w e) m
         → Seg (S .xs) m
-        (distance ldc b (c .choice) ∷ operation I.diss ∷ codeDisable (S .word) w (c .choice) (b + 1 + size s + 1) hs) (c .choice)
+        (distance ldc b (c .choice) ∷ operation I.diss ∷ codeDisable (S .word) w (c .choice) (nextBranch b (skipGuard e) s) hs) (c .choice)
         → r .w ≡ w → AltWay vars chans (atAlt gs k) w hi′ μ j r
     unfolding functionIn operandIn
     disable-skip e s hs {hi′} {b} {m} {μ} l f t n g₁ (at p₁ (at p₂ g₂)) q =
@@ -331,13 +315,13 @@ module _ (S : Setting) (a : Part) (st : State) where
         → Rest gs (c .choice + 1) hs b → Disabling S a st vars chans k gs hs (c .choice) μ w
         → Seg (S .xs) j (codeDisable (S .word) w (c .choice) b hs) (c .choice) → r .w ≡ w
         → AltWay vars chans (atAlt gs k) w hi′ μ j r
-    unfolding codeDisable
+    unfolding codeDisable disableCode
     disable-way noGuard {hi′} {μ} {r} l f t n nil q = arrived (at-w r q (pt-choose c n))
         (alt-bound (c .choice) l (omega arith))
-    disable-way (inputGuard e d x s hs) l f t n g q = elim (apart (guardCode (S .word) w e) g) [
+    disable-way (guard (inputGuard e d x) s hs) l f t n g q = elim (apart-first (guardCode (S .word) w e) _ _ g) [
       | split g₁ g₂ ↦ disable-input e d x s hs l f t n g₁ g₂ q
     ]
-    disable-way (skipGuard e s hs) l f t n g q = elim (apart (guardCode (S .word) w e) g) [
+    disable-way (guard (skipGuard e) s hs) l f t n g q = elim (apart-first (guardCode (S .word) w e) _ _ g) [
       | split g₁ g₂ ↦ disable-skip e s hs l f t n g₁ g₂ q
     ]
 
@@ -385,101 +369,63 @@ module _ (S : Setting) (a : Part) (st : State) where
     alt-small : w + 1 < 2 ^ 32
     alt-small = omega (arith, cont-low S a (c .after), v .high)
 
-    -- a branch: AJW 1, statements, J over
-    branch-input : (d x : Site) (s : Stmt) (zs : List Instruction) {t : ℕ}
-        → Seg (S .xs) t (plain ajw 1 ∷ inputCode (S .word) (w + 1) d x) (t + 1 + 4)
-        → Seg (S .xs) (t + 1 + 4) (code (S .word) (w + 1) (t + 1 + 4) s) (t + 1 + 4 + size s)
-        → Seg (S .xs) (t + 1 + 4 + size s) (distance I.j (c .over) (t + 1 + 4 + size s) ∷ zs) (c .over) → c .choice ≤ t
-        → Fine (S .word) a vars chans (w + 1) (input d x) → Fine (S .word) a vars chans (w + 1) s
-        → Led (begin (SEQ (stmt (input d x) (stmt s noStmt))) k) t
-    unfolding code enter enterAll resume size
-    branch-input d x s zs {t} (at y g₁) g₂ (at j g₃) l f h =
-        let leave = t + 1 + 4 + size s in
-        let e : t + 1 + 4 ≡ suc t + 4 = omega arith in
-        let past : suc leave ≤ c .over = omega (arith, seg-length g₃) in
-        let room : a .bottom + 2 ≤ w + 1 = omega (arith, c .fine .0) in
-        let hop : Cont S a hi vars chans k leave (w + 1) = c-hop j room past (c .after) in
-        let body : Seg (S .xs) (t + 1 + 4) (code (S .word) (w + 1) (suc t + 4) s) leave =
-        subst (λ n. Seg (S .xs) (t + 1 + 4) (code (S .word) (w + 1) n s) leave) e g₂ in
-        let all : Seg (S .xs) (suc t) (codeAll (S .word) (w + 1) (suc t) (stmt (input d x) (stmt s noStmt))) leave =
-        seg-join g₁ (seg-join body nil) in
-        raise y alt-small (omega (arith, c .fine .0))
-        (enters-all S a (st .store) (stmt (input d x) (stmt s noStmt)) all (f, (h, tt)) hop (alt-near (suc t) (omega arith) (omega arith)) v
-        (arrives S a (st .store) hop (alt-near leave (omega arith) (omega arith)) v))
+    -- a branch's code is its guard's input, if any, and its statement
+    branch-code : (g : Guard) (s : Stmt) (t : ℕ)
+        → guardInput (S .word) (w + 1) g ++ code (S .word) (w + 1) (t + inputSize g) s ≡ code (S .word) (w + 1) t (branchOf g s)
+    unfolding guardInput inputSize code codeAll size
+    branch-code (inputGuard e d x) s t = rw (append-nil (code (S .word) (w + 1) (t + 4) s)) refl
+    branch-code (skipGuard e) s t = ap (λ n. code (S .word) (w + 1) n s) (add-zero t)
 
-    branch-skip : (s : Stmt) (zs : List Instruction) {t : ℕ} → Seg (S .xs) t (plain ajw 1 ∷ []) (t + 1)
-        → Seg (S .xs) (t + 1) (code (S .word) (w + 1) (t + 1) s) (t + 1 + size s)
-        → Seg (S .xs) (t + 1 + size s) (distance I.j (c .over) (t + 1 + size s) ∷ zs) (c .over) → c .choice ≤ t
-        → Fine (S .word) a vars chans (w + 1) s → Led (begin s k) t
-    branch-skip s zs {t} (at y g₁) g₂ (at j g₃) l h =
-        let leave = t + 1 + size s in
-        let e : t + 1 ≡ suc t = omega arith in
-        let past : suc leave ≤ c .over = omega (arith, seg-length g₃) in
-        let room : a .bottom + 2 ≤ w + 1 = omega (arith, c .fine .0) in
-        let hop : Cont S a hi vars chans k leave (w + 1) = c-hop j room past (c .after) in
-        let body : Seg (S .xs) (suc t) (code (S .word) (w + 1) (suc t) s) leave =
-        subst (λ n. Seg (S .xs) n (code (S .word) (w + 1) n s) leave) e g₂ in
-        raise y alt-small (omega (arith, c .fine .0))
-        (enters S a (st .store) s body h hop (alt-near (suc t) (omega arith) (omega arith)) v
-        (arrives S a (st .store) hop (alt-near leave (omega arith) (omega arith)) v))
+    branch-fine : (g : Guard) (s : Stmt) → FineInput a vars chans g → Fine (S .word) a vars chans (w + 1) s
+        → Fine (S .word) a vars chans (w + 1) (branchOf g s)
+    branch-fine (inputGuard e d x) s f h = ((omega (arith, c .fine .0), f .0, f .1, f .2), (h, tt))
+    branch-fine (skipGuard e) s f h = h
 
-    -- an input's branch and what is behind it
-    input-parts : (d x : Site) (s : Stmt) (zs : List Instruction) {t : ℕ}
+    -- a branch: AJW 1, its code, J over, and what is behind it
+    branch-parts : (g : Guard) (s : Stmt) (zs : List Instruction) {t : ℕ}
         → Seg (S .xs) t
         (plain ajw 1
-        ∷ inputCode (S .word) (w + 1) d x
-        ++ code (S .word) (w + 1) (t + 1 + 4) s
-        ++ distance I.j (c .over) (t + 1 + 4 + size s)
+        ∷ guardInput (S .word) (w + 1) g
+        ++ code (S .word) (w + 1) (t + 1 + inputSize g) s
+        ++ distance I.j (c .over) (t + 1 + inputSize g + size s)
         ∷ zs) (c .over)
-        → Seg (S .xs) t (plain ajw 1 ∷ inputCode (S .word) (w + 1) d x) (t + 1 + 4)
-        × Seg (S .xs) (t + 1 + 4) (code (S .word) (w + 1) (t + 1 + 4) s) (t + 1 + 4 + size s)
-        × Seg (S .xs) (t + 1 + 4 + size s) (distance I.j (c .over) (t + 1 + 4 + size s) ∷ zs) (c .over)
-    input-parts d x s zs {t} g =
-        let front = plain ajw 1 ∷ inputCode (S .word) (w + 1) d x in
-        let body = code (S .word) (w + 1) (t + 1 + 4) s in
-        let (g₁, g₂) = cut (front ++ body) (t + 1 + 4 + size s)
-        (omega (arith, length-append front body, code-length (S .word) (w + 1) (t + 1 + 4) s)) g in
-        let (g₃, g₄) = cut front (t + 1 + 4) (omega arith) g₁ in
-        (g₃, g₄, g₂)
-
-    skip-parts : (s : Stmt) (zs : List Instruction) {t : ℕ}
-        → Seg (S .xs) t (plain ajw 1 ∷ code (S .word) (w + 1) (t + 1) s ++ distance I.j (c .over) (t + 1 + size s) ∷ zs) (c .over)
-        → Seg (S .xs) t (plain ajw 1 ∷ []) (t + 1)
-        × Seg (S .xs) (t + 1) (code (S .word) (w + 1) (t + 1) s) (t + 1 + size s)
-        × Seg (S .xs) (t + 1 + size s) (distance I.j (c .over) (t + 1 + size s) ∷ zs) (c .over)
-    skip-parts s zs {t} g =
-        let front = plain ajw 1 ∷ [] in
-        let body = code (S .word) (w + 1) (t + 1) s in
-        let (g₁, g₂) = cut (front ++ body) (t + 1 + size s)
-        (omega (arith, length-append front body, code-length (S .word) (w + 1) (t + 1) s)) g in
-        let (g₃, g₄) = cut front (t + 1) (omega arith) g₁ in
-        (g₃, g₄, g₂)
+        → At S t (plain ajw 1)
+        × Seg (S .xs) (suc t) (code (S .word) (w + 1) (suc t) (branchOf g s)) (t + 1 + inputSize g + size s)
+        × Seg (S .xs) (t + 1 + inputSize g + size s) (distance I.j (c .over) (t + 1 + inputSize g + size s) ∷ zs) (c .over)
+    branch-parts g s zs {t} (at y h) =
+        let input = guardInput (S .word) (w + 1) g in
+        let body = code (S .word) (w + 1) (t + 1 + inputSize g) s in
+        let leave = t + 1 + inputSize g + size s in
+        let (g₁, g₂) = cut (input ++ body) leave
+        (omega (arith, length-append input body, input-length (S .word) (w + 1) g, code-length (S .word) (w + 1) (t + 1 + inputSize g) s))
+        h in
+        let e : t + 1 ≡ suc t = omega arith in
+        (y, subst (λ l. Seg (S .xs) (suc t) l leave) (branch-code g s (t + 1) ∙ ap (λ n. code (S .word) (w + 1) n (branchOf g s)) e) g₁, g₂)
 
     picked : {hs : Guards} {b t : ℕ} {p : Process} → Picks st k hs b t p
         → Seg (S .xs) b (codeBranches (S .word) (w + 1) b (c .over) hs) (c .over)
         → c .choice ≤ b → FineGuards (S .word) a vars chans (w + 1) hs → Led p t
     unfolding codeBranches
-    picked (p-input {c = d} {x} {s} {gs = hs} {b} y z) g l f =
-        let zs = codeBranches (S .word) (w + 1) (b + 1 + 4 + size s + 1) (c .over) hs in
-        let (g₁, g₂, g₃) = input-parts d x s zs g in
-        let room : a .bottom + 3 ≤ w + 1 = omega (arith, c .fine .0) in
-        branch-input d x s zs g₁ g₂ g₃ l (room, f .1, f .2, f .3) (f .4)
-    picked (p-skip {s} {gs = hs} {b} y) g l f =
-        let zs = codeBranches (S .word) (w + 1) (b + 1 + size s + 1) (c .over) hs in
-        let (g₁, g₂, g₃) = skip-parts s zs g in
-        branch-skip s zs g₁ g₂ g₃ l (f .1)
-    picked (p-past-input {c = d} {x} {s} {gs = hs} {b} h) g l f =
-        let next = b + 1 + 4 + size s in
-        let zs = codeBranches (S .word) (w + 1) (next + 1) (c .over) hs in
-        let (g₁, g₂, g₃) = input-parts d x s zs g in
-        let e : suc next ≡ next + 1 = omega arith in
-        picked h (subst (λ n. Seg (S .xs) n zs (c .over)) e (seg-tail g₃)) (omega arith) (f .5)
-    picked (p-past-skip {s} {gs = hs} {b} h) g l f =
-        let next = b + 1 + size s in
-        let zs = codeBranches (S .word) (w + 1) (next + 1) (c .over) hs in
-        let (g₁, g₂, g₃) = skip-parts s zs g in
-        let e : suc next ≡ next + 1 = omega arith in
-        picked h (subst (λ n. Seg (S .xs) n zs (c .over)) e (seg-tail g₃)) (omega arith) (f .2)
+    picked (p-first {g} {s} {gs = hs} {b} r) h l f =
+        let leave = b + 1 + inputSize g + size s in
+        let zs = codeBranches (S .word) (w + 1) (leave + 1) (c .over) hs in
+        let (y, body, z) = branch-parts g s zs h in
+        elim z [
+          | at j g₃ ↦
+              let past : suc leave ≤ c .over = omega (arith, seg-length g₃) in
+              let room : a .bottom + 2 ≤ w + 1 = omega (arith, c .fine .0) in
+              let hop : Cont S a hi vars chans k leave (w + 1) = c-hop j room past (c .after) in
+              raise y alt-small (omega (arith, c .fine .0))
+              (enters S a (st .store) (branchOf g s) body (branch-fine g s (f .1) (f .2)) hop
+              (alt-near (suc b) (omega arith) (omega arith)) v
+              (arrives S a (st .store) hop (alt-near leave (omega arith) (omega arith)) v))
+        ]
+    picked (p-later {g} {s} {gs = hs} {b} p) h l f =
+        let leave = b + 1 + inputSize g + size s in
+        let zs = codeBranches (S .word) (w + 1) (leave + 1) (c .over) hs in
+        let (y, body, z) = branch-parts g s zs h in
+        let e : suc leave ≡ leave + 1 = omega arith in
+        picked p (subst (λ n. Seg (S .xs) n zs (c .over)) e (seg-tail z)) (omega arith) (f .3)
 
     -- the picked branch's code leads its process on
     pub branch-comes : {t : ℕ} {p : Process} → Picks st k gs (c .choice + 1) t p → Led p t

@@ -3,7 +3,7 @@ use Prim.Native.Nat.{ℕ, suc, _+_, _^_, _<_}
 use native.Mathlib.Omega.{arith}
 use native.Mathlib.Nat.{add-zero, zero-add}
 use mathlib.Core.Path.{_≡_, refl, _∙_, subst}
-use mathlib.Core.List.{List, [], _∷_, _++_}
+use mathlib.Core.List.{List, [], _∷_, _++_, append-assoc}
 use mathlib.Core.Option.{some}
 use lib.ListN.{length, getElem?}
 use Rattle.model.specs.Word.{low, less}
@@ -21,6 +21,11 @@ pub apart : {xs : List Instruction} {i i′ : ℕ} (ys : List Instruction) {zs :
     → Split xs i ys zs i′
 apart [] g = split nil g
 apart (y ∷ ys) (at e g) = elim (apart ys g) [ split g₁ g₂ ↦ split (at e g₁) g₂ ]
+
+-- the same of the first of three
+pub apart-first : {xs : List Instruction} {i i′ : ℕ} (ys zs us : List Instruction) → Seg xs i ((ys ++ zs) ++ us) i′
+    → Split xs i ys (zs ++ us) i′
+apart-first {xs} {i} {i′} ys zs us h = apart ys (subst (λ l. Seg xs i l i′) (append-assoc ys zs us) h)
 
 pub seg-length : {xs ys : List Instruction} {i i′ : ℕ} → Seg xs i ys i′ → i′ ≡ i + length ys
 seg-length nil = omega arith

@@ -19,7 +19,7 @@ use Rattle.model.proofs.Cases.{never}
 use Rattle.model.proofs.Quiet.Ways.{Mem}
 use Rattle.model.proofs.Occam.Paths.{l-output}
 use Rattle.model.proofs.Words.Parts.{Part, Target}
-use Rattle.model.proofs.Quiet.Marks.{Own, Ready, Guarded, AltCode, Marked, Disabling}
+use Rattle.model.proofs.Quiet.Marks.{Own, AnyReady, Guarded, AltCode, Marked, Disabling}
 use Rattle.model.proofs.Quiet.Arrivals.{comes}
 use Rattle.model.proofs.Quiet.Onwards.{guarded-fine}
 use Rattle.model.proofs.Invariant.Trees.{Label, Info, Tree, labelled, label-alone}
@@ -42,7 +42,7 @@ module _ (L : Loaded) where
     holds-wait : {path : List ℕ} {gs : Guards} {k : List Frame} {b : Part} {i : Info} {hi at : ℕ} → LeafAt L st t path (atAlt gs k) b i
         → (Out path → ⊥) → member (i .w) ws ≡ false → (a : AltCode (S L) b gs (i .vars) (i .chans) k hi at (i .w + 1))
         → Resumes (S L) b i st μ (at + 2 + sizeEnable gs + 1) hi → μ (stateWord (i .w)) ≡ waiting → μ (i .w) ≡ noneSelected
-        → ((d : Site) → Guarded (st .store) d gs → μ (S L .word d) ≡ i .w) → (Ready st gs → ⊥)
+        → ((d : Site) → Guarded (st .store) d gs → μ (S L .word d) ≡ i .w) → (AnyReady st gs → ⊥)
         → Marked (S L) b st (i .vars) (i .chans) gs μ (i .w) → μ (S L .word c) ≡ i .w → Guarded (st .store) c gs → List·Memᴰ c (b .inputs)
         → Holder st μ t Out ws c
     holds-woken : {path : List ℕ} {gs : Guards} {k : List Frame} {b : Part} {i : Info} {hi at : ℕ} → LeafAt L st t path (atAlt gs k) b i

@@ -9,14 +9,15 @@ use mathlib.Core.List.{List, List·Memᴰ}
 use mathlib.Core.Option.{none}
 use lib.ListN.{length, set}
 use Rattle.model.specs.Word.{low, less, notProcess}
-use Rattle.model.specs.Syntax.{Site, inputOf, Expr, Stmt, ALT, Guards, noGuard, inputGuard, skipGuard}
+use Rattle.model.specs.Syntax.{Site, inputOf, Expr, Stmt, ALT, Guard, inputGuard, skipGuard, Guards, noGuard, guard}
 use Rattle.model.specs.Instruction.{ldc, Instruction, distance, operation}
 use Rattle.model.specs.Instruction as I
 use Rattle.model.specs.Code.{functionIn, operandIn}
-use Rattle.model.specs.Scheme.{size, sizeEnable, codeDisable}
+use Rattle.model.specs.Scheme.{sizeEnable, codeDisable}
 use Rattle.model.specs.Machine.{World, withCpu, withMemory, stack, goto, isHeld, stateWord}
 use Rattle.model.specs.Execute.{ready, noneSelected}
-use Rattle.model.specs.Occam.{Store, eval, isTrue, Frame, Process, before, atAlt, framesOf, begin, State, Sender, chooses}
+use Rattle.model.specs.Occam.{Store, eval, isTrue, Frame, Process, before, atAlt, framesOf, begin, State, Sender, Ready, by-input}
+use Rattle.model.specs.Occam.{by-skip, chooses}
 use Rattle.model.specs.Demand.{liveIn}
 use Rattle.model.proofs.Cases.{never}
 use Rattle.model.proofs.Quiet.Ways.{upd-same, upd-other, upd, regsOf, Mem}
@@ -25,13 +26,13 @@ use Rattle.model.proofs.Quiet.Setting.{Setting, whole, At}
 use Rattle.model.proofs.Quiet.CodeParts.{rises-le}
 use Rattle.model.proofs.Occam.Paths.{Leaf, leaf-begin, live-begin, silent-begin}
 use Rattle.model.proofs.Words.Parts.{Part, Within}
-use Rattle.model.proofs.Quiet.Marks.{Own, Ready, r-input, r-skip, r-past-input, r-past-skip, Picks, p-input, p-skip, p-past-input}
-use Rattle.model.proofs.Quiet.Marks.{p-past-skip, Rest as RestOf, Guarded, g-here, g-past-input, g-past-skip, AltCode, Marked}
+use Rattle.model.proofs.Quiet.Marks.{Own, AnyReady, r-first, r-later, nextBranch, Picks, p-first, p-later, Rest as RestOf, Guarded}
+use Rattle.model.proofs.Quiet.Marks.{g-first, g-later, AltCode, Marked}
 use Rattle.model.proofs.Quiet.Marks.{Enabling}
 use Rattle.model.proofs.Quiet.Marks.{Enables, e-input, e-skip, Disabling, Disables, d-input, d-skip, AltPoint, pt-enable, pt-wait}
 use Rattle.model.proofs.Quiet.Marks.{pt-disable, pt-choose}
 use Rattle.model.proofs.Quiet.Arrivals.{Comes, comes}
-use Rattle.model.proofs.Quiet.Onwards.{alt-goes, picks-choice, rest-picks, rest-past-input, rest-past-skip, disable-way}
+use Rattle.model.proofs.Quiet.Onwards.{alt-goes, picks-choice, rest-picks, rest-past, disable-way}
 use Rattle.model.proofs.Quiet.Onwards.{branch-comes}
 use Rattle.model.proofs.Invariant.Trees.{some-same, Info, Tree, bytesLeft}
 use Rattle.model.proofs.Invariant.Leaves.{Unmarked}
@@ -59,43 +60,33 @@ use Rattle.model.proofs.Steps.Enabling.{is-ours}
 use Rattle.model.proofs.Steps.Enabling.{is-sent, channel-is, unsent, does-enbc, does-enbs, does-altwt}
 
 -- a guarded channel, or a ready guard, that is not the first guard's is one of the rest
-past-guard : {σ : Store} {e : Expr} {d y z : Site} {g : Stmt} {hs : Guards} → Guarded σ d (inputGuard e y z g hs)
+past-guarded : {σ : Store} {e : Expr} {d y z : Site} {g : Stmt} {hs : Guards} → Guarded σ d (guard (inputGuard e y z) g hs)
     → (isTrue σ e ≡ true → d ≡ y → ⊥) → Guarded σ d hs
-past-guard (g-here h) f = absurd (f h refl)
-past-guard (g-past-input h) f = h
+past-guarded (g-first h) f = absurd (f h refl)
+past-guarded (g-later h) f = h
 
-past-skip-guard : {σ : Store} {e : Expr} {d : Site} {g : Stmt} {hs : Guards} → Guarded σ d (skipGuard e g hs) → Guarded σ d hs
-past-skip-guard (g-past-skip h) = h
+past-skip : {σ : Store} {e : Expr} {d : Site} {g : Stmt} {hs : Guards} → Guarded σ d (guard (skipGuard e) g hs) → Guarded σ d hs
+past-skip (g-later h) = h
 
-past-ready : {st : State} {e : Expr} {y z : Site} {g : Stmt} {hs : Guards} → Ready st (inputGuard e y z g hs)
-    → (isTrue (st .store) e ≡ true → Sender st y → ⊥) → Ready st hs
-past-ready (r-input h sd) f = absurd (f h sd)
-past-ready (r-past-input h) f = h
-
-past-skip-ready : {st : State} {e : Expr} {g : Stmt} {hs : Guards} → Ready st (skipGuard e g hs) → (isTrue (st .store) e ≡ true → ⊥)
-    → Ready st hs
-past-skip-ready (r-skip h) f = absurd (f h)
-past-skip-ready (r-past-skip h) f = h
+past-ready : {st : State} {g : Guard} {s : Stmt} {hs : Guards} → AnyReady st (guard g s hs) → (Ready st g → ⊥) → AnyReady st hs
+past-ready (r-first r) f = absurd (f r)
+past-ready (r-later h) f = h
 
 -- no guard is left
 unguarded : {σ : Store} {d : Site} → Guarded σ d noGuard → ⊥
 unguarded h = elim h [ ]
 
-unready : {st : State} → Ready st noGuard → ⊥
+unready : {st : State} → AnyReady st noGuard → ⊥
 unready h = elim h [ ]
 
 -- a picked branch is not before the first, and begins a statement
 picks-behind : {st : State} {k : List Frame} {gs : Guards} {b m : ℕ} {p : Process} → Picks st k gs b m p → b ≤ m
-picks-behind (p-input h sd) = omega arith
-picks-behind (p-skip h) = omega arith
-picks-behind (p-past-input h) = omega (arith, picks-behind h)
-picks-behind (p-past-skip h) = omega (arith, picks-behind h)
+picks-behind (p-first r) = omega arith
+picks-behind (p-later h) = omega (arith, picks-behind h)
 
 picks-begins : {st : State} {k : List Frame} {gs : Guards} {b m : ℕ} {p : Process} → Picks st k gs b m p → (g : Stmt) × (p ≡ begin g k)
-picks-begins (p-input h sd) = (_, refl)
-picks-begins (p-skip h) = (_, refl)
-picks-begins (p-past-input h) = picks-begins h
-picks-begins (p-past-skip h) = picks-begins h
+picks-begins (p-first r) = (_, refl)
+picks-begins (p-later h) = picks-begins h
 
 -- a process is led on from a place in the code, or from its end
 comes-inside : (S : Setting) (a : Part) {σ : Store} {vars chans : List Site} {hi : ℕ} {p : Process} {m w : ℕ}
@@ -117,7 +108,8 @@ module _ (L : Loaded) {s : World} {st : State} {μ : Mem} {t : Tree (S L) (root 
 
   abbrev Chosen : Guards → Mem → Type 0
   Chosen hs ν =
-      ((m : ℕ) × (p : Process) × Picks st k gs (c .choice + 1) m p × (ν (space s) ≡ far m)) ⊎ ((ν (space s) ≡ noneSelected) × Ready st hs)
+      ((m : ℕ) × (p : Process) × Picks st k gs (c .choice + 1) m p × (ν (space s) ≡ far m))
+      ⊎ ((ν (space s) ≡ noneSelected) × AnyReady st hs)
 
   abbrev Marks : Guards → Mem → Type 0
   Marks hs ν = Marked (S L) b st (i .vars) (i .chans) hs ν (space s)
@@ -156,14 +148,15 @@ module _ (L : Loaded) {s : World} {st : State} {μ : Mem} {t : Tree (S L) (root 
 
   -- DISC of a guard
   module _ (e : Expr) (y z : Site) (g : Stmt) (hs : Guards) {m : ℕ} (near : hi₀ ≤ hi)
-      (past : RestOf gs (c .choice + 1) (inputGuard e y z g hs) m) (n : Disabled (inputGuard e y z g hs) μ)
+      (past : RestOf gs (c .choice + 1) (guard (inputGuard e y z) g hs) m) (n : Disabled (guard (inputGuard e y z) g hs) μ)
       (branch : cpuOf s .a ≡ far m) (val : cpuOf s .b ≡ eval (st .store) e) (chan : cpuOf s .c ≡ S L .word y)
-      (code : Seg (S L .xs) (suc at) (codeDisable (S L .word) (space s) (c .choice) (m + 1 + 4 + size g + 1) hs) (c .choice)) where
+      (code : Seg (S L .xs) (suc at) (codeDisable (S L .word) (space s) (c .choice) (nextBranch m (inputGuard e y z) g) hs)
+      (c .choice)) where
     mine : List·Memᴰ y (i .chans)
-    mine = fine-rest L A c past .2
+    mine = fine-rest L A c past .1 .1
 
     inputs : List·Memᴰ y (b .inputs)
-    inputs = fine-rest L A c past .3
+    inputs = fine-rest L A c past .1 .2
 
     -- a memory in which the channel's word is emptied
     abbrev emptied : Mem → Mem
@@ -177,7 +170,7 @@ module _ (L : Loaded) {s : World} {st : State} {μ : Mem} {t : Tree (S L) (root 
     marks-past ν f d l o =
         let (same, other) = f d l o in
         let (own, h) = n .marks d l (subst (Own b) same o) in
-        (same ∙ own, past-guard h other)
+        (same ∙ own, past-guarded h other)
 
     marks-kept : (ν : Mem) → Kept ν → (isTrue (st .store) e ≡ true → Own b (μ (S L .word y)) → ⊥) → Marks hs ν
     marks-kept ν same no-own =
@@ -195,13 +188,14 @@ module _ (L : Loaded) {s : World} {st : State} {μ : Mem} {t : Tree (S L) (root 
     -- this guard was not ready; one was chosen before; this guard is chosen
     chosen-past : (ν : Mem) → ν (space s) ≡ μ (space s) → (isTrue (st .store) e ≡ true → Sender st y → ⊥) → Chosen hs ν
     chosen-past ν same f =
-        ⊎-elim (λ h. let (l, p, q, d) = h in inl (l, p, q, same ∙ d)) (λ h. inr (same ∙ h .0, past-ready (h .1) f)) (n .chosen)
+        ⊎-elim (λ h. let (l, p, q, d) = h in inl (l, p, q, same ∙ d))
+        (λ h. inr (same ∙ h .0, past-ready (h .1) (λ r. elim r [ by-input e s ↦ f e s ]))) (n .chosen)
 
     chosen-before : (ν : Mem) → ν (space s) ≡ μ (space s) → μ (space s) ≢ noneSelected → Chosen hs ν
     chosen-before ν same f = ⊎-elim (λ h. let (l, p, q, d) = h in inl (l, p, q, same ∙ d)) (λ h. absurd (f (h .0))) (n .chosen)
 
     chosen-now : (ν : Mem) → ν (space s) ≡ far m → isTrue (st .store) e ≡ true → Sender st y → Chosen hs ν
-    chosen-now ν f h sd = inl (m, _, rest-picks past (p-input h sd), f)
+    chosen-now ν f h sd = inl (m, _, rest-picks past (p-first (by-input h sd)), f)
 
     -- a channel's word is not the one for the choice
     base-off : (ν : Mem) → emptied ν (space s) ≡ ν (space s)
@@ -216,7 +210,7 @@ module _ (L : Loaded) {s : World} {st : State} {μ : Mem} {t : Tree (S L) (root 
     disc-on : (a : ℕ) {l : List ℕ} (ν : Mem) → Executes L (operation I.disc) s (disabled a (withMemory l s)) → Shows L A c l ν → Marks hs ν
         → IsReady ν → Chosen hs ν → Goal (operation I.disc)
     disc-on a ν ran m marks state chosen =
-        disables-on hs near (rest-past-input past) code a (cpuOf s .b) (cpuOf s .c) ν ran m marks state chosen
+        disables-on hs near (rest-past past) code a (cpuOf s .b) (cpuOf s .c) ν ran m marks state chosen
 
     disc-off : cpuOf s .b ≡ 0 → Goal (operation I.disc)
     unfolding functionIn operandIn
@@ -314,26 +308,26 @@ module _ (L : Loaded) {s : World} {st : State} {μ : Mem} {t : Tree (S L) (root 
               (ℕ-discrete (μ (space s)) noneSelected)
 
   -- DISS of a guard
-  module _ (e : Expr) (g : Stmt) (hs : Guards) {m : ℕ} (near : hi₀ ≤ hi) (past : RestOf gs (c .choice + 1) (skipGuard e g hs) m)
-      (n : Disabled (skipGuard e g hs) μ) (branch : cpuOf s .a ≡ far m) (val : cpuOf s .b ≡ eval (st .store) e)
-      (code : Seg (S L .xs) (suc at) (codeDisable (S L .word) (space s) (c .choice) (m + 1 + size g + 1) hs) (c .choice)) where
+  module _ (e : Expr) (g : Stmt) (hs : Guards) {m : ℕ} (near : hi₀ ≤ hi) (past : RestOf gs (c .choice + 1) (guard (skipGuard e) g hs) m)
+      (n : Disabled (guard (skipGuard e) g hs) μ) (branch : cpuOf s .a ≡ far m) (val : cpuOf s .b ≡ eval (st .store) e)
+      (code : Seg (S L .xs) (suc at) (codeDisable (S L .word) (space s) (c .choice) (nextBranch m (skipGuard e) g) hs) (c .choice)) where
     -- the marks are those of the rest
     skip-marks : (ν : Mem) → Kept ν → Marks hs ν
     skip-marks ν same d l o =
-        let (own, h) = n .marks d l (subst (Own b) (same d l) o) in (same d l ∙ own, past-skip-guard h)
+        let (own, h) = n .marks d l (subst (Own b) (same d l) o) in (same d l ∙ own, past-skip h)
 
     -- on to the next guard
     diss-on : (a : ℕ) {l : List ℕ} (ν : Mem) → Executes L (operation I.diss) s (unskipped a (withMemory l s)) → Shows L A c l ν → Kept ν
         → IsReady ν → Chosen hs ν → Goal (operation I.diss)
     diss-on a ν ran m same state chosen =
-        disables-on hs near (rest-past-skip past) code a (cpuOf s .c) (cpuOf s .c) ν ran m (skip-marks ν same) state chosen
+        disables-on hs near (rest-past past) code a (cpuOf s .c) (cpuOf s .c) ν ran m (skip-marks ν same) state chosen
 
     diss-off : cpuOf s .b ≡ 0 → Goal (operation I.diss)
     unfolding functionIn operandIn
     diss-off f =
         let off = false-when (st .store) e (cpuOf s .b) val f in
         diss-on 0 μ (executes (exec-diss-off s f)) (shown L A c) (λ d l. refl) (n .state)
-        (⊎-elim (λ h. inl h) (λ h. inr (h .0, past-skip-ready (h .1) (λ x. never (cc (x, off))))) (n .chosen))
+        (⊎-elim (λ h. inl h) (λ h. inr (h .0, past-ready (h .1) (λ r. elim r [ by-skip x ↦ never (cc (x, off)) ]))) (n .chosen))
 
     diss-true : cpuOf s .b ≢ 0 → Dec (μ (space s) ≡ noneSelected) → Goal (operation I.diss)
     unfolding functionIn operandIn
@@ -342,7 +336,7 @@ module _ (L : Loaded) {s : World} {st : State} {μ : Mem} {t : Tree (S L) (root 
         (executes
         (exec-diss-first (far m) (space s) s branch on refl (mine-size L A c (base-mine L A c)) (mine-holds L A c (base-mine L A c) f)))
         (chooses-it m) (kept-choosing m) (ready-choosing m (n .state))
-        (inl (m, _, rest-picks past (p-skip (true-when (st .store) e (cpuOf s .b) val on)), upd-same μ (space s) (far m)))
+        (inl (m, _, rest-picks past (p-first (by-skip (true-when (st .store) e (cpuOf s .b) val on))), upd-same μ (space s) (far m)))
     diss-true on (no f) =
         diss-on 0 μ
         (executes

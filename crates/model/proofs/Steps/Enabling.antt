@@ -10,7 +10,7 @@ use mathlib.Core.Option.{Option, none, some}
 use lib.ListN.{getD, set}
 use borrow.Author.Tests.{eq-eqb, ne-eqb}
 use Rattle.model.specs.Word.{notProcess}
-use Rattle.model.specs.Syntax.{Site, inputOf, Expr, Stmt, ALT, Guards, noGuard, inputGuard, skipGuard}
+use Rattle.model.specs.Syntax.{Site, inputOf, Expr, Stmt, ALT, Guard, inputGuard, skipGuard, Guards, noGuard, guard}
 use Rattle.model.specs.Instruction.{Instruction, operation}
 use Rattle.model.specs.Instruction as I
 use Rattle.model.specs.Code.{functionIn, operandIn}
@@ -18,7 +18,7 @@ use Rattle.model.specs.Scheme.{sizeEnable, codeEnable}
 use Rattle.model.specs.Machine.{World, withCpu, withMemory, stack, resumeWord, stateWord, isHeld}
 use Rattle.model.specs.Execute.{enabling, waiting, ready, noneSelected}
 use Rattle.model.specs.Occam.{Store, eval, isTrue, Frame, Process, before, atAlt, look, State, Sender, process, outside}
-use Rattle.model.specs.Occam.{Step, begins, go}
+use Rattle.model.specs.Occam.{by-input, by-skip, Step, begins, go}
 use Rattle.model.specs.Demand.{step}
 use Rattle.model.proofs.Cases.{never}
 use Rattle.model.proofs.Quiet.Ways.{upd-same, upd-other, upd, regsOf, Mem}
@@ -28,12 +28,11 @@ use Rattle.model.proofs.Quiet.CodeParts.{rises-le}
 use Rattle.model.proofs.Occam.Paths.{l-alt, same-path}
 use Rattle.model.proofs.Words.Parts.{Part, FineGuards}
 use Rattle.model.proofs.Quiet.Continuations.{Placed, placed-down, cont-placed, cont-low}
-use Rattle.model.proofs.Quiet.Marks.{Own, Ready, r-input, r-skip, Rest as RestOf, rest-all, Noticed, n-none, n-input, n-skip}
+use Rattle.model.proofs.Quiet.Marks.{Own, AnyReady, r-first, Rest as RestOf, rest-all, Unready, Noticed, n-none, n-later}
 use Rattle.model.proofs.Quiet.Marks.{Guarded}
-use Rattle.model.proofs.Quiet.Marks.{g-here, AltCode, Marked, Enabling, Disabling}
-use Rattle.model.proofs.Quiet.Onwards.{AltGoes, alt-goes, rest-past-input, rest-past-skip, rest-ready, rest-guarded, rest-fine}
-use Rattle.model.proofs.Quiet.Onwards.{noticed-past-input}
-use Rattle.model.proofs.Quiet.Onwards.{noticed-past-skip, noticed-unready, noticed-marked, enable-way, enable-first, disable-first}
+use Rattle.model.proofs.Quiet.Marks.{g-first, AltCode, Marked, Enabling, Disabling}
+use Rattle.model.proofs.Quiet.Onwards.{AltGoes, alt-goes, rest-past, rest-ready, rest-guarded, rest-fine, noticed-past}
+use Rattle.model.proofs.Quiet.Onwards.{noticed-unready, noticed-marked, enable-way, enable-first, disable-first}
 use Rattle.model.proofs.Invariant.Trees.{Info, Sits, Tree, bytesLeft, part-inside}
 use Rattle.model.proofs.Invariant.Leaves.{Unmarked, Held, h-wait}
 use Rattle.model.proofs.Invariant.Stays.{Intact, noticed-stays, marked-stays, ready-stays}
@@ -73,11 +72,15 @@ pub offer-sends : {st : State} {y : Site} {n v : ℕ} → y ≡ inputOf n → st
 offer-sends {st} e o = subst (Sender st) (sym e) (outside o)
 
 -- guards stay noticed where their marks stay
+unready-more : (st : State) (word : Site → ℕ) (μ ν : Mem) {w : ℕ} → ((d : Site) → μ (word d) ≡ w → ν (word d) ≡ w) → (g : Guard)
+    → Unready st word μ w g → Unready st word ν w g
+unready-more st word μ ν f (inputGuard e c x) u = λ z. (f c (u z .0), u z .1)
+unready-more st word μ ν f (skipGuard e) u = u
+
 noticed-more : {st : State} (word : Site → ℕ) (μ ν : Mem) {w : ℕ} {gs hs : Guards} → ((d : Site) → μ (word d) ≡ w → ν (word d) ≡ w)
     → Noticed st word μ w gs hs → Noticed st word ν w gs hs
 noticed-more word μ ν f n-none = n-none
-noticed-more word μ ν f (n-input {c} g n) = n-input (λ z. (f c (g z .0), g z .1)) (noticed-more word μ ν f n)
-noticed-more word μ ν f (n-skip g n) = n-skip g (noticed-more word μ ν f n)
+noticed-more {st} word μ ν f (n-later {g} u n) = n-later (unready-more st word μ ν f g u) (noticed-more word μ ν f n)
 
 -- the workspace of the process that has the processor
 abbrev pub space : World → ℕ
@@ -337,7 +340,7 @@ module _ (L : Loaded) {s : World} {st : State} {μ : Mem} {t : Tree (S L) (root 
 
     -- the state becomes Ready
     turns-ready : Executes L x s (withCpu (stack f g h (cpuOf s)) (stored state-word ready s)) → (m : ℕ) × RestOf gs 0 hs m → Marks μ
-        → Ready st gs → Goal x
+        → AnyReady st gs → Goal x
     turns-ready ran rest marks now =
         enables-on ran (state-write ready)
         (record {
@@ -347,17 +350,17 @@ module _ (L : Loaded) {s : World} {st : State} {μ : Mem} {t : Tree (S L) (root 
         })
 
   -- ENBC of a guard
-  module _ (e : Expr) (y z : Site) (g : Stmt) (hs : Guards) (near : hi₀ ≤ hi) (n : Enabled (inputGuard e y z g hs) μ)
+  module _ (e : Expr) (y z : Site) (g : Stmt) (hs : Guards) (near : hi₀ ≤ hi) (n : Enabled (guard (inputGuard e y z) g hs) μ)
       (val : cpuOf s .a ≡ eval (st .store) e) (chan : cpuOf s .b ≡ S L .word y)
       (code : Seg (S L .xs) (suc at) (codeEnable (S L .word) (space s) hs) (i₀ + 2 + sizeEnable gs)) where
     mine : List·Memᴰ y (i .chans)
-    mine = fine-rest L A c (n .rest .1) .2
+    mine = fine-rest L A c (n .rest .1) .1 .1
 
     inputs : List·Memᴰ y (b .inputs)
-    inputs = fine-rest L A c (n .rest .1) .3
+    inputs = fine-rest L A c (n .rest .1) .1 .2
 
     past : (m : ℕ) × RestOf gs 0 hs m
-    past = (_, rest-past-input (n .rest .1))
+    past = (_, rest-past (n .rest .1))
 
     -- nothing changes
     passes : Executes L (operation I.enbc) s (enabled s)
@@ -367,7 +370,7 @@ module _ (L : Loaded) {s : World} {st : State} {μ : Mem} {t : Tree (S L) (root 
         (record {
           rest = past;
           marks = n .marks;
-          state = ⊎-elim (λ m. inl (m .0, noticed-past-input (m .1) f)) (λ m. inr m) (n .state);
+          state = ⊎-elim (λ m. inl (m .0, noticed-past (inputGuard e y z) (m .1) f)) (λ m. inr m) (n .state);
         })
 
     enbc-off : cpuOf s .a ≡ 0 → Goal (operation I.enbc)
@@ -379,7 +382,7 @@ module _ (L : Loaded) {s : World} {st : State} {μ : Mem} {t : Tree (S L) (root 
         → Goal (operation I.enbc)
     enbc-ready a sd ran =
         turns-ready hs near code (cpuOf s .a) (cpuOf s .c) (cpuOf s .c) ran past (n .marks)
-        (rest-ready (n .rest .1) (r-input (true-when (st .store) e (cpuOf s .a) val a) sd))
+        (rest-ready (n .rest .1) (r-first (by-input (true-when (st .store) e (cpuOf s .a) val a) sd)))
 
     -- no offer is held
     module _ (a : cpuOf s .a ≢ 0) (free : isHeld (S L .word y) (s .machine) ≡ false)
@@ -404,7 +407,7 @@ module _ (L : Loaded) {s : World} {st : State} {μ : Mem} {t : Tree (S L) (root 
           by : Dec (S L .word d ≡ S L .word y) → (marked (S L .word d) ≡ space s) × Guarded (st .store) d gs
           by (yes h) =
               let same : d ≡ y = placed L A c .scoped .chans-distinct d y m mine h in
-              let it : Guarded (st .store) y gs = rest-guarded (n .rest .1) (g-here (true-when (st .store) e (cpuOf s .a) val a)) in
+              let it : Guarded (st .store) y gs = rest-guarded (n .rest .1) (g-first (true-when (st .store) e (cpuOf s .a) val a)) in
               (mark-here d h, subst (λ v. Guarded (st .store) v gs) (sym same) it)
           by (no h) =
               let old = upd-other μ (S L .word y) (space s) (S L .word d) h in
@@ -420,7 +423,7 @@ module _ (L : Loaded) {s : World} {st : State} {μ : Mem} {t : Tree (S L) (root 
             rest = past;
             marks = new-marks;
             state = ⊎-elim
-                (λ m. inl (off ∙ m .0, noticed-past-input (noticed-more (S L .word) μ marked mark-stays (m .1)) (λ h. it)))
+                (λ m. inl (off ∙ m .0, noticed-past (inputGuard e y z) (noticed-more (S L .word) μ marked mark-stays (m .1)) (λ h. it)))
                 (λ m. inr (off ∙ m .0, m .1)) (n .state);
           }
 
@@ -457,11 +460,11 @@ module _ (L : Loaded) {s : World} {st : State} {μ : Mem} {t : Tree (S L) (root 
         by (no a) = enbc-on a (held-here L (A .real) (node L (A .leaf)) y mine)
 
   -- ENBS of a guard
-  module _ (e : Expr) (g : Stmt) (hs : Guards) (near : hi₀ ≤ hi) (n : Enabled (skipGuard e g hs) μ)
+  module _ (e : Expr) (g : Stmt) (hs : Guards) (near : hi₀ ≤ hi) (n : Enabled (guard (skipGuard e) g hs) μ)
       (val : cpuOf s .a ≡ eval (st .store) e)
       (code : Seg (S L .xs) (suc at) (codeEnable (S L .word) (space s) hs) (i₀ + 2 + sizeEnable gs)) where
     past-skip : (m : ℕ) × RestOf gs 0 hs m
-    past-skip = (_, rest-past-skip (n .rest .1))
+    past-skip = (_, rest-past (n .rest .1))
 
     enbs-off : cpuOf s .a ≡ 0 → Goal (operation I.enbs)
     unfolding functionIn operandIn
@@ -470,14 +473,15 @@ module _ (L : Loaded) {s : World} {st : State} {μ : Mem} {t : Tree (S L) (root 
         (record {
           rest = past-skip;
           marks = n .marks;
-          state = ⊎-elim (λ m. inl (m .0, noticed-past-skip (m .1) (false-when (st .store) e (cpuOf s .a) val a))) (λ m. inr m) (n .state);
+          state = ⊎-elim (λ m. inl (m .0, noticed-past (skipGuard e) (m .1) (false-when (st .store) e (cpuOf s .a) val a)))
+              (λ m. inr m) (n .state);
         })
 
     enbs-on : cpuOf s .a ≢ 0 → Goal (operation I.enbs)
     unfolding functionIn operandIn
     enbs-on a =
         turns-ready hs near code (cpuOf s .a) (cpuOf s .b) (cpuOf s .c) (executes (exec-enbs (space s) s a refl state-size)) past-skip
-        (n .marks) (rest-ready (n .rest .1) (r-skip (true-when (st .store) e (cpuOf s .a) val a)))
+        (n .marks) (rest-ready (n .rest .1) (r-first (by-skip (true-when (st .store) e (cpuOf s .a) val a))))
 
     pub does-enbs : Goal (operation I.enbs)
     does-enbs = by (ℕ-discrete (cpuOf s .a) 0)
@@ -542,7 +546,7 @@ module _ (L : Loaded) {s : World} {st : State} {μ : Mem} {t : Tree (S L) (root 
     marks₁ = own-marked L A c μ (space s) noneSelected (base-mine L A c) marks
 
     -- it is Ready: the disabling begins
-    module _ (set-ready : μ state-word ≡ ready) (now : Ready st gs) where
+    module _ (set-ready : μ state-word ≡ ready) (now : AnyReady st gs) where
       disabling : Disabling (S L) b then-at (i .vars) (i .chans) k gs gs (c .choice) μ₁ (space s)
       disabling =
           record {

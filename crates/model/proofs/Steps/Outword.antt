@@ -8,13 +8,13 @@ use mathlib.Core.Bool.{true, false}
 use mathlib.Core.List.{List, [], _∷_, _++_, List·Memᴰ}
 use borrow.Author.Tests.{ne-eqb}
 use Rattle.model.specs.Word.{notProcess}
-use Rattle.model.specs.Syntax.{Site, Expr, Guards, output}
+use Rattle.model.specs.Syntax.{Site, Expr, Guard, Guards, output}
 use Rattle.model.specs.Instruction.{plain, operation}
 use Rattle.model.specs.Instruction as I
 use Rattle.model.specs.Code.{functionIn, operandIn}
 use Rattle.model.specs.Machine.{World, release, _>>_, resumeWord, stateWord}
 use Rattle.model.specs.Occam.{eval, isTrue, store, Frame, Process, before, atInput, atOutput, atAlt, resume, go, put, State}
-use Rattle.model.specs.Occam.{over-channel, Sender, process, Step, begins, communicates}
+use Rattle.model.specs.Occam.{over-channel, Sender, process, Ready, by-input, by-skip, Step, begins, communicates}
 use Rattle.model.specs.Demand.{step}
 use Rattle.model.proofs.Cases.{never}
 use Rattle.model.proofs.Quiet.Ways.{upd-same, upd-other, upd, Mem}
@@ -25,8 +25,7 @@ use Rattle.model.proofs.Occam.Paths.{put-put-same}
 use Rattle.model.proofs.Occam.Paths.{Apart, apart-sym as path-apart-sym, leaves-apart, look-put-other, put-put-apart}
 use Rattle.model.proofs.Words.Parts.{Part, Target, Fine}
 use Rattle.model.proofs.Quiet.Continuations.{Placed, Cont, c-up, cont-low, cont-placed}
-use Rattle.model.proofs.Quiet.Marks.{Own, Ready, r-input, r-skip, r-past-input, r-past-skip, Picks, p-input, p-skip, p-past-input}
-use Rattle.model.proofs.Quiet.Marks.{p-past-skip, Guarded, AltCode, Marked, Disabling}
+use Rattle.model.proofs.Quiet.Marks.{Own, AnyReady, r-first, r-later, Picks, p-first, p-later, Guarded, AltCode, Marked, Disabling}
 use Rattle.model.proofs.Quiet.Arrivals.{arrives}
 use Rattle.model.proofs.Invariant.Trees.{alone, Info, Sits, Tree, bytesLeft}
 use Rattle.model.proofs.Invariant.Leaves.{member, Unmarked, Resumes, Waits, Held, h-output, h-woken}
@@ -56,19 +55,19 @@ use Rattle.model.specs.Scheme.{sizeEnable}
 use Rattle.model.proofs.Invariant.Zones.{zoneOf, Distant}
 
 -- what is ready or picked stays so where no sender goes
+ready-in : {st st′ : State} → ((c : Site) → Sender st c → Sender st′ c) → {g : Guard} → st .store ≡ st′ .store → Ready st g → Ready st′ g
+ready-in h q (by-input {e} t s) = by-input {e = e} (subst (λ σ. isTrue σ e ≡ true) q t) (h _ s)
+ready-in h q (by-skip {e} t) = by-skip {e = e} (subst (λ σ. isTrue σ e ≡ true) q t)
+
 pub ready-more : {st st′ : State} → ((c : Site) → Sender st c → Sender st′ c) → {gs : Guards} → st .store ≡ st′ .store
-    → Ready st gs → Ready st′ gs
-ready-more h q (r-input {e} t g) = r-input {e = e} (subst (λ σ. isTrue σ e ≡ true) q t) (h _ g)
-ready-more h q (r-skip {e} t) = r-skip {e = e} (subst (λ σ. isTrue σ e ≡ true) q t)
-ready-more h q (r-past-input g) = r-past-input (ready-more h q g)
-ready-more h q (r-past-skip g) = r-past-skip (ready-more h q g)
+    → AnyReady st gs → AnyReady st′ gs
+ready-more h q (r-first r) = r-first (ready-in h q r)
+ready-more h q (r-later g) = r-later (ready-more h q g)
 
 pub picks-more : {st st′ : State} {k : List Frame} → ((c : Site) → Sender st c → Sender st′ c) → {gs : Guards} {b t : ℕ} {p : Process}
     → st .store ≡ st′ .store → Picks st k gs b t p → Picks st′ k gs b t p
-picks-more h q (p-input {e} t g) = p-input {e = e} (subst (λ σ. isTrue σ e ≡ true) q t) (h _ g)
-picks-more h q (p-skip {e} t) = p-skip {e = e} (subst (λ σ. isTrue σ e ≡ true) q t)
-picks-more h q (p-past-input g) = p-past-input (picks-more h q g)
-picks-more h q (p-past-skip g) = p-past-skip (picks-more h q g)
+picks-more h q (p-first r) = p-first (ready-in h q r)
+picks-more h q (p-later g) = p-later (picks-more h q g)
 
 -- a word of memory is no ALT state
 pub no-alt-state : (v : ℕ) → v ≤ 4096 → isAltState v ≡ false

@@ -114,15 +114,14 @@ module _ (scope : Scope) (inner : Inner) (expr : Tells (inner .expr)) (body : (s
   unfolding readPair
   of-readPair = bind expr (λ e. bind (body scope) (λ s. gives _))
 
-  of-guardOf : (k : GuardKind) → Tells (guardOf scope inner k)
+  of-guardOf : (k : GuardKind) → Tells (guardOf scope (inner .expr) k)
   unfolding guardOf
-  of-guardOf isInputGuard =
-      bind expr (λ e. bind (of-readName canInput _) (λ c. bind of-variable (λ x. bind (body scope) (λ s. gives _))))
-  of-guardOf isSkipGuard = bind expr (λ e. bind (body scope) (λ s. gives _))
+  of-guardOf isInputGuard = bind expr (λ e. bind (of-readName canInput _) (λ c. bind of-variable (λ x. gives _)))
+  of-guardOf isSkipGuard = bind expr (λ e. gives _)
 
   of-readGuard : Tells (readGuard scope inner)
   unfolding readGuard
-  of-readGuard = bind (of-oneOf _) of-guardOf
+  of-readGuard = bind (of-oneOf _) (λ k. bind (of-guardOf k) (λ g. bind (body scope) (λ s. gives _)))
 
   of-stmtOf : (p : ℕ) (k : StmtKind) → Tells (stmtOf p scope inner k)
   unfolding stmtOf

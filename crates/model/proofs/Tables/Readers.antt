@@ -9,7 +9,7 @@ use lib.ListN.{length, getElem?, length-drop}
 use lib.Dec.{leb, ltb, eqb}
 use borrow.Author.Tests.{leb-true, ltb-true}
 use Rattle.model.specs.Number.{Number, groups, number}
-use Rattle.model.specs.Syntax.{Site, Expr, Stmt, Stmts, noStmt, stmt, Pairs, Guards, Program}
+use Rattle.model.specs.Syntax.{Site, Expr, Stmt, Stmts, noStmt, stmt, Pairs, Guard, Guards, Program}
 use Rattle.model.specs.Reader.{Parsed, parsed, fails, Reader, onward, pure, refuse, readNumber, oneOf, readCount, Scope, readName}
 use Rattle.model.specs.Reader.{canInput, canOutput, anySite, withVariables, withChannels, ExprKind, isConstant, isVariable, isNot}
 use Rattle.model.specs.Reader.{isBinary, exprKinds, operators, tooDeep, exprOf, readExpr, readMany, StmtKind, isSkip}
@@ -18,7 +18,7 @@ use Rattle.model.specs.Reader.{GuardKind, isInputGuard, isSkipGuard, gua
 use Rattle.model.specs.Reader.{readStmt, readProgram, program, readTable}
 use Rattle.model.specs.Scheme.{howMany}
 use Rattle.model.proofs.Cases.{by-bool, by-option, by-parsed, never, is-true}
-use Rattle.model.proofs.Tables.WellFormed.{WellExpr, Well, WellAll, WellPairs, WellGuards, WellProgram, Placed, PlacedAll}
+use Rattle.model.proofs.Tables.WellFormed.{WellExpr, Well, WellAll, WellPairs, WellGuard, WellGuards, WellProgram, Placed, PlacedAll}
 use Rattle.model.proofs.Tables.WellFormed.{PlacedPairs}
 use Rattle.model.proofs.Tables.WellFormed.{PlacedGuards}
 
@@ -199,20 +199,18 @@ module _ {end : ℕ} {sc : Scope} {inner : Inner} (i : InnerSound end sc inner) 
       next (i .whole at) λ at₁ e le₁ ge. next (i .body sc at₁) λ mid s le₂ gs.
       done λ to ps h. ((ge, gs .0, h .0), λ lo l. (mid, gs .1 lo (omega arith), h .1 mid (omega arith)))
 
-  guard-of : (k : GuardKind) (at : ℕ) → Sound end (Guards → Guards) at (Extends (ReadGuards sc) at) (guardOf sc inner k at)
+  guard-of : (k : GuardKind) (at : ℕ) → Sound end Guard at (λ to g. WellGuard sc g) (guardOf sc (inner .expr) k at)
   unfolding guardOf
   guard-of isInputGuard at =
       next (i .whole at) λ at₁ e le₁ ge. next (name-reads canInput (sc .channels) at₁) λ at₂ c le₂ gc.
-      next (variable-reads sc at₂) λ at₃ x le₃ gx. next (i .body sc at₃) λ mid s le₄ gs.
-      done λ to ps h. ((ge, gc, gx, gs .0, h .0), λ lo l. (mid, gs .1 lo (omega arith), h .1 mid (omega arith)))
-  guard-of isSkipGuard at =
-      next (i .whole at) λ at₁ e le₁ ge. next (i .body sc at₁) λ mid s le₂ gs.
-      done λ to ps h. ((ge, gs .0, h .0), λ lo l. (mid, gs .1 lo (omega arith), h .1 mid (omega arith)))
+      next (variable-reads sc at₂) λ at₃ x le₃ gx. done (ge, gc, gx)
+  guard-of isSkipGuard at = next (i .whole at) λ at₁ e le₁ ge. done ge
 
   guard-reads : (at : ℕ) → Sound end (Guards → Guards) at (Extends (ReadGuards sc) at) (readGuard sc inner at)
   unfolding readGuard
-  guard-reads at = next (one-reads guardKinds at) λ at₁ k le₁ gk.
-      relaxed (λ mid f le₂ g to gs h. (g to gs h .0, λ lo l. g to gs h .1 lo (omega arith))) (guard-of k at₁)
+  guard-reads at =
+      next (one-reads guardKinds at) λ at₁ k le₁ gk. next (guard-of k at₁) λ at₂ g le₂ gg. next (i .body sc at₂) λ mid s le₃ gs.
+      done λ to l h. ((gg, gs .0, h .0), λ lo le. (mid, gs .1 lo (omega arith), h .1 mid (omega arith)))
 
   -- what follows the kind of a statement at p
   stmt-of : (p at : ℕ) → p < at → (k : StmtKind) → Sound end Stmt at (ReadStmt sc p) (stmtOf p sc inner k at)

@@ -5,7 +5,7 @@ use mathlib.Core.Bool.{true}
 use mathlib.Core.List.{[], _++_, List·Memᴰ}
 use Rattle.model.specs.Syntax.{Site, inputOf, outputOf, Expr, constant, variable, NOT, binary, Stmt, SKIP, STOP, assign, input}
 use Rattle.model.specs.Syntax.{output, VAR, CHAN, SEQ, PAR, IF, WHILE, ALT, Stmts, noStmt, stmt, Pairs, noPair, pair, Guards, noGuard}
-use Rattle.model.specs.Syntax.{inputGuard, skipGuard, Program}
+use Rattle.model.specs.Syntax.{Guard, inputGuard, skipGuard, guard, Program}
 use Rattle.model.specs.Reader.{Scope, canInput, canOutput, withVariables, withChannels, numbered}
 use Rattle.model.specs.Counts.{need}
 use Rattle.model.specs.Scheme.{howMany}
@@ -21,6 +21,10 @@ Inputs sc c = List·Memᴰ c (sc .channels) × (canInput c ≡ true)
 
 abbrev pub Outputs : Scope → Site → Type 0
 Outputs sc c = List·Memᴰ c (sc .channels) × (canOutput c ≡ true)
+
+abbrev pub WellGuard : Scope → Guard → Type 0
+WellGuard sc (inputGuard e c x) = WellExpr sc e × Inputs sc c × List·Memᴰ x (sc .variables)
+WellGuard sc (skipGuard e) = WellExpr sc e
 
 abbrev mutual
   pub Well : Scope → Stmt → Type 0
@@ -47,8 +51,7 @@ abbrev mutual
 
   pub WellGuards : Scope → Guards → Type 0
   WellGuards sc noGuard = Unit {0}
-  WellGuards sc (inputGuard e c x s gs) = WellExpr sc e × Inputs sc c × List·Memᴰ x (sc .variables) × Well sc s × WellGuards sc gs
-  WellGuards sc (skipGuard e s gs) = WellExpr sc e × Well sc s × WellGuards sc gs
+  WellGuards sc (guard g s gs) = WellGuard sc g × Well sc s × WellGuards sc gs
 
 -- the names in scope of a whole program
 abbrev pub outermost : Program → Scope
@@ -83,8 +86,7 @@ abbrev mutual
 
   pub PlacedGuards : (lo hi : ℕ) → Guards → Type 0
   PlacedGuards lo hi noGuard = lo ≤ hi
-  PlacedGuards lo hi (inputGuard e c x s gs) = (mid : ℕ) × Placed lo mid s × PlacedGuards mid hi gs
-  PlacedGuards lo hi (skipGuard e s gs) = (mid : ℕ) × Placed lo mid s × PlacedGuards mid hi gs
+  PlacedGuards lo hi (guard g s gs) = (mid : ℕ) × Placed lo mid s × PlacedGuards mid hi gs
 
 -- `at` gives each declaration of a statement that runs at w the W of its body
 module _ (at : ℕ → ℕ) where
@@ -117,5 +119,4 @@ module _ (at : ℕ → ℕ) where
 
     pub LaidGuards : (w : ℕ) → Guards → Type 0
     LaidGuards w noGuard = Unit {0}
-    LaidGuards w (inputGuard e c x s gs) = Laid w s × LaidGuards w gs
-    LaidGuards w (skipGuard e s gs) = Laid w s × LaidGuards w gs
+    LaidGuards w (guard g s gs) = Laid w s × LaidGuards w gs

@@ -5,19 +5,21 @@ use mathlib.Core.Path.{_≡_, refl, ap, _∙_}
 use mathlib.Core.Logic.{inr, ⊎-elim}
 use mathlib.Core.Bool.{false}
 use mathlib.Core.List.{List, [], _++_, List·Memᴰ, List·Memᴰ·append-cases, Memᴰ·append-left, Memᴰ·append-right, List·Memᴰ·not-nil}
-use mathlib.Core.List.{List·Memᴰ·head, List·Memᴰ·tail, List·Memᴰ·eq-of-singleton, List·Memᴰ·cases-cons}
+use mathlib.Core.List.{List·Memᴰ·head, List·Memᴰ·tail, List·Memᴰ·eq-of-singleton}
 use mathlib.Core.Option.{none}
 use Rattle.model.specs.Syntax.{Site, inputOf, outputOf, declared, Expr, constant, variable, NOT, binary, Stmt, SKIP, STOP}
 use Rattle.model.specs.Syntax.{assign, input, output, VAR, CHAN, SEQ, PAR, IF, WHILE, ALT, Stmts, noStmt, stmt, Pairs, noPair, pair}
-use Rattle.model.specs.Syntax.{Guards, noGuard, inputGuard, skipGuard, Program}
+use Rattle.model.specs.Syntax.{Guard, inputGuard, skipGuard, condition, Guards, noGuard, guard, Program}
 use Rattle.model.specs.Reader.{Scope, canInput, canOutput, names, numbered, withVariables, withChannels, program}
-use Rattle.model.specs.Usage.{Usage, _⊕_, reads, reading, changing, inputting, usage, usageAll, usagePairs, usageGuards, clash}
+use Rattle.model.specs.Usage.{Usage, _⊕_, reads, reading, usage, usageAll, usagePairs, guardUsage, usageGuards}
+use Rattle.model.specs.Usage.{clash}
 use Rattle.model.specs.Usage.{clashesLater, anyClash, firstClash, firstClashAll, firstClashPairs, firstClashGuards}
 use Rattle.model.specs.Counts.{temporaries, guardWords, need, mostNeed, sumNeed, pairNeed, guardNeed}
 use Rattle.model.specs.Layout.{base, wordOf, workspaceOf, layout}
 use Rattle.model.specs.Accept.{accept}
 use Rattle.model.proofs.Cases.{never}
-use Rattle.model.proofs.Tables.WellFormed.{WellExpr, Well, WellAll, WellPairs, WellGuards, WellProgram, outermost, Placed, PlacedAll}
+use Rattle.model.proofs.Tables.WellFormed.{WellExpr, Well, WellAll, WellPairs, WellGuard, WellGuards, WellProgram, outermost, Placed}
+use Rattle.model.proofs.Tables.WellFormed.{PlacedAll}
 use Rattle.model.proofs.Tables.WellFormed.{PlacedPairs, PlacedGuards, Laid, LaidAll, LaidBranches, LaidPairs, LaidGuards}
 use Rattle.model.proofs.Tables.Readers.{read-well}
 use Rattle.model.proofs.Tables.Accepts.{Passed, accept-reads, accept-passed, orElse-none, clash-par}
@@ -26,7 +28,7 @@ use Rattle.model.proofs.Words.Values.{FineExpr}
 use Rattle.model.proofs.Words.Parts.{Part, Ending, the-end, joins, declares, declaresAll, declaresPairs, declaresGuards, partOf}
 use Rattle.model.proofs.Words.Parts.{Disjoint}
 use Rattle.model.proofs.Words.Parts.{need-two, lowered, guardRoom, Apart, Within, FineWhole, Fine, FineAll, FineBranches, Beside}
-use Rattle.model.proofs.Words.Parts.{FinePairs, FineGuards}
+use Rattle.model.proofs.Words.Parts.{FineInput, FinePairs, FineGuards}
 use Rattle.model.proofs.Words.Uses.{Between, between-wider, between-apart, names-between, placed-le}
 use Rattle.model.proofs.Words.Uses.{declares-from, uses-from, neither, clash-disjoint}
 
@@ -173,15 +175,10 @@ clash-pair : (e : Expr) (s : Stmt) (ps : Pairs) → firstClashPairs (pair e s ps
 unfolding firstClashPairs
 clash-pair e s ps h = orElse-none (firstClash s) (firstClashPairs ps) h
 
-clash-input-guard : (e : Expr) (c x : Site) (s : Stmt) (gs : Guards) → firstClashGuards (inputGuard e c x s gs) ≡ none
+clash-guard : (g : Guard) (s : Stmt) (gs : Guards) → firstClashGuards (guard g s gs) ≡ none
     → (firstClash s ≡ none) × (firstClashGuards gs ≡ none)
 unfolding firstClashGuards
-clash-input-guard e c x s gs h = orElse-none (firstClash s) (firstClashGuards gs) h
-
-clash-skip-guard : (e : Expr) (s : Stmt) (gs : Guards) → firstClashGuards (skipGuard e s gs) ≡ none
-    → (firstClash s ≡ none) × (firstClashGuards gs ≡ none)
-unfolding firstClashGuards
-clash-skip-guard e s gs h = orElse-none (firstClash s) (firstClashGuards gs) h
+clash-guard g s gs h = orElse-none (firstClash s) (firstClashGuards gs) h
 
 -- of two statements of one scope that stand one after the other, none declares what the other uses
 module _ (sc : Scope) (lo : ℕ) (before : (x : Site) → List·Memᴰ x (sc .variables) → Between 0 lo x) where
@@ -219,6 +216,19 @@ module _ (sc : Scope) (lo : ℕ) (before : (x : Site) → List·Memᴰ x (sc .va
         inputs = apart .2;
         outputs = apart .3;
       }
+
+-- a guard's condition has room where that is enough, and what it inputs is the part's
+fine-guard : (a : Part) (sc : Scope) (vars chans : List Site) (lo : ℕ) → Scoped sc vars chans lo → (g : Guard) → WellGuard sc g
+    → Covers a (guardUsage g) [] → (w : ℕ) → a .bottom + lowered (temporaries (condition g)) guardRoom ≤ w
+    → FineWhole a vars w guardRoom (condition g) × FineInput a vars chans g
+fine-guard a sc vars chans lo k (inputGuard e ch x) h c w room = (
+  fine-whole a sc vars (k .variables) e (h .0) (λ y m. c .reads y (Memᴰ·append-left _ m)) w guardRoom room,
+  ((k .variables x (h .2), c .changes x (List·Memᴰ·head refl)), k .channels ch (h .1 .0), c .inputs ch (List·Memᴰ·head refl)),
+)
+fine-guard a sc vars chans lo k (skipGuard e) h c w room = (
+  fine-whole a sc vars (k .variables) e h (c .reads) w guardRoom room,
+  tt,
+)
 
 module _ (word : Site → ℕ) where
   -- a branch and all later ones
@@ -364,30 +374,15 @@ module _ (word : Site → ℕ) where
           → firstClashGuards gs ≡ none → a .bottom + guardNeed gs ≤ w → w ≤ a .top
           → FineGuards word a vars chans w gs
       fine-guards noGuard a sc vars chans lo hi w k h pl l c f n t = tt
-      fine-guards (inputGuard e ch x s gs) a sc vars chans lo hi w k h pl l c f n t =
-          let fs = clash-input-guard e ch x s gs f in
+      fine-guards (guard g s gs) a sc vars chans lo hi w k h pl l c f n t =
+          let fs = clash-guard g s gs f in
           let all = declares s ++ declaresGuards gs in
           let both = usage s ⊕ usageGuards gs in
-          let named = covers-after (reading e) (inputting ch ⊕ changing x ⊕ both) all c in
-          let changed = covers-after (inputting ch) (changing x ⊕ both) all named in
-          let after = covers-after (changing x) both all changed in (
-            fine-whole a sc vars (k .variables) e (h .0)
-                (covers-before (reading e) (inputting ch ⊕ changing x ⊕ both) all c .reads)
-                w guardRoom (omega (arith, guards-few (temporaries e))),
-            (k .variables x (h .2), changed .changes x (List·Memᴰ·head refl)),
-            k .channels ch (h .1 .0),
-            named .inputs ch (List·Memᴰ·head refl),
-            fine s a sc vars chans lo (pl .0) w k (h .3) (pl .1) (l .0)
-                (covers-first (usage s) (usageGuards gs) (declares s) (declaresGuards gs) after) (fs .0) (omega arith) t,
-            fine-guards gs a sc vars chans (pl .0) hi w (scoped-later (placed-le s (pl .1)) k) (h .4) (pl .2) (l .1)
-                (covers-second (usage s) (usageGuards gs) (declares s) (declaresGuards gs) after) (fs .1) (omega arith) t,
-          )
-      fine-guards (skipGuard e s gs) a sc vars chans lo hi w k h pl l c f n t =
-          let fs = clash-skip-guard e s gs f in
-          let after = covers-after (reading e) (usage s ⊕ usageGuards gs) (declares s ++ declaresGuards gs) c in (
-            fine-whole a sc vars (k .variables) e (h .0)
-                (covers-before (reading e) (usage s ⊕ usageGuards gs) (declares s ++ declaresGuards gs) c .reads)
-                w guardRoom (omega (arith, guards-few (temporaries e))),
+          let after = covers-after (guardUsage g) both all c in
+          let (e, i) = fine-guard a sc vars chans lo k g (h .0) (covers-before (guardUsage g) both all c) w
+          (omega (arith, guards-few (temporaries (condition g)))) in (
+            e,
+            i,
             fine s a sc vars chans lo (pl .0) w k (h .1) (pl .1) (l .0)
                 (covers-first (usage s) (usageGuards gs) (declares s) (declaresGuards gs) after) (fs .0) (omega arith) t,
             fine-guards gs a sc vars chans (pl .0) hi w (scoped-later (placed-le s (pl .1)) k) (h .2) (pl .2) (l .1)
@@ -434,6 +429,10 @@ both-ways outs ins h k = (
   (λ m. ⊎-elim (h .1) (k .1) (List·Memᴰ·append-cases ins m)),
 )
 
+one-way-guard : (g : Guard) (sc : Scope) (l : ℕ) → WellGuard sc g → OneWay l (guardUsage g .outputs) (guardUsage g .inputs)
+one-way-guard (inputGuard e c x) sc l h = (no-way .0, (λ m. never (cc (ap canInput (List·Memᴰ·eq-of-singleton m), h .1 .1))))
+one-way-guard (skipGuard e) sc l h = no-way
+
 mutual
   unfolding usage usageAll usagePairs usageGuards
 
@@ -463,11 +462,9 @@ mutual
 
   one-way-guards : (gs : Guards) (sc : Scope) (l : ℕ) → WellGuards sc gs → OneWay l (usageGuards gs .outputs) (usageGuards gs .inputs)
   one-way-guards noGuard sc l h = no-way
-  one-way-guards (inputGuard e c x s gs) sc l h =
-      let (o, i) = both-ways (usage s .outputs) (usage s .inputs) (one-way s sc l (h .3)) (one-way-guards gs sc l (h .4)) in
-      (o, (λ m. ⊎-elim (λ k. never (cc (ap canInput k, h .1 .1))) i (List·Memᴰ·cases-cons m)))
-  one-way-guards (skipGuard e s gs) sc l h =
-      both-ways (usage s .outputs) (usage s .inputs) (one-way s sc l (h .1)) (one-way-guards gs sc l (h .2))
+  one-way-guards (guard g s gs) sc l h =
+      both-ways (guardUsage g .outputs) (guardUsage g .inputs) (one-way-guard g sc l (h .0))
+      (both-ways (usage s .outputs) (usage s .inputs) (one-way s sc l (h .1)) (one-way-guards gs sc l (h .2)))
 
 -- so no accepted program does
 accepted-ways : (table : List ℕ) (p : Program) → accept table ≡ program p → (l : ℕ) → OneWay l (wholePart p .outputs) (wholePart p .inputs)

@@ -6,7 +6,8 @@ use mathlib.Core.Path.{_≡_, refl}
 use mathlib.Core.Logic.{_⊎_}
 use mathlib.Core.List.{List, [], _++_, List·Memᴰ}
 use Rattle.model.specs.Syntax.{Site, declared, Expr, Stmt, SKIP, STOP, assign, input, output, VAR, CHAN, SEQ, PAR, IF, WHILE, ALT}
-use Rattle.model.specs.Syntax.{Stmts, noStmt, stmt, Pairs, noPair, pair, Guards, noGuard, inputGuard, skipGuard}
+use Rattle.model.specs.Syntax.{Stmts, noStmt, stmt, Pairs, noPair, pair, Guard, inputGuard, skipGuard, condition, Guards, noGuard}
+use Rattle.model.specs.Syntax.{guard}
 use Rattle.model.specs.Reader.{names}
 use Rattle.model.specs.Counts.{temporaries, need, sumNeed}
 use Rattle.model.specs.Usage.{usage}
@@ -81,8 +82,7 @@ unfoldable mutual
 
   pub declaresGuards : Guards → List Site
   declaresGuards noGuard = []
-  declaresGuards (inputGuard e c x s gs) = declares s ++ declaresGuards gs
-  declaresGuards (skipGuard e s gs) = declares s ++ declaresGuards gs
+  declaresGuards (guard g s gs) = declares s ++ declaresGuards gs
 
 -- a statement as a part of its own, at a workspace, with these names in scope
 abbrev pub partOf : (vars chans : List Site) (w : ℕ) → Ending → Stmt → Part
@@ -142,6 +142,11 @@ guardRoom = suc altWords
 abbrev pub Target : Part → List Site → Site → Type 0
 Target a vars x = List·Memᴰ x vars × List·Memᴰ x (a .changes)
 
+-- what a guard inputs, if it waits for input
+abbrev pub FineInput : Part → (vars chans : List Site) → Guard → Type 0
+FineInput a vars chans (inputGuard e c x) = Target a vars x × List·Memᴰ c chans × List·Memᴰ c (a .inputs)
+FineInput a vars chans (skipGuard e) = Unit {0}
+
 -- the words of declared names
 abbrev pub Words : (Site → ℕ) → (p n w : ℕ) → Type 0
 Words word p n w = (k : ℕ) → k < n → word (declared p k) ≡ w + k
@@ -191,11 +196,5 @@ module _ (word : Site → ℕ) where
 
     pub FineGuards : Part → (vars chans : List Site) (w : ℕ) → Guards → Type 0
     FineGuards a vars chans w noGuard = Unit {0}
-    FineGuards a vars chans w (inputGuard e c x s gs) =
-        FineWhole a vars w guardRoom e
-        × Target a vars x
-        × List·Memᴰ c chans
-        × List·Memᴰ c (a .inputs)
-        × Fine a vars chans w s
-        × FineGuards a vars chans w gs
-    FineGuards a vars chans w (skipGuard e s gs) = FineWhole a vars w guardRoom e × Fine a vars chans w s × FineGuards a vars chans w gs
+    FineGuards a vars chans w (guard g s gs) =
+        FineWhole a vars w guardRoom (condition g) × FineInput a vars chans g × Fine a vars chans w s × FineGuards a vars chans w gs

@@ -8,11 +8,11 @@ use mathlib.Core.List.{List, [], _∷_, _++_, List·Memᴰ, List·Memᴰ·append
 use mathlib.Core.List.{List·Memᴰ·eq-of-singleton, Memᴰ·cast}
 use Rattle.model.specs.Syntax.{Site, declared, Expr, constant, variable, NOT, binary, Stmt, SKIP, STOP, assign}
 use Rattle.model.specs.Syntax.{input, output, VAR, CHAN, SEQ, PAR, IF, WHILE, ALT, Stmts, noStmt, stmt, Pairs, noPair, pair}
-use Rattle.model.specs.Syntax.{Guards, noGuard, inputGuard, skipGuard}
+use Rattle.model.specs.Syntax.{Guard, inputGuard, skipGuard, Guards, noGuard, guard}
 use Rattle.model.specs.Reader.{Scope, names, numbered, withVariables, withChannels}
-use Rattle.model.specs.Usage.{Usage, reads, usage, usageAll, usagePairs, usageGuards, isIn, share, clash}
+use Rattle.model.specs.Usage.{Usage, reads, usage, usageAll, usagePairs, guardUsage, usageGuards, isIn, share, clash}
 use Rattle.model.proofs.Cases.{never}
-use Rattle.model.proofs.Tables.WellFormed.{WellExpr, Well, WellAll, WellPairs, WellGuards, Placed, PlacedAll, PlacedPairs}
+use Rattle.model.proofs.Tables.WellFormed.{WellExpr, Well, WellAll, WellPairs, WellGuard, WellGuards, Placed, PlacedAll, PlacedPairs}
 use Rattle.model.proofs.Tables.WellFormed.{PlacedGuards}
 use Rattle.model.proofs.Tables.Sites.{mem-isIn}
 use Rattle.model.proofs.Words.Parts.{declares, declaresAll, declaresPairs, declaresGuards, Disjoint}
@@ -95,8 +95,7 @@ mutual
 
   placed-le-guards : (gs : Guards) {lo hi : ℕ} → PlacedGuards lo hi gs → lo ≤ hi
   placed-le-guards noGuard h = h
-  placed-le-guards (inputGuard e c x s gs) h = omega (arith, placed-le s (h .1), placed-le-guards gs (h .2))
-  placed-le-guards (skipGuard e s gs) h = omega (arith, placed-le s (h .1), placed-le-guards gs (h .2))
+  placed-le-guards (guard g s gs) h = omega (arith, placed-le s (h .1), placed-le-guards gs (h .2))
 
 -- the names that a statement declares are of its stretch
 mutual
@@ -134,12 +133,14 @@ mutual
 
   declares-guards : (gs : Guards) {lo hi : ℕ} → PlacedGuards lo hi gs → From [] lo hi (declaresGuards gs)
   declares-guards noGuard h = from-none
-  declares-guards (inputGuard e c x s gs) h =
+  declares-guards (guard g s gs) h =
       from-next (declares s) (declaresGuards gs) (placed-le s (h .1)) (placed-le-guards gs (h .2)) (declares-from s (h .1))
       (declares-guards gs (h .2))
-  declares-guards (skipGuard e s gs) h =
-      from-next (declares s) (declaresGuards gs) (placed-le s (h .1)) (placed-le-guards gs (h .2)) (declares-from s (h .1))
-      (declares-guards gs (h .2))
+
+-- the variables that a guard uses are in scope
+guard-from : (g : Guard) (sc : Scope) {lo hi : ℕ} → WellGuard sc g → From (sc .variables) lo hi (guardUsage g .uses)
+guard-from (inputGuard e c x) sc w = from-both (reads e) (x ∷ []) (from-reads sc e (w .0)) (from-one x (w .2))
+guard-from (skipGuard e) sc w = from-reads sc e w
 
 -- the variables that a statement uses are in scope, or of its stretch
 mutual
@@ -189,13 +190,8 @@ mutual
   uses-guards : (gs : Guards) (sc : Scope) {lo hi : ℕ} → WellGuards sc gs → PlacedGuards lo hi gs
       → From (sc .variables) lo hi (usageGuards gs .uses)
   uses-guards noGuard sc w h = from-none
-  uses-guards (inputGuard e c x s gs) sc w h =
-      from-both (reads e) (x ∷ usage s .uses ++ usageGuards gs .uses) (from-reads sc e (w .0))
-      (from-both (x ∷ []) (usage s .uses ++ usageGuards gs .uses) (from-one x (w .2))
-      (from-next (usage s .uses) (usageGuards gs .uses) (placed-le s (h .1)) (placed-le-guards gs (h .2))
-      (uses-from s sc (w .3) (h .1)) (uses-guards gs sc (w .4) (h .2))))
-  uses-guards (skipGuard e s gs) sc w h =
-      from-both (reads e) (usage s .uses ++ usageGuards gs .uses) (from-reads sc e (w .0))
+  uses-guards (guard g s gs) sc w h =
+      from-both (guardUsage g .uses) (usage s .uses ++ usageGuards gs .uses) (guard-from g sc (w .0))
       (from-next (usage s .uses) (usageGuards gs .uses) (placed-le s (h .1)) (placed-le-guards gs (h .2))
       (uses-from s sc (w .1) (h .1)) (uses-guards gs sc (w .2) (h .2)))
 
