@@ -12,6 +12,7 @@ use lib.Dec.{eqb}
 use native.Mathlib.Decide.{decLt}
 use borrow.Author.Tests.{lt-ltb, le-leb}
 use Rattle.model.specs.Word.{low}
+use Rattle.model.specs.Limits.{sliceLimit}
 use Rattle.model.specs.Instruction.{Function, j, ldlp, ldc, ldl, cj, ajw, eqc, stl, opr, functionCode, functionOf, coded}
 use Rattle.model.specs.Instruction.{pfixCode, nfixCode, Instruction}
 use Rattle.model.specs.Prefix.{gathered, pfixed, nfixed, Decoded, decode}
@@ -46,7 +47,7 @@ function-found opr = refl
 
 -- the registers once a byte is fetched
 abbrev pub advance : Cpu → Cpu
-advance r = counting (min (suc (r .count)) 65535) (goto (low (suc (r .place))) r)
+advance r = counting (min (suc (r .count)) sliceLimit) (goto (low (suc (r .place))) r)
 
 -- a process that has the processor at a place of the code is there to stay
 pub lands : (s : World) → s .machine .cpu .running ≡ true → s .machine .cpu .place ≤ s .machine .setup .code → land s ≡ done tt s

@@ -5,6 +5,7 @@ use mathlib.Core.Path.{_≡_}
 use mathlib.Core.List.{List, [], _∷_, _++_}
 use mathlib.Core.Option.{some}
 use lib.ListN.{length, getElem?}
+use Rattle.model.specs.Limits.{wordLimit, branchLimit}
 use Rattle.model.specs.Syntax.{Site, Operator, PLUS, MINUS, TIMES, GT, EQ, AND, OR, XOR, Expr, constant, variable, NOT, binary, Stmt}
 use Rattle.model.specs.Syntax.{SKIP, STOP, assign, input, output, VAR, CHAN, SEQ, PAR, IF, WHILE, ALT, Stmts, noStmt, stmt, Pairs}
 use Rattle.model.specs.Syntax.{noPair, pair, Guard, inputGuard, skipGuard, condition, Guards, noGuard, guard, Program}
@@ -62,14 +63,15 @@ module _ (count : ℕ) where
   initialise-fits first (suc n) f h = initialise-fits first n f (omega arith) ⊕ f ▸ omega arith ▸ nil-fits
 
   -- two sides, where so many values are held before them
-  sides-fit : (o : Order) (h a b : ℕ) (left : ℕ → List Instruction) (right : List Instruction) → h + sidesHold o a b ≤ 4096
-      → ((k : ℕ) → k + a ≤ 4096 → AllFit count (left k)) → (h + b ≤ 4096 → AllFit count right) → AllFit count (sidesCode o h left right)
+  sides-fit : (o : Order) (h a b : ℕ) (left : ℕ → List Instruction) (right : List Instruction) → h + sidesHold o a b ≤ wordLimit
+      → ((k : ℕ) → k + a ≤ wordLimit → AllFit count (left k)) → (h + b ≤ wordLimit → AllFit count right)
+      → AllFit count (sidesCode o h left right)
   unfolding sidesCode sidesHold operationCode
   sides-fit leftFirst h a b left right few l r = l h (omega arith) ⊕ r (omega arith)
   sides-fit rightFirst h a b left right few l r = r (omega arith) ⊕ l h (omega arith) ⊕ omega arith ▸ nil-fits
   sides-fit rightStored h a b left right few l r = r (omega arith) ⊕ omega arith ▸ l (suc h) (omega arith) ⊕ omega arith ▸ nil-fits
 
-  wrapped-fits : (t more w : ℕ) (code : ℕ → List Instruction) → t ≤ 4096 → more ≤ 4096 → ((v : ℕ) → AllFit count (code v))
+  wrapped-fits : (t more w : ℕ) (code : ℕ → List Instruction) → t ≤ wordLimit → more ≤ wordLimit → ((v : ℕ) → AllFit count (code v))
       → AllFit count (wrapped t more w code)
   unfolding wrapped
   wrapped-fits zero more w code few small f = f w
@@ -82,7 +84,7 @@ held-few zero = omega arith
 held-few (suc t) = omega arith
 
 module _ (word : Site → ℕ) (count : ℕ) where
-  expr-fits : (sc : Scope) (w h : ℕ) (e : Expr) → WellExpr sc e → h + temporaries e ≤ 4096 → AllFit count (exprCode word w h e)
+  expr-fits : (sc : Scope) (w h : ℕ) (e : Expr) → WellExpr sc e → h + temporaries e ≤ wordLimit → AllFit count (exprCode word w h e)
   unfolding exprCode temporaries
   expr-fits sc w h (constant n) f few = f ▸ nil-fits
   expr-fits sc w h (variable x) f few = omega arith ▸ nil-fits
@@ -92,13 +94,13 @@ module _ (word : Site → ℕ) (count : ℕ) where
       (λ k. expr-fits sc w k l (f .0)) (expr-fits sc w h r (f .1))
       ⊕ operator-fits count op
 
-  whole-fits : (sc : Scope) (w : ℕ) (e : Expr) → WellExpr sc e → temporaries e ≤ 4096 → AllFit count (wholeCode word w e)
+  whole-fits : (sc : Scope) (w : ℕ) (e : Expr) → WellExpr sc e → temporaries e ≤ wordLimit → AllFit count (wholeCode word w e)
   whole-fits sc w e f few =
       wrapped-fits count (temporaries e) 0 w (λ v. exprCode word v 0 e) few (omega arith) (λ v. expr-fits sc v 0 e f (omega arith))
 
-  guard-fits : (sc : Scope) (w : ℕ) (e : Expr) → WellExpr sc e → guardWords (temporaries e) ≤ 4096 → AllFit count (guardCode word w e)
+  guard-fits : (sc : Scope) (w : ℕ) (e : Expr) → WellExpr sc e → guardWords (temporaries e) ≤ wordLimit → AllFit count (guardCode word w e)
   guard-fits sc w e f few =
-      let held : temporaries e ≤ 4096 = omega (arith, held-few (temporaries e)) in
+      let held : temporaries e ≤ wordLimit = omega (arith, held-few (temporaries e)) in
       wrapped-fits count (temporaries e) altWords w (λ v. exprCode word v 0 e) held (omega arith) (λ v. expr-fits sc v 0 e f (omega arith))
 
   starts-fit : (d i b : ℕ) (ss : Stmts) → i + 3 * howMany ss ≤ count → b + sizeEnds ss ≤ count → AllFit count (codeStarts word d i b ss)
@@ -108,14 +110,14 @@ module _ (word : Site → ℕ) (count : ℕ) where
       omega arith ▸ omega arith ▸ omega arith ▸ starts-fit (d + need s) (i + 3) (b + size s + 2) ss (omega arith) (omega arith)
 
   -- a guard's enabling, its disabling, and its branch's input
-  enable-one : (sc : Scope) (w : ℕ) (g : Guard) → WellGuard sc g → guardWords (temporaries (condition g)) ≤ 4096
+  enable-one : (sc : Scope) (w : ℕ) (g : Guard) → WellGuard sc g → guardWords (temporaries (condition g)) ≤ wordLimit
       → AllFit count (enableCode word w g)
   unfolding enableCode operationCode
   enable-one sc w (inputGuard e c x) h few = guard-fits sc w e (h .0) few ⊕ omega arith ▸ omega arith ▸ omega arith ▸ nil-fits
   enable-one sc w (skipGuard e) h few = guard-fits sc w e h few ⊕ omega arith ▸ nil-fits
 
-  disable-one : (sc : Scope) (w choice b : ℕ) (g : Guard) → WellGuard sc g → guardWords (temporaries (condition g)) ≤ 4096 → choice < count
-      → b ≤ count → AllFit count (disableCode word w choice b g)
+  disable-one : (sc : Scope) (w choice b : ℕ) (g : Guard) → WellGuard sc g → guardWords (temporaries (condition g)) ≤ wordLimit
+      → choice < count → b ≤ count → AllFit count (disableCode word w choice b g)
   unfolding disableCode operationCode
   disable-one sc w choice b (inputGuard e c x) h few hc hb =
       guard-fits sc w e (h .0) few ⊕ omega arith ▸ omega arith ▸ omega arith ▸ omega arith ▸ nil-fits
@@ -126,12 +128,12 @@ module _ (word : Site → ℕ) (count : ℕ) where
   input-fits w (inputGuard e c x) = omega arith ▸ omega arith ▸ omega arith ▸ omega arith ▸ nil-fits
   input-fits w (skipGuard e) = nil-fits
 
-  enable-fits : (sc : Scope) (w : ℕ) (gs : Guards) → WellGuards sc gs → guardNeed gs ≤ 4096 → AllFit count (codeEnable word w gs)
+  enable-fits : (sc : Scope) (w : ℕ) (gs : Guards) → WellGuards sc gs → guardNeed gs ≤ wordLimit → AllFit count (codeEnable word w gs)
   unfolding codeEnable guardNeed
   enable-fits sc w noGuard h hn = nil-fits
   enable-fits sc w (guard g s gs) h hn = enable-one sc w g (h .0) (omega arith) ⊕ enable-fits sc w gs (h .2) (omega arith)
 
-  disable-fits : (sc : Scope) (w choice b : ℕ) (gs : Guards) → WellGuards sc gs → guardNeed gs ≤ 4096 → choice < count
+  disable-fits : (sc : Scope) (w choice b : ℕ) (gs : Guards) → WellGuards sc gs → guardNeed gs ≤ wordLimit → choice < count
       → b + sizeBranches gs ≤ count
       → AllFit count (codeDisable word w choice b gs)
   unfolding codeDisable sizeBranches guardNeed
@@ -144,7 +146,7 @@ module _ (word : Site → ℕ) (count : ℕ) where
   mutual
     unfolding code size need howMany operationCode
 
-    pub code-fits : (sc : Scope) (w i : ℕ) (s : Stmt) → Well sc s → need s ≤ 4096 → i + size s ≤ count → AllFit count (code word w i s)
+    pub code-fits : (sc : Scope) (w i : ℕ) (s : Stmt) → Well sc s → need s ≤ wordLimit → i + size s ≤ count → AllFit count (code word w i s)
     code-fits sc w i SKIP h hn hi = nil-fits
     code-fits sc w i STOP h hn hi = omega arith ▸ nil-fits
     code-fits sc w i (assign x e) h hn hi = whole-fits sc w e (h .1) (omega arith) ⊕ omega arith ▸ nil-fits
@@ -172,14 +174,14 @@ module _ (word : Site → ℕ) (count : ℕ) where
         ⊕ omega arith ▸ disable-fits sc (w - 1) choice (choice + 1) gs h (omega arith) (omega arith) (omega arith)
         ⊕ omega arith ▸ branches-fit sc w (choice + 1) (choice + 1 + sizeBranches gs) gs h (omega arith) (omega arith) (omega arith)
 
-    all-fit : (sc : Scope) (w i : ℕ) (ss : Stmts) → WellAll sc ss → mostNeed ss ≤ 4096 → i + sizeAll ss ≤ count
+    all-fit : (sc : Scope) (w i : ℕ) (ss : Stmts) → WellAll sc ss → mostNeed ss ≤ wordLimit → i + sizeAll ss ≤ count
         → AllFit count (codeAll word w i ss)
     all-fit sc w i noStmt h hn hi = nil-fits
     all-fit sc w i (stmt s ss) h hn hi =
         code-fits sc w i s (h .0) (omega arith) (omega arith) ⊕ all-fit sc w (i + size s) ss (h .1) (omega arith) (omega arith)
 
-    par-fits : (sc : Scope) (w i : ℕ) (ss : Stmts) → howMany ss ≤ 16 → WellAll sc ss → sumNeed ss ≤ 4096 → i + sizePar ss ≤ count
-        → AllFit count (codePar word w i ss)
+    par-fits : (sc : Scope) (w i : ℕ) (ss : Stmts) → howMany ss ≤ branchLimit → WellAll sc ss → sumNeed ss ≤ wordLimit
+        → i + sizePar ss ≤ count → AllFit count (codePar word w i ss)
     par-fits sc w i noStmt hm h hn hi = nil-fits
     par-fits sc w i (stmt s ss) hm h hn hi =
         let first = i + 6 + 3 * howMany ss in
@@ -189,14 +191,15 @@ module _ (word : Site → ℕ) (count : ℕ) where
         ⊕ omega arith ▸ omega arith ▸ ends-fit sc (w - 2) (need s) (first + size s + 2) ss (h .1) hn (omega arith)
         ⊕ omega arith ▸ nil-fits
 
-    ends-fit : (sc : Scope) (w d i : ℕ) (ss : Stmts) → WellAll sc ss → d + sumNeed ss ≤ 4096 → i + sizeEnds ss ≤ count
+    ends-fit : (sc : Scope) (w d i : ℕ) (ss : Stmts) → WellAll sc ss → d + sumNeed ss ≤ wordLimit → i + sizeEnds ss ≤ count
         → AllFit count (codeEnds word w d i ss)
     ends-fit sc w d i noStmt h hn hi = nil-fits
     ends-fit sc w d i (stmt s ss) h hn hi =
         code-fits sc (w - d) i s (h .0) (omega arith) (omega arith)
         ⊕ omega arith ▸ omega arith ▸ ends-fit sc w (d + need s) (i + size s + 2) ss (h .1) (omega arith) (omega arith)
 
-    pairs-fit : (sc : Scope) (w i over : ℕ) (ps : Pairs) → WellPairs sc ps → pairNeed ps ≤ 4096 → over ≤ count → i + sizePairs ps ≤ count
+    pairs-fit : (sc : Scope) (w i over : ℕ) (ps : Pairs) → WellPairs sc ps → pairNeed ps ≤ wordLimit → over ≤ count
+        → i + sizePairs ps ≤ count
         → AllFit count (codePairs word w i over ps)
     pairs-fit sc w i over noPair h hn ho hi = omega arith ▸ nil-fits
     pairs-fit sc w i over (pair e s ps) h hn ho hi =
@@ -205,7 +208,7 @@ module _ (word : Site → ℕ) (count : ℕ) where
         ⊕ omega arith ▸ code-fits sc w (test + 1) s (h .1) (omega arith) (omega arith)
         ⊕ omega arith ▸ pairs-fit sc w (test + 1 + size s + 1) over ps (h .2) (omega arith) ho (omega arith)
 
-    branches-fit : (sc : Scope) (w i over : ℕ) (gs : Guards) → WellGuards sc gs → guardNeed gs ≤ 4096 → over ≤ count
+    branches-fit : (sc : Scope) (w i over : ℕ) (gs : Guards) → WellGuards sc gs → guardNeed gs ≤ wordLimit → over ≤ count
         → i + sizeBranches gs ≤ count → AllFit count (codeBranches word w i over gs)
     branches-fit sc w i over noGuard h hn ho hi = nil-fits
     branches-fit sc w i over (guard g s gs) h hn ho hi =
@@ -213,7 +216,7 @@ module _ (word : Site → ℕ) (count : ℕ) where
         ⊕ code-fits sc w (i + 1 + inputSize g) s (h .1) (omega arith) (omega arith)
         ⊕ omega arith ▸ branches-fit sc w (i + 1 + inputSize g + size s + 1) over gs (h .2) (omega arith) ho (omega arith)
 
-pub scheme-fits : (p : Program) → WellProgram p → need (p .body) ≤ 4096 → AllFit (length (scheme p)) (scheme p)
+pub scheme-fits : (p : Program) → WellProgram p → need (p .body) ≤ wordLimit → AllFit (length (scheme p)) (scheme p)
 unfolding scheme
 scheme-fits p h hn =
     let l = code-length (wordOf p) (base p) 0 (p .body) in

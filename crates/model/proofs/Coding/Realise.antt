@@ -10,6 +10,7 @@ use mathlib.Core.Option.{some}
 use lib.ListN.{length, length-append, getElem?}
 use lib.Seq.{slice, take-at, take-append-add, drop-append-add, take-length, take-nil}
 use Rattle.model.specs.Word.{less}
+use Rattle.model.specs.Limits.{codeLimit, wordLimit}
 use Rattle.model.specs.Syntax.{Program}
 use Rattle.model.specs.Instruction.{Instruction, plain, distance}
 use Rattle.model.specs.Prefix.{enough, withPrefixes}
@@ -83,7 +84,7 @@ module _ (xs : List Instruction) (small : bytesIn xs ≤ 65536) where
   }
 
 -- the code of a well-formed program that is not too large realises its scheme
-pub code-realises : (p : Program) → WellProgram p → need (p .body) ≤ 4096 → length (codeOf p) ≤ 16384
+pub code-realises : (p : Program) → WellProgram p → need (p .body) ≤ wordLimit → length (codeOf p) ≤ codeLimit
     → Realises (codeOf p) (scheme p) (placeOf (scheme p))
 unfolding codeOf
 code-realises p well hn hc =

@@ -10,6 +10,7 @@ use lib.ListN.{length, getElem?}
 use lib.Seq.{slice}
 use lib.Dec.{leb}
 use borrow.Author.Tests.{leb-true}
+use Rattle.model.specs.Limits.{codeLimit, sliceLimit, wordLimit}
 use Rattle.model.specs.Syntax.{Program}
 use Rattle.model.specs.Reader.{program}
 use Rattle.model.specs.Accept.{limit, accept, memoryWords}
@@ -49,9 +50,9 @@ start-begun : (code memory : List ℕ) (w i o q : ℕ) (s : After StartAnswer) �
     → Begun memory (record { code = length code; base = w; inputs = i; outputs = o; slice = q }) s
 unfolding start
 start-begun code memory w i o q s e a =
-    by-bool (leb 1 q && leb q 65535)
+    by-bool (leb 1 q && leb q sliceLimit)
     (λ t₁. by-bool (leb i 8 && leb o 8)
-    (λ t₂. by-bool (leb (w + i + o) 4096 && leb (length code) 16384)
+    (λ t₂. by-bool (leb (w + i + o) wordLimit && leb (length code) codeLimit)
     (λ t₃. by-bool (leb (w + i + o) (length memory))
     (λ t₄. begun-with (leb-true _ _ t₄) (ap (λ (r : After StartAnswer). r .machine) (sym (rw (t₁, t₂, t₃, t₄) at e)))
     (ap (λ (r : After StartAnswer). r .memory) (sym (rw (t₁, t₂, t₃, t₄) at e))))
@@ -120,8 +121,8 @@ loaded-faithful L memory room = by (settled L memory room)
         }
 
 -- demand 3 for every code that realises the scheme of an accepted table
-pub realised-faithful : (table : List ℕ) (p : Program) → accept table ≡ program p → memoryWords p ≤ 4096
-    → (code : List ℕ) → length code ≤ 16384
+pub realised-faithful : (table : List ℕ) (p : Program) → accept table ≡ program p → memoryWords p ≤ wordLimit
+    → (code : List ℕ) → length code ≤ codeLimit
     → (off : ℕ → ℕ) → Realises code (scheme p) off → (slice : ℕ) (memory : List ℕ) (s : After StartAnswer)
     → start code memory (base p) (p .inputs) (p .outputs) slice ≡ s → s .answer ≡ Started → Faithful p code (s .machine) (s .memory)
 realised-faithful table p accepted small code short off realises slice memory s e a =

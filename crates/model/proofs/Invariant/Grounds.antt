@@ -6,6 +6,7 @@ use mathlib.Core.Logic.{_⊎_, inl, inr, ⊎-elim}
 use mathlib.Core.List.{List, [], _∷_, List·Memᴰ, List·Memᴰ·append-cases, List·Memᴰ·not-nil, List·Memᴰ·eq-of-singleton}
 use mathlib.Core.Option.{some}
 use lib.ListN.{length}
+use Rattle.model.specs.Limits.{wordLimit}
 use Rattle.model.specs.Syntax.{Site, inputOf, outputOf, Stmt, Stmts, stmt}
 use Rattle.model.specs.Reader.{numbered}
 use Rattle.model.specs.Counts.{need, sumNeed}
@@ -97,7 +98,7 @@ module _ (L : Loaded) where
   chan-in n c m =
       ⊎-elim (λ o. elim o [ an-input k h e w ↦ omega arith | an-output k h e w ↦ omega arith ]) (λ k. omega arith) (channel-at n c m)
 
-  pub small-size : size L ≤ 4096
+  pub small-size : size L ≤ wordLimit
   small-size = L .words-small
 
   -- the code is small

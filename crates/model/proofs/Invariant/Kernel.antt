@@ -8,6 +8,7 @@ use mathlib.Core.List.{List, [], List·Memᴰ}
 use mathlib.Core.Option.{none, some}
 use lib.ListN.{length, getD}
 use Rattle.model.specs.Word.{notProcess}
+use Rattle.model.specs.Limits.{codeLimit, wordLimit}
 use Rattle.model.specs.Syntax.{Site, inputOf, outputOf, Program}
 use Rattle.model.specs.Counts.{processes}
 use Rattle.model.specs.Accept.{limit, memoryWords}
@@ -39,8 +40,8 @@ pub record Loaded : Type 0 where
   pub rises : (i k : ℕ) → i < k → k ≤ length (scheme prog) → off i < off k
   pub slice : ℕ
   pub fine : Fine (wordOf prog) (wholePart prog) [] (outsideNames prog) (base prog) (prog .body)
-  pub code-small : length code ≤ 16384
-  pub words-small : memoryWords prog ≤ 4096
+  pub code-small : length code ≤ codeLimit
+  pub words-small : memoryWords prog ≤ wordLimit
   pub few-inputs : prog .inputs ≤ 8
   pub few : processes (prog .body) ≤ limit
   -- no output to an outside input
@@ -49,7 +50,7 @@ pub record Loaded : Type 0 where
   pub no-return : (l : ℕ) → List·Memᴰ (outputOf l) (wholePart prog .inputs) → ⊥
 
 module _ (L : Loaded) where
-  pub base-small : base (L .prog) ≤ 4096
+  pub base-small : base (L .prog) ≤ wordLimit
   base-small = omega (arith, L .words-small)
 
   -- its instructions, their places, and the words of names

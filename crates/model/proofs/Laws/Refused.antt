@@ -7,6 +7,7 @@ use lib.ListN.{length, getD}
 use lib.Dec.{ltb, leb, eqb}
 use borrow.Author.Tests.{ltb-true, ltb-false, leb-true, leb-false, lt-ltb, le-ltb, le-leb, lt-leb, ne-eqb, eq-eqb}
 use native.Mathlib.Omega.{arith}
+use Rattle.model.specs.Limits.{codeLimit, sliceLimit, wordLimit}
 use Rattle.model.specs.Answers.{refusal, refusedReading, refusedCompiling, refusedStart, refusedRun, refusedOffer, refusedTake}
 use Rattle.model.specs.Reader.{Read, program, refused as unread}
 use Rattle.model.specs.Accept.{answerOf}
@@ -54,13 +55,13 @@ pub start-refuses :
 unfolding start startRefusal
 start-refuses code memory w i o q =
     let n = w + i + o in
-    let a = one-not (leb 1 q) (leb q 65535) (is-zero q) (over q 65535) in
+    let a = one-not (leb 1 q) (leb q sliceLimit) (is-zero q) (over q sliceLimit) in
     let b = one-not (leb i 8) (leb o 8) (over i 8) (over o 8) in
-    let c = one-not (leb n 4096) (leb (length code) 16384) (over n 4096) (over (length code) 16384) in
+    let c = one-not (leb n wordLimit) (leb (length code) codeLimit) (over n wordLimit) (over (length code) codeLimit) in
     let d = over n (length memory) in
-    by-bool (leb 1 q && leb q 65535)
+    by-bool (leb 1 q && leb q sliceLimit)
     (λ s. by-bool (leb i 8 && leb o 8)
-    (λ t. by-bool (leb n 4096 && leb (length code) 16384)
+    (λ t. by-bool (leb n wordLimit && leb (length code) codeLimit)
     (λ u. by-bool (leb n (length memory)) (λ v. rw (a, b, c, d, s, t, u, v)) (λ v. rw (a, b, c, d, s, t, u, v)))
     (λ u. rw (a, b, c, s, t, u)))
     (λ t. rw (a, b, s, t)))

@@ -6,6 +6,7 @@ use mathlib.Core.Logic.{_≢_, _⊎_, inl, inr, ⊎-elim}
 use mathlib.Core.Bool.{cond}
 use lib.Dec.{eqb}
 use mathlib.Core.List.{List, List·Memᴰ}
+use Rattle.model.specs.Limits.{wordLimit}
 use Rattle.model.specs.Syntax.{Site, inputOf, Guards}
 use Rattle.model.specs.Machine.{stateWord}
 use Rattle.model.specs.Execute.{enabling, ready}
@@ -51,7 +52,7 @@ module _ (L : Loaded) (b : Part) (i : Info) (st : State) where
     point-stood up j r o (pt-disable a l t n d) = stood-at (r .w) a (n .marks c m o .0) (inr (n .state))
     point-stood up j r o (pt-choose a n) = stood-at (r .w) a (n .marks c m o .0) (inr (n .state))
 
-    module _ (high : b .top ≤ 4096) where
+    module _ (high : b .top ≤ wordLimit) where
       -- a stored value is in no word that this looks at
       before-store : (w : ℕ) (ν : Mem) (v z : ℕ) → AltSpare (S L) b st (i .vars) (i .chans) w v
           → (Own b (upd ν v z (S L .word c)) → StoodAt w (upd ν v z)) → Own b (ν (S L .word c)) → StoodAt w ν

@@ -10,6 +10,7 @@ use mathlib.Core.Option.{none, some}
 use lib.ListN.{getD}
 use borrow.Author.Tests.{eq-eqb}
 use Rattle.model.specs.Word.{notProcess}
+use Rattle.model.specs.Limits.{wordLimit}
 use Rattle.model.specs.Syntax.{Site, inputOf, Guards}
 use Rattle.model.specs.Layout.{base}
 use Rattle.model.specs.Scheme.{sizeEnable}
@@ -96,7 +97,7 @@ module _ (L : Loaded) {s : World} {st : State} {μ : Mem} {t : Tree (S L) (root 
   -- nobody is there: the offer is held
   did-hold : μ (S L .word c) ≡ notProcess → Goal
   did-hold empty =
-      let strange : (b : Part) → b .top ≤ 4096 → Own b (μ (S L .word c)) → ⊥ = λ b h o. not-own b h (subst (Own b) empty o) in
+      let strange : (b : Part) → b .top ≤ wordLimit → Own b (μ (S L .word c)) → ⊥ = λ b h o. not-own b h (subst (Own b) empty o) in
       let rest = change-offers L (withOffer k v (st .offers)) (G .rest) (λ other r d j l n. (
         (λ a m g. more-senders st k v g),
         (λ a m x o g. fewer-senders st k v (λ e. strange d (omega (arith, part-small L l, small-size L))
@@ -372,7 +373,7 @@ module _ (L : Loaded) {s : World} {st : State} {μ : Mem} {t : Tree (S L) (root 
   abbrev p : ℕ
   p = μ (S L .word (inputOf k))
 
-  high : b .top ≤ 4096
+  high : b .top ≤ wordLimit
   high = omega (arith, part-small L leaf, small-size L)
 
   module _ (stood : Stood L b i st μ p) where

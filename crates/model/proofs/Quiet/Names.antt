@@ -4,6 +4,7 @@ use native.Mathlib.Omega.{arith}
 use mathlib.Core.Path.{_≡_, refl}
 use mathlib.Core.Logic.{_≢_}
 use Rattle.model.specs.Word.{notProcess}
+use Rattle.model.specs.Limits.{wordLimit}
 use Rattle.model.specs.Machine.{nameOf, spaceOf}
 
 -- there and back
@@ -11,5 +12,5 @@ pub name-back : (w : ℕ) → spaceOf (nameOf w) ≡ w
 name-back w = refl
 
 -- no process of a program is NotProcess
-pub name-given : (w : ℕ) → w ≤ 4096 → nameOf w ≢ notProcess
+pub name-given : (w : ℕ) → w ≤ wordLimit → nameOf w ≢ notProcess
 name-given w h e = absurd (omega arith)

@@ -5,6 +5,7 @@ use mathlib.Core.Path.{_≡_}
 use mathlib.Core.List.{List, [], _∷_}
 use mathlib.Core.Option.{some}
 use lib.ListN.{length, getElem?}
+use Rattle.model.specs.Limits.{wordLimit}
 use Rattle.model.specs.Syntax.{Site}
 use Rattle.model.specs.Instruction.{Instruction}
 
@@ -15,7 +16,7 @@ pub record Setting : Type 0 where
   pub off : ℕ → ℕ
   pub word : Site → ℕ
   pub top : ℕ
-  pub top-small : top ≤ 4096
+  pub top-small : top ≤ wordLimit
   pub rises : (i k : ℕ) → i < k → k ≤ length xs → off i < off k
 
 abbrev pub whole : Setting → ℕ

@@ -10,6 +10,7 @@ use mathlib.Core.Option.{Option, none, some}
 use lib.ListN.{getD, set}
 use borrow.Author.Tests.{eq-eqb, ne-eqb}
 use Rattle.model.specs.Word.{notProcess}
+use Rattle.model.specs.Limits.{wordLimit}
 use Rattle.model.specs.Syntax.{Site, inputOf, Expr, Stmt, ALT, Guard, inputGuard, skipGuard, Guards, noGuard, guard}
 use Rattle.model.specs.Instruction.{Instruction, operation}
 use Rattle.model.specs.Instruction as I
@@ -100,7 +101,7 @@ module _ (L : Loaded) {s : World} {st : State} {μ : Mem} {t : Tree (S L) (root 
   w-under : w < b .top
   w-under = omega (arith, cont-low (S L) b (c .after))
 
-  pub top-small : b .top ≤ 4096
+  pub top-small : b .top ≤ wordLimit
   top-small = omega (arith, part-small L (A .leaf), S L .top-small)
 
   pub w-own : Own b w

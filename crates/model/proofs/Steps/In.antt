@@ -11,6 +11,7 @@ use lib.ListN.{getD}
 use lib.Dec.{eqb}
 use borrow.Author.Tests.{ne-eqb}
 use Rattle.model.specs.Word.{notProcess}
+use Rattle.model.specs.Limits.{wordLimit}
 use Rattle.model.specs.Syntax.{Site, inputOf, input}
 use Rattle.model.specs.Instruction.{operation}
 use Rattle.model.specs.Instruction as I
@@ -71,7 +72,7 @@ module _ (L : Loaded) {s : World} {st : State} {μ : Mem} {t : Tree (S L) (root 
   placed : Placed (S L) b w (i .vars) (i .chans)
   placed = cont-placed (S L) b cont
 
-  high : b .top ≤ 4096
+  high : b .top ≤ wordLimit
   high = omega (arith, part-small L (A .leaf), small-size L)
 
   near-on : h ≤ whole (S L) + L .off (suc at)
@@ -319,7 +320,7 @@ module _ (L : Loaded) {s : World} {st : State} {μ : Mem} {t : Tree (S L) (root 
         (real-stored L (S L .word x) v x-in (link-var L (A .lined) (A .leaf) refl x (f .1 .0)) (A .real)))
 
     -- a channel of either process
-    chan-after : (e : Part) (a : Site) → e .top ≤ 4096 → S L .word a ≢ S L .word x → Own e (η (S L .word a))
+    chan-after : (e : Part) (a : Site) → e .top ≤ wordLimit → S L .word a ≢ S L .word x → Own e (η (S L .word a))
         → (S L .word a ≢ S L .word c) × Own e (μ (S L .word a))
     chan-after e a tall n o = by (ℕ-discrete (S L .word a) (S L .word c))
       where

@@ -6,6 +6,7 @@ use mathlib.Core.Path.{_≡_, refl, sym, ap, _∙_, subst}
 use mathlib.Core.Logic.{_⊎_, inl, ⊎-elim}
 use mathlib.Core.List.{List, [], _∷_, _++_, List·Memᴰ, Memᴰ·append-left, Memᴰ·append-right, List·Memᴰ·append-cases}
 use Rattle.model.specs.Word.{low, notProcess}
+use Rattle.model.specs.Limits.{wordLimit}
 use Rattle.model.specs.Syntax.{Site, Stmt, VAR, CHAN}
 use Rattle.model.specs.Reader.{names}
 use Rattle.model.specs.Usage.{isIn}
@@ -74,7 +75,7 @@ module _ (L : Loaded) where
     outer : Placed (S L) b (w + n) (i .vars) (i .chans)
     outer = cont-placed (S L) b (op .after)
 
-    high : w + n ≤ 4096
+    high : w + n ≤ wordLimit
     high = omega (arith, outer .low, part-small L (A .leaf), small-size L)
 
     abbrev ν : Mem

@@ -6,6 +6,7 @@ use mathlib.Core.Logic.{_≢_, _⊎_, inl, inr, ⊎-elim}
 use mathlib.Core.Bool.{true}
 use mathlib.Core.List.{List, List·Memᴰ}
 use Rattle.model.specs.Word.{notProcess}
+use Rattle.model.specs.Limits.{wordLimit}
 use Rattle.model.specs.Syntax.{Site}
 use Rattle.model.specs.Machine.{World, resumeWord}
 use Rattle.model.specs.Occam.{Frame, Process, atOutput, framesOf, put, resume, State}
@@ -33,7 +34,7 @@ abbrev pub Both : List ℕ → List ℕ → List ℕ → Type 0
 Both path other here = (path ≡ here) ⊎ (other ≡ here)
 
 -- NotProcess is no workspace
-pub not-own : (b : Part) → b .top ≤ 4096 → Own b notProcess → ⊥
+pub not-own : (b : Part) → b .top ≤ wordLimit → Own b notProcess → ⊥
 not-own b h o = absurd (omega (arith, o .1))
 
 -- a process that waited goes on, once its channel's word is another
@@ -54,7 +55,7 @@ module _ (L : Loaded) where
         → ⊥
     others-not k n h o = own-one L (apart-parts L leaf k (λ p. n (subst Out p out))) h o
 
-    small-top : {other : List ℕ} {r : Process} {c : Part} {j : Info} → LeafAt L st t other r c j → c .top ≤ 4096
+    small-top : {other : List ℕ} {r : Process} {c : Part} {j : Info} → LeafAt L st t other r c j → c .top ≤ wordLimit
     small-top k = omega (arith, part-small L k, small-size L)
 
     -- what it held before is of nobody, or of this process

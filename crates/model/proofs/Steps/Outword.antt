@@ -8,6 +8,7 @@ use mathlib.Core.Bool.{true, false}
 use mathlib.Core.List.{List, [], _∷_, _++_, List·Memᴰ}
 use borrow.Author.Tests.{ne-eqb}
 use Rattle.model.specs.Word.{notProcess}
+use Rattle.model.specs.Limits.{wordLimit}
 use Rattle.model.specs.Syntax.{Site, Expr, Guard, Guards, output}
 use Rattle.model.specs.Instruction.{plain, operation}
 use Rattle.model.specs.Instruction as I
@@ -70,7 +71,7 @@ picks-more h q (p-first r) = p-first (ready-in h q r)
 picks-more h q (p-later g) = p-later (picks-more h q g)
 
 -- a word of memory is no ALT state
-pub no-alt-state : (v : ℕ) → v ≤ 4096 → isAltState v ≡ false
+pub no-alt-state : (v : ℕ) → v ≤ wordLimit → isAltState v ≡ false
 no-alt-state v h =
     rw (
       ne-eqb v enabling (λ e. absurd (omega arith)),
@@ -104,7 +105,7 @@ module _ (L : Loaded) {s : World} {st : State} {μ : Mem} {t : Tree (S L) (root 
   above : Placed (S L) b (w + 1) (i .vars) (i .chans)
   above = cont-placed (S L) b cont
 
-  high : b .top ≤ 4096
+  high : b .top ≤ wordLimit
   high = omega (arith, part-small L (A .leaf), small-size L)
 
   near-on : h ≤ whole (S L) + L .off (suc at)
@@ -287,7 +288,7 @@ module _ (L : Loaded) {s : World} {st : State} {μ : Mem} {t : Tree (S L) (root 
         (real-below L (A .leaf) refl above w z (w-low .0) (w-low .1) (A .lined) (A .real))))
 
     -- a channel's word then
-    chan-after : (y : Part) (a : Site) → y .top ≤ 4096 → S L .word a ≢ S L .word x → S L .word a ≢ w → Own y (η (S L .word a))
+    chan-after : (y : Part) (a : Site) → y .top ≤ wordLimit → S L .word a ≢ S L .word x → S L .word a ≢ w → Own y (η (S L .word a))
         → (S L .word a ≢ S L .word c) × Own y (μ (S L .word a))
     chan-after y a tall n m o = by (ℕ-discrete (S L .word a) (S L .word c))
       where

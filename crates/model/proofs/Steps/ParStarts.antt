@@ -7,6 +7,7 @@ use mathlib.Core.List.{List, [], _∷_, _++_}
 use mathlib.Core.Option.{none, some}
 use lib.ListN.{length, length-append}
 use Rattle.model.specs.Word.{low}
+use Rattle.model.specs.Limits.{wordLimit}
 use Rattle.model.specs.Syntax.{Site, Stmt, PAR, Stmts, noStmt, stmt}
 use Rattle.model.specs.Counts.{need, sumNeed}
 use Rattle.model.specs.Scheme.{howMany, size, sizeEnds, code, codeStarts, codeEnds}
@@ -85,7 +86,7 @@ module _ (L : Loaded) {s : World} {st : State} {μ : Mem} {t : Tree (S L) (root 
       → Did L (Executes L (plain I.stl 0) s) s st (bytesLeft (S L) t)
   unfolding functionIn operandIn
   did-place {h} x y c v le =
-      let high : w + 2 ≤ 4096 = omega (arith, c .placed .low, part-small L (A .leaf), small-size L) in
+      let high : w + 2 ≤ wordLimit = omega (arith, c .placed .low, part-small L (A .leaf), small-size L) in
       let z = L .off (c .over) in
       let r = pop (cpuOf s) in
       let low-w : b .bottom ≤ w = omega (arith, c .room) in
@@ -116,7 +117,7 @@ module _ (L : Loaded) {s : World} {st : State} {μ : Mem} {t : Tree (S L) (root 
     abbrev u : World
     u = withCpu (pop (cpuOf s)) (stored (w + 1) (suc (howMany ds)) s)
 
-    high : w + 2 ≤ 4096
+    high : w + 2 ≤ wordLimit
     high = omega (arith, c .placed .low, part-small L (A .leaf), small-size L)
 
     low-1 : b .bottom ≤ w + 1

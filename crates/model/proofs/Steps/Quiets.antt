@@ -8,6 +8,7 @@ use mathlib.Core.Bool.{true}
 use mathlib.Core.List.{List, List·Memᴰ}
 use lib.ListN.{length}
 use Rattle.model.specs.Word.{low, less}
+use Rattle.model.specs.Limits.{codeLimit}
 use Rattle.model.specs.Syntax.{Site}
 use Rattle.model.specs.Instruction.{Instruction, plain, distance}
 use Rattle.model.specs.Instruction as I
@@ -39,7 +40,7 @@ use Rattle.model.proofs.Invariant.Finish.{goes-on, alt-goes-on, then-le
 use Rattle.model.proofs.Quiet.PathEnds.{way-bound, point-in}
 
 -- a distance leads from the byte after its user to the instruction that it reaches
-pub reached : (a t : ℕ) → a ≤ 16384 → t ≤ 16384 → low (a + less t a) ≡ t
+pub reached : (a t : ℕ) → a ≤ codeLimit → t ≤ codeLimit → low (a + less t a) ≡ t
 reached a t h k = omega arith
 
 module _ (L : Loaded) {s : World} {st : State} {μ : Mem} {t : Tree (S L) (root L) (st .process)} {path : List ℕ} {q : Process} {b : Part}

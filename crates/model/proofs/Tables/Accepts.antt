@@ -7,6 +7,7 @@ use mathlib.Core.Option.{Option, none, some}
 use lib.ListN.{length}
 use lib.Dec.{leb}
 use borrow.Author.Tests.{leb-true}
+use Rattle.model.specs.Limits.{codeLimit, wordLimit}
 use Rattle.model.specs.Syntax.{PAR, Stmts, Program}
 use Rattle.model.specs.Reader.{Read, program, refused, readTable}
 use Rattle.model.specs.Usage.{orElse, anyClash, firstClash, firstClashAll}
@@ -47,20 +48,20 @@ accept-passed table p h = accepted table p h .1
 
 -- compiled code is the scheme's code of the accepted program, and both are within their bounds
 pub compile-accepts : (table : List ℕ) (room : ℕ) (p : Program) (code : List ℕ) → compile table room ≡ compiled p code
-    → (accept table ≡ program p) × (code ≡ codeOf p) × (memoryWords p ≤ 4096) × (length code ≤ 16384) × (length code ≤ room)
+    → (accept table ≡ program p) × (code ≡ codeOf p) × (memoryWords p ≤ wordLimit) × (length code ≤ codeLimit) × (length code ≤ room)
 unfolding compile fitting
 compile-accepts table room p code h =
     by-read (accept table) (λ n at f. never (cc (rw f at h))) λ q e.
-    let e₁ = is-true (leb (memoryWords q) 4096) (λ f. cc (rw (e, f) at h)) in
-    let e₂ = is-true (leb (length (codeOf q)) 16384) (λ f. cc (rw (e, e₁, f) at h)) in
+    let e₁ = is-true (leb (memoryWords q) wordLimit) (λ f. cc (rw (e, f) at h)) in
+    let e₂ = is-true (leb (length (codeOf q)) codeLimit) (λ f. cc (rw (e, e₁, f) at h)) in
     let e₃ = is-true (leb (length (codeOf q)) room) (λ f. cc (rw (e, e₁, e₂, f) at h)) in
     let all : compiled q (codeOf q) ≡ compiled p code = rw (e, e₁, e₂, e₃) at h in
     let same : q ≡ p = cc in
     let same-code : codeOf q ≡ code = cc in (
       cc,
       cc,
-      rw same at (leb-true (memoryWords q) 4096 e₁),
-      rw same-code at (leb-true (length (codeOf q)) 16384 e₂),
+      rw same at (leb-true (memoryWords q) wordLimit e₁),
+      rw same-code at (leb-true (length (codeOf q)) codeLimit e₂),
       rw same-code at (leb-true (length (codeOf q)) room e₃),
     )
 

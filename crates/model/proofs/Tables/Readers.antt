@@ -8,6 +8,7 @@ use native.Mathlib.Omega.{arith}
 use lib.ListN.{length, getElem?, length-drop}
 use lib.Dec.{leb, ltb, eqb}
 use borrow.Author.Tests.{leb-true, ltb-true}
+use Rattle.model.specs.Limits.{tableLimit}
 use Rattle.model.specs.Number.{Number, groups, number}
 use Rattle.model.specs.Syntax.{Site, Expr, Stmt, Stmts, noStmt, stmt, Pairs, Guard, Guards, Program}
 use Rattle.model.specs.Reader.{Parsed, parsed, fails, Reader, onward, pure, refuse, readNumber, oneOf, readCount, Scope, readName}
@@ -262,7 +263,7 @@ program-reads end =
 -- a table that was read was read to its end, as a well-formed program whose declarations stand at places of the table
 pub record ReadWhole (table : List ℕ) (p : Program) : Type 0 where
   pub reads : readProgram 0 table ≡ parsed p (length table) []
-  pub short : length table ≤ 16384
+  pub short : length table ≤ tableLimit
   pub well : WellProgram p
   pub placed : Placed 0 (length table) (p .body)
 
@@ -270,7 +271,7 @@ pub read-whole : (table : List ℕ) (p : Program) → readTable table ≡ progra
 unfolding readTable
 read-whole table p h =
     let e₁ = is-true (leb 1 (length table)) (λ f. cc (rw f at h)) in
-    let e₂ = is-true (leb (length table) 16384) (λ f. cc (rw (e₁, f) at h)) in
+    let e₂ = is-true (leb (length table) tableLimit) (λ f. cc (rw (e₁, f) at h)) in
     by-parsed (readProgram 0 table)
     (λ n at f. never (cc (rw (e₁, e₂, f) at h)))
     (λ q to e.

@@ -3,6 +3,7 @@ use Prim.Native.Nat.{ℕ, suc, _-_, _^_, _≤_, _<_}
 use mathlib.Core.Path.{_≡_}
 use mathlib.Core.Bool.{true}
 use mathlib.Core.List.{[], _++_, List·Memᴰ}
+use Rattle.model.specs.Limits.{channelLimit, nameLimit, branchLimit}
 use Rattle.model.specs.Syntax.{Site, inputOf, outputOf, Expr, constant, variable, NOT, binary, Stmt, SKIP, STOP, assign, input}
 use Rattle.model.specs.Syntax.{output, VAR, CHAN, SEQ, PAR, IF, WHILE, ALT, Stmts, noStmt, stmt, Pairs, noPair, pair, Guards, noGuard}
 use Rattle.model.specs.Syntax.{Guard, inputGuard, skipGuard, guard, Program}
@@ -33,10 +34,10 @@ abbrev mutual
   Well sc (assign x e) = List·Memᴰ x (sc .variables) × WellExpr sc e
   Well sc (input c x) = Inputs sc c × List·Memᴰ x (sc .variables)
   Well sc (output c e) = Outputs sc c × WellExpr sc e
-  Well sc (VAR p n s) = (1 ≤ n) × (n ≤ 32) × Well (withVariables p n sc) s
-  Well sc (CHAN p n s) = (1 ≤ n) × (n ≤ 32) × Well (withChannels p n sc) s
+  Well sc (VAR p n s) = (1 ≤ n) × (n ≤ nameLimit) × Well (withVariables p n sc) s
+  Well sc (CHAN p n s) = (1 ≤ n) × (n ≤ nameLimit) × Well (withChannels p n sc) s
   Well sc (SEQ ss) = WellAll sc ss
-  Well sc (PAR p ss) = (howMany ss ≤ 16) × WellAll sc ss
+  Well sc (PAR p ss) = (howMany ss ≤ branchLimit) × WellAll sc ss
   Well sc (IF ps) = WellPairs sc ps
   Well sc (WHILE e s) = WellExpr sc e × Well sc s
   Well sc (ALT gs) = WellGuards sc gs
@@ -58,7 +59,7 @@ abbrev pub outermost : Program → Scope
 outermost p = record { variables = []; channels = numbered inputOf (p .inputs) ++ numbered outputOf (p .outputs) }
 
 abbrev pub WellProgram : Program → Type 0
-WellProgram p = (p .inputs ≤ 8) × (p .outputs ≤ 8) × Well (outermost p) (p .body)
+WellProgram p = (p .inputs ≤ channelLimit) × (p .outputs ≤ channelLimit) × Well (outermost p) (p .body)
 
 -- declarations stand at places from lo up to hi, each in its own part of that stretch
 abbrev mutual
