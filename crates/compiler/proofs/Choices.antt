@@ -265,8 +265,8 @@ module _ (word : Site → ℕ) (workspace : ℕ → ℕ) (off : ℕ → ℕ) (s 
         → Chooses k i n base dis h o (codeDisable word (w - 1) choice b gs) (codeBranches word w b over gs)
     unfolding codeBranches guardInput inputSize need size inInto inputInto functionCode operationCode operationInto
     choices-fill choice b over base dis h o noGuardAt laid few is user p r l = none-chosen choice b over base dis h o
-    choices-fill choice b over base dis h o (guardsAt {b = y} {gs = gs} (inputGuardAt {e = e} {c = c} {x = x} k t ch v) a g) laid few is user
-        p r l =
+    choices-fill choice b over base dis h o (guardsAt {b = y} {gs = gs} (inputGuardAt {e = e} {c = c} {x = x} k t ch v) a g) laid few is
+        user p r l =
         let after = b + 1 + 4 + size y + 1 in
         choice-more true disc choice b (b + 1 + 4) over base dis h o (waiting scope (w - 1) e c) (plain ajw 1 ∷ inputCode word w c x)
         (disable-waits scope (w - 1) choice b e c x y gs) refl (disc-bytes b choice) refl user
