@@ -26,7 +26,7 @@ fn select(memory: &mut [u32], size: u64, cpu: model::Cpu, branch: u32) -> Step
 {
     match peek(memory, size, cpu.workspace) {
         Peeked::Value(t) => {
-            if t == 4294967295 {
+            if t == model::constants::NONE_SELECTED {
                 let r = stack(cpu, 1, cpu.b, cpu.c);
                 return poke(memory, size, r, cpu.workspace, branch);
             }
@@ -42,7 +42,7 @@ fn disable_held(memory: &mut [u32], size: u64, cpu: model::Cpu, c: u32) -> Step
     ensures { λ r. ⌜ Works size (disableHeld c (cpu .a)) cpu (now (memory .entry)) r (now (memory .exit)) ⌝ }
 {
     match select(memory, size, cpu, cpu.a) {
-        Step::Done(r) => poke(memory, size, r, c, 2147483648),
+        Step::Done(r) => poke(memory, size, r, c, model::constants::NOT_PROCESS),
         Step::Fault(k) => Step::Fault(k),
     }
 }
@@ -53,11 +53,11 @@ fn disable_inside(memory: &mut [u32], size: u64, cpu: model::Cpu, c: u32, p: u32
     ensures { λ r. ⌜ Works size (disableInside c (cpu .a) p) cpu (now (memory .entry)) r (now (memory .exit)) ⌝ }
 {
     let r = stack(cpu, 0, cpu.b, cpu.c);
-    if p == 2147483648 {
+    if p == model::constants::NOT_PROCESS {
         return Step::Done(r);
     }
     if p == cpu.workspace {
-        return poke(memory, size, r, c, 2147483648);
+        return poke(memory, size, r, c, model::constants::NOT_PROCESS);
     }
     select(memory, size, cpu, cpu.a)
 }
@@ -80,7 +80,7 @@ pub fn disable_channel(
     }
     match peek(memory, size, cpu.c) {
         Peeked::Value(p) => {
-            if held_at(cpu.c, setup, held) < 8 {
+            if held_at(cpu.c, setup, held) < model::limits::START_CHANNELS {
                 return disable_held(memory, size, cpu, cpu.c);
             }
             disable_inside(memory, size, cpu, cpu.c, p)

@@ -5,10 +5,11 @@ use processor::held_at;
 use processor::peek;
 use processor::poke;
 use processor::poke2_tell;
+use processor::resume_word;
 use processor::stack;
+use processor::state_word;
 use processor::swap;
 use processor::undo;
-use word::less;
 ghost use mathlib.Core.Path.{_≡_};
 ghost use mathlib.Core.Bool.{true};
 ghost use Prim.Native.Nat.{_≤_};
@@ -25,7 +26,7 @@ fn set_state(memory: &mut [u32], size: u64, cpu: model::Cpu, state: u32) -> Step
     requires { ⌜ size ≤ length (now memory) ⌝ }
     ensures { λ r. ⌜ Works size (pokeOf (stateWord (cpu .workspace)) state) cpu (now (memory .entry)) r (now (memory .exit)) ⌝ }
 {
-    poke(memory, size, cpu, less(cpu.workspace, 3), state)
+    poke(memory, size, cpu, state_word(cpu.workspace), state)
 }
 
 // ALT: the state is Enabling.
@@ -33,7 +34,7 @@ pub fn begin_alt(memory: &mut [u32], size: u64, cpu: model::Cpu) -> Step
     requires { ⌜ (size ≤ length (now memory)) × (cpu .running ≡ true) ⌝ }
     ensures { λ r. ⌜ Stays size beginAlt cpu (now (memory .entry)) r (now (memory .exit)) ⌝ }
 {
-    set_state(memory, size, cpu, 2147483649)
+    set_state(memory, size, cpu, model::constants::ENABLING)
 }
 
 // ENBC with a true condition and no held offer: an empty channel gets the mark W; a sender makes the ALT ready.
@@ -43,13 +44,13 @@ fn enable_inside(memory: &mut [u32], size: u64, cpu: model::Cpu, c: u32) -> Step
 {
     match peek(memory, size, c) {
         Peeked::Value(p) => {
-            if p == 2147483648 {
+            if p == model::constants::NOT_PROCESS {
                 return poke(memory, size, cpu, c, cpu.workspace);
             }
             if p == cpu.workspace {
                 return Step::Done(cpu);
             }
-            set_state(memory, size, cpu, 2147483651)
+            set_state(memory, size, cpu, model::constants::READY)
         }
         Peeked::Fault(k) => Step::Fault(k),
     }
@@ -73,8 +74,8 @@ pub fn enable_channel(
     if cpu.a == 0 {
         return Step::Done(r);
     }
-    if held_at(c, setup, held) < 8 {
-        return set_state(memory, size, r, 2147483651);
+    if held_at(c, setup, held) < model::limits::START_CHANNELS {
+        return set_state(memory, size, r, model::constants::READY);
     }
     enable_inside(memory, size, r, c)
 }
@@ -87,7 +88,7 @@ pub fn enable_skip(memory: &mut [u32], size: u64, cpu: model::Cpu) -> Step
     if cpu.a == 0 {
         return Step::Done(cpu);
     }
-    set_state(memory, size, cpu, 2147483651)
+    set_state(memory, size, cpu, model::constants::READY)
 }
 
 // No branch is chosen; the process waits unless it is Ready.
@@ -96,14 +97,25 @@ fn wait_ready(memory: &mut [u32], size: u64, cpu: model::Cpu, code: u32) -> Step
     ensures { λ r. ⌜ Goes size code (waitReady (cpu .workspace) (cpu .place)) cpu (now (memory .entry)) r (now (memory .exit)) ⌝ }
 {
     let w = cpu.workspace;
-    let a = less(w, 3);
+    let a = state_word(w);
     match peek(memory, size, a) {
         Peeked::Value(s) => {
-            if s == 2147483651 {
+            if s == model::constants::READY {
                 return Step::Done(cpu);
             }
-            let b = less(w, 1);
-            poke2_tell(memory, size, cpu, code, a, 2147483650, b, cpu.place, 0, 0)
+            let b = resume_word(w);
+            poke2_tell(
+                memory,
+                size,
+                cpu,
+                code,
+                a,
+                model::constants::WAITING,
+                b,
+                cpu.place,
+                0,
+                0,
+            )
         }
         Peeked::Fault(k) => Step::Fault(k),
     }
@@ -115,7 +127,7 @@ pub fn wait_alt(memory: &mut [u32], size: u64, cpu: model::Cpu, code: u32) -> St
     ensures { λ r. ⌜ Goes size code (landing waitAlt) cpu (now (memory .entry)) r (now (memory .exit)) ⌝ }
 {
     let w = cpu.workspace;
-    match swap(memory, size, w, 4294967295) {
+    match swap(memory, size, w, model::constants::NONE_SELECTED) {
         Peeked::Value(old) => {
             let step = wait_ready(memory, size, cpu, code);
             undo(memory, w, old, step)

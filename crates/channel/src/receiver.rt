@@ -5,8 +5,8 @@ use processor::Peeked;
 use processor::Step;
 use processor::held_at;
 use processor::peek;
+use processor::state_word;
 use processor::swap;
-use word::less;
 ghost use mathlib.Core.Path.{_≡_};
 ghost use mathlib.Core.Bool.{true};
 ghost use Prim.Native.Nat.{_≤_};
@@ -23,7 +23,7 @@ pub fn receive(memory: &[u32], size: u64, p: u32) -> Peeked
     requires { ⌜ size ≤ length (now memory) ⌝ }
     ensures { λ r. ⌜ Finds size (receiveOf p) (now (memory .entry)) r ⌝ }
 {
-    match peek(memory, size, less(p, 3)) {
+    match peek(memory, size, state_word(p)) {
         Peeked::Value(m) => peek(memory, size, m),
         Peeked::Fault(k) => Peeked::Fault(k),
     }
@@ -36,7 +36,7 @@ fn input_inside(memory: &mut [u32], size: u64, cpu: model::Cpu, code: u32) -> St
 {
     match peek(memory, size, cpu.b) {
         Peeked::Value(p) => {
-            if p == 2147483648 {
+            if p == model::constants::NOT_PROCESS {
                 return wait_at(memory, size, cpu, code, cpu.b, cpu.c, 0, 0);
             }
             match receive(memory, size, p) {
@@ -63,11 +63,11 @@ pub fn input(
         ⌜ Takes setup (landing inputMessage) cpu (now (offers .entry)) (now (held .entry)) (now (memory .entry)) r
         (now (held .exit)) (now (memory .exit)) ⌝ }
 {
-    if cpu.a != 4 {
+    if cpu.a != model::constants::WORD_BYTES {
         return Step::Fault(model::FaultKind::Count(cpu.a));
     }
     let k = held_at(cpu.b, setup, held);
-    if 8 <= k {
+    if model::limits::START_CHANNELS <= k {
         return input_inside(memory, size, cpu, setup.code);
     }
     match swap(memory, size, cpu.c, offers[k as usize]) {

@@ -5,9 +5,9 @@ use processor::Peeked;
 use processor::Step;
 use processor::alt_state;
 use processor::peek;
+use processor::state_word;
 use processor::swap;
 use processor::undo;
-use word::less;
 ghost use mathlib.Core.Path.{_≡_};
 ghost use mathlib.Core.Bool.{true};
 ghost use Prim.Native.Nat.{_≤_};
@@ -22,7 +22,7 @@ fn output_to(memory: &mut [u32], size: u64, cpu: model::Cpu, code: u32, p: u32) 
     requires { ⌜ (size ≤ length (now memory)) × (cpu .running ≡ true) × (cpu .place ≤ code) ⌝ }
     ensures { λ r. ⌜ Talks size code (outputTo p) cpu (now (memory .entry)) r (now (memory .exit)) ⌝ }
 {
-    match peek(memory, size, less(p, 3)) {
+    match peek(memory, size, state_word(p)) {
         Peeked::Value(s) => {
             if alt_state(s) {
                 return wait_at(memory, size, cpu, code, cpu.b, cpu.workspace, p, s);
@@ -40,7 +40,7 @@ fn output_behind(memory: &mut [u32], size: u64, cpu: model::Cpu, code: u32) -> S
 {
     match peek(memory, size, cpu.b) {
         Peeked::Value(p) => {
-            if p == 2147483648 {
+            if p == model::constants::NOT_PROCESS {
                 return wait_at(memory, size, cpu, code, cpu.b, cpu.workspace, 0, 0);
             }
             output_to(memory, size, cpu, code, p)

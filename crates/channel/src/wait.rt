@@ -3,9 +3,10 @@ use processor::Peeked;
 use processor::Step;
 use processor::poke_join;
 use processor::poke2_tell;
+use processor::resume_word;
+use processor::state_word;
 use processor::swap;
 use processor::undo;
-use word::less;
 ghost use mathlib.Core.Path.{_≡_};
 ghost use mathlib.Core.Bool.{true};
 ghost use Prim.Native.Nat.{_≤_};
@@ -35,9 +36,9 @@ pub fn wait_at(
                 size,
                 cpu,
                 code,
-                less(w, 1),
+                resume_word(w),
                 cpu.place,
-                less(w, 3),
+                state_word(w),
                 message,
                 p,
                 state,
@@ -63,7 +64,7 @@ pub fn deliver(
 {
     match swap(memory, size, place, v) {
         Peeked::Value(old) => {
-            let step = poke_join(memory, size, cpu, c, 2147483648, p);
+            let step = poke_join(memory, size, cpu, c, model::constants::NOT_PROCESS, p);
             undo(memory, place, old, step)
         }
         Peeked::Fault(k) => Step::Fault(k),

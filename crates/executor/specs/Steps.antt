@@ -3,7 +3,8 @@ use Prim.Native.Nat.{ℕ, suc, min}
 use mathlib.Core.Path.{_≡_}
 use mathlib.Core.List.{List, [], _∷_}
 use Rattle.model.specs.Limits.{sliceLimit}
-use Rattle.model.specs.Instruction.{functionOf}
+use Rattle.model.specs.Instruction.{functionOf, Operation, operationCode, rev, endp, diff, «in», prod, gt, startp, outword, stopp, ldpi}
+use Rattle.model.specs.Instruction.{disc, diss, xor, mint, alt, altwt, altend, and, enbc, enbs, or, sum}
 use Rattle.model.specs.Word.{low}
 use Rattle.model.specs.Machine.{Act, goto, gathering, counting}
 use Rattle.model.specs.Run.{functionOr12}
@@ -13,22 +14,22 @@ use Rattle.model.specs.declared.Cpu.{Cpu}
 abbrev pub executing : (code operand : ℕ) → Act (Unit {0})
 executing k n = functionOr12 (functionOf k) k n
 
--- a number is none of these, of which the last comes first
-abbrev pub Other : List ℕ → ℕ → Type 0
+-- a number is the code of none of these, of which the last comes first
+abbrev pub Other : List Operation → ℕ → Type 0
 Other [] n = Unit {0}
-Other (k ∷ l) n = Other l n × (n ≡ k → ⊥)
+Other (o ∷ l) n = Other l n × (n ≡ operationCode o → ⊥)
 
--- the operations on the registers alone: SUM, OR, AND, MINT, XOR, LDPI, GT, PROD, DIFF, REV
-abbrev pub onRegisters : List ℕ
-onRegisters = 82 ∷ 75 ∷ 70 ∷ 66 ∷ 51 ∷ 27 ∷ 9 ∷ 8 ∷ 4 ∷ 0 ∷ []
+-- the operations on the registers alone
+abbrev pub onRegisters : List Operation
+onRegisters = sum ∷ or ∷ and ∷ mint ∷ xor ∷ ldpi ∷ gt ∷ prod ∷ diff ∷ rev ∷ []
 
--- those on processes and channels: STOPP, OUTWORD, STARTP, IN, ENDP
-abbrev pub onProcesses : List ℕ
-onProcesses = 21 ∷ 15 ∷ 13 ∷ 7 ∷ 3 ∷ []
+-- those on processes and channels
+abbrev pub onProcesses : List Operation
+onProcesses = stopp ∷ outword ∷ startp ∷ «in» ∷ endp ∷ []
 
--- those of an ALT: ENBS, ENBC, ALTEND, ALTWT, ALT, DISS, DISC
-abbrev pub onAlts : List ℕ
-onAlts = 73 ∷ 72 ∷ 69 ∷ 68 ∷ 67 ∷ 48 ∷ 47 ∷ []
+-- those of an ALT
+abbrev pub onAlts : List Operation
+onAlts = enbs ∷ enbc ∷ altend ∷ altwt ∷ alt ∷ diss ∷ disc ∷ []
 
 -- the byte counts towards the slice, the next one is behind it, and the operand is given
 abbrev pub advancedTo : (operand : ℕ) → Cpu → Cpu

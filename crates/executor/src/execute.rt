@@ -1,4 +1,6 @@
 // What each instruction does (document 01, "The machine"; INMOS's guide).
+use crate::functions;
+use instruction::codes;
 use processor::Peeked;
 use processor::Step;
 use processor::goto;
@@ -87,7 +89,7 @@ fn conditional_jump(cpu: model::Cpu, code: u32, n: u32) -> Step
     Step::Done(pop(cpu))
 }
 
-// The operations of an ALT: 47 DISC, 48 DISS, 67 ALT, 68 ALTWT, 69 ALTEND, 72 ENBC, 73 ENBS. Any other number is a fault (refusal 12).
+// The operations of an ALT. Any other number is a fault (refusal 12).
 fn operate_alt(
     memory: &mut [u32],
     size: u64,
@@ -102,18 +104,18 @@ fn operate_alt(
         ⌜ Sees setup (landing (executed opr n)) cpu (now (held .entry)) (now (memory .entry)) r (now (memory .exit)) ⌝ }
 {
     match n {
-        47 => alternative::disable_channel(memory, size, cpu, setup, held),
-        48 => alternative::disable_skip(memory, size, cpu),
-        67 => alternative::begin_alt(memory, size, cpu),
-        68 => alternative::wait_alt(memory, size, cpu, setup.code),
-        69 => alternative::end_alt(memory, size, cpu, setup.code),
-        72 => alternative::enable_channel(memory, size, cpu, setup, held),
-        73 => alternative::enable_skip(memory, size, cpu),
+        codes::DISC => alternative::disable_channel(memory, size, cpu, setup, held),
+        codes::DISS => alternative::disable_skip(memory, size, cpu),
+        codes::ALT => alternative::begin_alt(memory, size, cpu),
+        codes::ALTWT => alternative::wait_alt(memory, size, cpu, setup.code),
+        codes::ALTEND => alternative::end_alt(memory, size, cpu, setup.code),
+        codes::ENBC => alternative::enable_channel(memory, size, cpu, setup, held),
+        codes::ENBS => alternative::enable_skip(memory, size, cpu),
         _ => Step::Fault(model::FaultKind::Operation(n)),
     }
 }
 
-// The operations on processes and channels: 3 ENDP, 7 IN, 13 STARTP, 15 OUTWORD, 21 STOPP.
+// The operations on processes and channels.
 fn operate_process(
     memory: &mut [u32],
     size: u64,
@@ -130,17 +132,16 @@ fn operate_process(
         (now (held .exit)) (now (memory .exit)) ⌝ }
 {
     match n {
-        3 => processor::end_process(memory, size, cpu, setup.code),
-        7 => channel::input(memory, size, cpu, setup, offers, held),
-        13 => processor::start_process(memory, size, cpu),
-        15 => channel::output(memory, size, cpu, setup.code),
-        21 => processor::stop_process(memory, size, cpu, setup.code),
+        codes::ENDP => processor::end_process(memory, size, cpu, setup.code),
+        codes::IN => channel::input(memory, size, cpu, setup, offers, held),
+        codes::STARTP => processor::start_process(memory, size, cpu),
+        codes::OUTWORD => channel::output(memory, size, cpu, setup.code),
+        codes::STOPP => processor::stop_process(memory, size, cpu, setup.code),
         _ => operate_alt(memory, size, cpu, setup, held, n),
     }
 }
 
-// The operations: first those on the registers alone, which are the most frequent. 0 REV, 4 DIFF, 8 PROD, 9 GT, 27 LDPI, 51 XOR, 66 MINT,
-// 70 AND, 75 OR, 82 SUM.
+// The operations: first those on the registers alone, which are the most frequent.
 fn operate(
     memory: &mut [u32],
     size: u64,
@@ -157,21 +158,21 @@ fn operate(
         (now (held .exit)) (now (memory .exit)) ⌝ }
 {
     match n {
-        0 => Step::Done(stack(cpu, cpu.b, cpu.a, cpu.c)),
-        4 => Step::Done(reduce(cpu, less(cpu.b, cpu.a))),
-        8 => Step::Done(reduce(cpu, product(cpu.b, cpu.a))),
-        9 => Step::Done(reduce(cpu, above(cpu.b, cpu.a))),
-        27 => Step::Done(stack(cpu, plus(cpu.place, cpu.a), cpu.b, cpu.c)),
-        51 => Step::Done(reduce(cpu, cpu.b ^ cpu.a)),
-        66 => Step::Done(push(cpu, 2147483648)),
-        70 => Step::Done(reduce(cpu, cpu.b & cpu.a)),
-        75 => Step::Done(reduce(cpu, cpu.b | cpu.a)),
-        82 => Step::Done(reduce(cpu, plus(cpu.b, cpu.a))),
+        codes::REV => Step::Done(stack(cpu, cpu.b, cpu.a, cpu.c)),
+        codes::DIFF => Step::Done(reduce(cpu, less(cpu.b, cpu.a))),
+        codes::PROD => Step::Done(reduce(cpu, product(cpu.b, cpu.a))),
+        codes::GT => Step::Done(reduce(cpu, above(cpu.b, cpu.a))),
+        codes::LDPI => Step::Done(stack(cpu, plus(cpu.place, cpu.a), cpu.b, cpu.c)),
+        codes::XOR => Step::Done(reduce(cpu, cpu.b ^ cpu.a)),
+        codes::MINT => Step::Done(push(cpu, model::constants::NOT_PROCESS)),
+        codes::AND => Step::Done(reduce(cpu, cpu.b & cpu.a)),
+        codes::OR => Step::Done(reduce(cpu, cpu.b | cpu.a)),
+        codes::SUM => Step::Done(reduce(cpu, plus(cpu.b, cpu.a))),
         _ => operate_process(memory, size, cpu, setup, offers, held, n),
     }
 }
 
-// A direct function with its operand: 0 J, 1 LDLP, 4 LDC, 7 LDL, 10 CJ, 11 AJW, 12 EQC, 13 STL, 15 OPR. Any other is a fault (refusal 12).
+// A direct function with its operand. Any other is a fault (refusal 12).
 pub fn execute(
     memory: &mut [u32],
     size: u64,
@@ -189,15 +190,15 @@ pub fn execute(
         (now (held .exit)) (now (memory .exit)) ⌝ }
 {
     match function {
-        0 => processor::jump(memory, size, cpu, setup, n),
-        1 => Step::Done(push(cpu, plus(cpu.workspace, n))),
-        4 => Step::Done(push(cpu, n)),
-        7 => load_local(memory, size, cpu, n),
-        10 => conditional_jump(cpu, setup.code, n),
-        11 => Step::Done(work(cpu, plus(cpu.workspace, n))),
-        12 => Step::Done(stack(cpu, same(cpu.a, n), cpu.b, cpu.c)),
-        13 => store_local(memory, size, cpu, n),
-        15 => operate(memory, size, cpu, setup, offers, held, n),
+        functions::J => processor::jump(memory, size, cpu, setup, n),
+        functions::LDLP => Step::Done(push(cpu, plus(cpu.workspace, n))),
+        functions::LDC => Step::Done(push(cpu, n)),
+        functions::LDL => load_local(memory, size, cpu, n),
+        functions::CJ => conditional_jump(cpu, setup.code, n),
+        functions::AJW => Step::Done(work(cpu, plus(cpu.workspace, n))),
+        functions::EQC => Step::Done(stack(cpu, same(cpu.a, n), cpu.b, cpu.c)),
+        functions::STL => store_local(memory, size, cpu, n),
+        functions::OPR => operate(memory, size, cpu, setup, offers, held, n),
         _ => Step::Fault(model::FaultKind::Function(function)),
     }
 }

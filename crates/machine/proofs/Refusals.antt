@@ -7,6 +7,7 @@ use mathlib.Core.List.{List, [], _++_}
 use borrow.Author.Tests.{le-leb, lt-leb, leb-true}
 use lib.ListN.{length, drop, replicate}
 use lib.Dec.{leb}
+use Rattle.model.specs.Limits.{wordLimit, codeLimit, channelLimit, sliceLimit}
 use Rattle.model.specs.Word.{notProcess}
 use Rattle.model.specs.declared.StartAnswer.{StartAnswer}
 use Rattle.model.specs.declared.StartAnswer.the-variants.{Started, BadSlice, BadCount, TooLarge, Short}
@@ -24,25 +25,25 @@ not-both a b c d h = one-false (leb a b) (leb c d) λ p q. h (leb-true a b p) (l
 
 module _ (code memory : List ℕ) (w i o q : ℕ) where
   -- 15
-  pub bad-slice : (1 ≤ q → q ≤ 65535 → ⊥) → start code memory w i o q ≡ unchanged BadSlice blank memory
+  pub bad-slice : (1 ≤ q → q ≤ sliceLimit → ⊥) → start code memory w i o q ≡ unchanged BadSlice blank memory
   unfolding start
-  bad-slice h = rw (not-both 1 q q 65535 h)
+  bad-slice h = rw (not-both 1 q q sliceLimit h)
 
-  module _ (q₁ : 1 ≤ q) (q₂ : q ≤ 65535) where
+  module _ (q₁ : 1 ≤ q) (q₂ : q ≤ sliceLimit) where
     -- 3
-    pub bad-count : (i ≤ 8 → o ≤ 8 → ⊥) → start code memory w i o q ≡ unchanged BadCount blank memory
+    pub bad-count : (i ≤ channelLimit → o ≤ channelLimit → ⊥) → start code memory w i o q ≡ unchanged BadCount blank memory
     unfolding start
-    bad-count h = simp (le-leb 1 q q₁, le-leb q 65535 q₂, not-both i 8 o 8 h)
+    bad-count h = simp (le-leb 1 q q₁, le-leb q sliceLimit q₂, not-both i channelLimit o channelLimit h)
 
-    module _ (i₈ : i ≤ 8) (o₈ : o ≤ 8) where
+    module _ (i₈ : i ≤ channelLimit) (o₈ : o ≤ channelLimit) where
       -- 10
-      pub too-large : (w + i + o ≤ 4096 → length code ≤ 16384 → ⊥) → start code memory w i o q ≡ unchanged TooLarge blank memory
+      pub too-large : (w + i + o ≤ wordLimit → length code ≤ codeLimit → ⊥) → start code memory w i o q ≡ unchanged TooLarge blank memory
       unfolding start
       too-large h =
-          let n = not-both (w + i + o) 4096 (length code) 16384 h in
-          simp (le-leb 1 q q₁, le-leb q 65535 q₂, le-leb i 8 i₈, le-leb o 8 o₈, n)
+          let n = not-both (w + i + o) wordLimit (length code) codeLimit h in
+          simp (le-leb 1 q q₁, le-leb q sliceLimit q₂, le-leb i channelLimit i₈, le-leb o channelLimit o₈, n)
 
-      module _ (words : w + i + o ≤ 4096) (bytes : length code ≤ 16384) where
+      module _ (words : w + i + o ≤ wordLimit) (bytes : length code ≤ codeLimit) where
         abbrev begun : After StartAnswer
         begun =
             record {
@@ -58,8 +59,8 @@ module _ (code memory : List ℕ) (w i o q : ℕ) where
         unfolding start cleared
         by-memory =
             let n : w + i + o - w ≡ i + o = omega arith in
-            let t = le-leb (w + i + o) 4096 words in
-            simp (le-leb 1 q q₁, le-leb q 65535 q₂, le-leb i 8 i₈, le-leb o 8 o₈, t, le-leb (length code) 16384 bytes, n)
+            let t = le-leb (w + i + o) wordLimit words in
+            simp (le-leb 1 q q₁, le-leb q sliceLimit q₂, le-leb i channelLimit i₈, le-leb o channelLimit o₈, t, le-leb (length code) codeLimit bytes, n)
 
         -- 11
         pub short : length memory < w + i + o → start code memory w i o q ≡ unchanged (Short (w + i + o)) blank memory

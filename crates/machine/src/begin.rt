@@ -107,7 +107,7 @@ fn clear(memory: &mut [u32], w: usize, size: usize)
         ⌜ now (memory .exit) ≡ replicate w 0 ++ replicate (size - w) notProcess ++ drop size (now (memory .entry)) ⌝ }
 {
     fill(memory, 0, w, 0);
-    fill(memory, w, size, 2147483648);
+    fill(memory, w, size, model::constants::NOT_PROCESS);
 }
 
 // Starts a machine over lent code and lent memory. Refusals: 15 for the slice, then 3 for a channel count, 10 for words or code, and 11

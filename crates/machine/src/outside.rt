@@ -4,14 +4,15 @@ use processor::Step;
 use processor::alt_state;
 use processor::notify_wake;
 use processor::peek;
+use processor::state_word;
 use processor::swap;
 use processor::undo;
 use processor::wake;
-use word::less;
 ghost use mathlib.Core.Path.{_≡_};
 ghost use mathlib.Core.Bool.{false};
 ghost use Prim.Native.Nat.{_+_, _≤_, _<_};
 ghost use lib.ListN.{length, getD, set};
+ghost use Rattle.model.specs.Word.{notProcess};
 ghost use Rattle.model.specs.Machine.{memorySize, machineWith};
 ghost use Rattle.model.specs.Answers.{refusedOffer};
 ghost use Rattle.model.specs.Refusals.{offerRefusal};
@@ -35,7 +36,7 @@ pub fn empty_wake(memory: &mut [u32], size: u64, cpu: model::Cpu, code: u32, c: 
 {
     let at = c as usize;
     let old = memory[at];
-    memory[at] = 2147483648;
+    memory[at] = model::constants::NOT_PROCESS;
     match wake(memory, size, cpu, code, w) {
         Step::Done(r) => Step::Done(r),
         Step::Fault(k) => {
@@ -160,12 +161,12 @@ fn offer_to(
 ) -> Offered
     requires { ⌜ (size ≤ length (now memory)) × (memorySize (machine .setup) ≡ size) × (machine .fault ≡ Nothing) ⌝ }
     requires { ⌜ (k < machine .setup .inputs) × (k < 8) × (getD (machine .held) k false ≡ false) ⌝ }
-    requires { ⌜ (getD (now memory) (machine .setup .base + k) 0 ≡ p) × (p ≡ 2147483648 → ⊥) ⌝ }
+    requires { ⌜ (getD (now memory) (machine .setup .base + k) 0 ≡ p) × (p ≡ notProcess → ⊥) ⌝ }
     ensures { λ r. ⌜ Answers (offerOf machine (now (memory .entry)) k value) (r .answer) (r .machine) (now (memory .exit)) ⌝ }
 {
     let cpu = machine.cpu;
     let setup = machine.setup;
-    match peek(memory, size, less(p, 3)) {
+    match peek(memory, size, state_word(p)) {
         Peeked::Value(s) => {
             if alt_state(s) {
                 let told = notify_wake(memory, size, cpu, setup.code, p, s);
@@ -199,7 +200,7 @@ fn offer_machine(
         return unchanged(machine, model::OfferAnswer::Held);
     }
     let p = memory[(setup.base as u64 + k as u64) as usize];
-    if p == 2147483648 {
+    if p == model::constants::NOT_PROCESS {
         return unchanged(hold(machine, k, value), model::OfferAnswer::Offered);
     }
     offer_to(machine, memory, size, k, value, p)

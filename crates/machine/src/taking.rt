@@ -8,6 +8,7 @@ use processor::Step;
 ghost use mathlib.Core.Path.{_≡_};
 ghost use Prim.Native.Nat.{_+_, _≤_, _<_};
 ghost use lib.ListN.{length, getD};
+ghost use Rattle.model.specs.Word.{notProcess};
 ghost use Rattle.model.specs.Machine.{memorySize};
 ghost use Rattle.model.specs.Answers.{refusedTake};
 ghost use Rattle.model.specs.Refusals.{takeRefusal};
@@ -51,7 +52,7 @@ fn settle(machine: model::Machine, value: u32, step: Step) -> Took
 // A process is at the channel's word: its value is taken, and it is woken.
 fn take_from(machine: model::Machine, memory: &mut [u32], size: u64, k: u32, p: u32) -> Took
     requires { ⌜ (size ≤ length (now memory)) × (memorySize (machine .setup) ≡ size) × (machine .fault ≡ NoFault) ⌝ }
-    requires { ⌜ (k < machine .setup .outputs) × (p ≡ 2147483648 → ⊥) ⌝ }
+    requires { ⌜ (k < machine .setup .outputs) × (p ≡ notProcess → ⊥) ⌝ }
     requires { ⌜ getD (now memory) (machine .setup .base + machine .setup .inputs + k) 0 ≡ p ⌝ }
     ensures { λ r. ⌜ Answers (takeOf machine (now (memory .entry)) k) (r .answer) (r .machine) (now (memory .exit)) ⌝ }
 {
@@ -77,7 +78,7 @@ fn take_machine(machine: model::Machine, memory: &mut [u32], size: u64, k: u32) 
         return same(machine, model::TakeAnswer::NoChannel);
     }
     let p = memory[(setup.base as u64 + setup.inputs as u64 + k as u64) as usize];
-    if p == 2147483648 {
+    if p == model::constants::NOT_PROCESS {
         return same(machine, model::TakeAnswer::Nothing);
     }
     take_from(machine, memory, size, k, p)

@@ -10,6 +10,8 @@ pub use memory::Peeked;
 pub use memory::Step;
 pub use memory::peek;
 pub use memory::poke;
+pub use memory::resume_word;
+pub use memory::state_word;
 pub use memory::swap;
 pub use memory::undo;
 pub use offer::held_at;

@@ -1,8 +1,9 @@
 // Words of the machine's memory. `size` is how many there are; the lent memory has at least as many.
+use word::less;
 ghost use mathlib.Core.Path.{_≡_};
 ghost use Prim.Native.Nat.{_≤_};
 ghost use lib.ListN.{length};
-ghost use Rattle.model.specs.Machine.{peek as peekOf, poke as pokeOf};
+ghost use Rattle.model.specs.Machine.{peek as peekOf, poke as pokeOf, resumeWord, linkWord, stateWord};
 ghost use Rattle.processor.specs.Seen.{Works, Finds, looked, written, undone};
 
 // What a byte came to: the registers after it, or the fault that kept it from beginning.
@@ -15,6 +16,27 @@ pub enum Step {
 pub enum Peeked {
     Value(u32),
     Fault(model::FaultKind),
+}
+
+// The words below a process's workspace pointer W: W - 1, where it goes on.
+pub fn resume_word(w: u32) -> u32
+    ensures { λ r. ⌜ r ≡ resumeWord w ⌝ }
+{
+    less(w, 1)
+}
+
+// W - 2, the process behind it in the queue.
+pub fn link_word(w: u32) -> u32
+    ensures { λ r. ⌜ r ≡ linkWord w ⌝ }
+{
+    less(w, 2)
+}
+
+// W - 3, its message place or the state of its ALT.
+pub fn state_word(w: u32) -> u32
+    ensures { λ r. ⌜ r ≡ stateWord w ⌝ }
+{
+    less(w, 3)
 }
 
 // A word inside the machine's memory, or the fault with its address.

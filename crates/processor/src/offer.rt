@@ -9,17 +9,17 @@ pub fn held_at(c: u32, setup: model::Setup, held: &[bool; 8]) -> u32
     ensures { λ r. ⌜ HeldAt c setup (now (held .entry)) r ⌝ }
 {
     if c < setup.base {
-        return 8;
+        return model::limits::START_CHANNELS;
     }
     let k = c - setup.base;
     if setup.inputs <= k {
-        return 8;
+        return model::limits::START_CHANNELS;
     }
-    if 8 <= k {
-        return 8;
+    if model::limits::START_CHANNELS <= k {
+        return model::limits::START_CHANNELS;
     }
     if held[k as usize] {
         return k;
     }
-    8
+    model::limits::START_CHANNELS
 }

@@ -1,12 +1,12 @@
 // A process is woken from outside. A free processor takes it at once, and the place where it goes on is tested.
 use crate::memory::Peeked;
 use crate::memory::Step;
+use crate::memory::state_word;
 use crate::memory::swap;
 use crate::memory::undo;
 use crate::process::join;
 use crate::process::land;
 use crate::process::resume;
-use word::less;
 ghost use mathlib.Core.Path.{_≡_};
 ghost use mathlib.Core.Bool.{false};
 ghost use Prim.Native.Nat.{_≤_};
@@ -53,7 +53,7 @@ fn wake_waiting(
     requires { ⌜ size ≤ length (now memory) ⌝ }
     ensures { λ r. ⌜ Goes size code (wakeWaiting p state) cpu (now (memory .entry)) r (now (memory .exit)) ⌝ }
 {
-    if state == 2147483650 {
+    if state == model::constants::WAITING {
         return wake(memory, size, cpu, code, p);
     }
     Step::Done(cpu)
@@ -71,8 +71,8 @@ pub fn notify_wake(
     requires { ⌜ size ≤ length (now memory) ⌝ }
     ensures { λ r. ⌜ Goes size code (notifyWake p state) cpu (now (memory .entry)) r (now (memory .exit)) ⌝ }
 {
-    let a = less(p, 3);
-    match swap(memory, size, a, 2147483651) {
+    let a = state_word(p);
+    match swap(memory, size, a, model::constants::READY) {
         Peeked::Value(old) => {
             let step = wake_waiting(memory, size, cpu, code, p, state);
             undo(memory, a, old, step)

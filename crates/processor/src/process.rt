@@ -1,8 +1,10 @@
 // Processes and the queue.
 use crate::memory::Peeked;
 use crate::memory::Step;
+use crate::memory::link_word;
 use crate::memory::peek;
 use crate::memory::poke;
+use crate::memory::resume_word;
 use crate::memory::swap;
 use crate::memory::undo;
 use crate::registers::goto;
@@ -36,7 +38,7 @@ pub fn resume(memory: &[u32], size: u64, cpu: model::Cpu, w: u32) -> Step
     requires { ⌜ size ≤ length (now memory) ⌝ }
     ensures { λ r. ⌜ Works size (resumeOf w) cpu (now (memory .entry)) r (now (memory .entry)) ⌝ }
 {
-    match peek(memory, size, less(w, 1)) {
+    match peek(memory, size, resume_word(w)) {
         Peeked::Value(p) => {
             let mut r = cpu;
             r.running = true;
@@ -60,7 +62,7 @@ fn take_front(memory: &[u32], size: u64, cpu: model::Cpu) -> Step
         r.queued = false;
         return resume(memory, size, r, front);
     }
-    match peek(memory, size, less(front, 2)) {
+    match peek(memory, size, link_word(front)) {
         Peeked::Value(f) => {
             r.front = f;
             r.queued = true;
@@ -129,7 +131,7 @@ pub fn stop_process(memory: &mut [u32], size: u64, cpu: model::Cpu, code: u32) -
         cpu,
         code,
         0,
-        less(cpu.workspace, 1),
+        resume_word(cpu.workspace),
         cpu.place,
     )
 }
@@ -143,7 +145,7 @@ pub fn join(memory: &mut [u32], size: u64, cpu: model::Cpu, w: u32) -> Step
     r.back = w;
     r.queued = true;
     if cpu.queued {
-        return poke(memory, size, r, less(cpu.back, 2), w);
+        return poke(memory, size, r, link_word(cpu.back), w);
     }
     r.front = w;
     Step::Done(r)
@@ -169,7 +171,7 @@ pub fn start_process(memory: &mut [u32], size: u64, cpu: model::Cpu) -> Step
     ensures { λ r. ⌜ Works size startProcess cpu (now (memory .entry)) r (now (memory .exit)) ⌝ }
 {
     let w = cpu.a;
-    poke_join(memory, size, cpu, less(w, 1), plus(cpu.place, cpu.b), w)
+    poke_join(memory, size, cpu, resume_word(w), plus(cpu.place, cpu.b), w)
 }
 
 // The last branch goes on as the PAR.
@@ -222,7 +224,7 @@ pub fn join_release(
     r.back = w;
     r.queued = true;
     if cpu.queued {
-        return poke_release(memory, size, r, code, to, less(cpu.back, 2), w);
+        return poke_release(memory, size, r, code, to, link_word(cpu.back), w);
     }
     r.front = w;
     release(memory, size, r, code, to)
@@ -234,7 +236,7 @@ fn yield_slice(memory: &mut [u32], size: u64, cpu: model::Cpu, code: u32, to: u3
     ensures { λ r. ⌜ Goes size code (yieldSlice to) cpu (now (memory .entry)) r (now (memory .exit)) ⌝ }
 {
     let w = cpu.workspace;
-    let a = less(w, 1);
+    let a = resume_word(w);
     match swap(memory, size, a, to) {
         Peeked::Value(old) => {
             let step = join_release(memory, size, cpu, code, to, w);

@@ -1,11 +1,11 @@
 // A process waits: words are written, an ALT is told, and the processor is free. A fault gives all words back.
 use crate::memory::Peeked;
 use crate::memory::Step;
+use crate::memory::state_word;
 use crate::memory::swap;
 use crate::memory::undo;
 use crate::process::join_release;
 use crate::process::release;
-use word::less;
 ghost use mathlib.Core.Path.{_≡_};
 ghost use mathlib.Core.Bool.{true};
 ghost use Prim.Native.Nat.{_≤_};
@@ -26,7 +26,7 @@ fn wake_release(
     requires { ⌜ (size ≤ length (now memory)) × (cpu .running ≡ true) ⌝ }
     ensures { λ r. ⌜ Goes size code (wakeRelease p state) cpu (now (memory .entry)) r (now (memory .exit)) ⌝ }
 {
-    if state == 2147483650 {
+    if state == model::constants::WAITING {
         return join_release(memory, size, cpu, code, 0, p);
     }
     release(memory, size, cpu, code, 0)
@@ -36,13 +36,13 @@ fn wake_release(
 pub fn alt_state(state: u32) -> bool
     ensures { λ r. ⌜ r ≡ isAltState state ⌝ }
 {
-    if state == 2147483649 {
+    if state == model::constants::ENABLING {
         return true;
     }
-    if state == 2147483650 {
+    if state == model::constants::WAITING {
         return true;
     }
-    state == 2147483651
+    state == model::constants::READY
 }
 
 // A process in an ALT is told: its state becomes Ready, it is woken if it was Waiting, and the processor is free.
@@ -57,8 +57,8 @@ fn notify_release(
     requires { ⌜ (size ≤ length (now memory)) × (cpu .running ≡ true) ⌝ }
     ensures { λ r. ⌜ Goes size code (notifyRelease p state) cpu (now (memory .entry)) r (now (memory .exit)) ⌝ }
 {
-    let a = less(p, 3);
-    match swap(memory, size, a, 2147483651) {
+    let a = state_word(p);
+    match swap(memory, size, a, model::constants::READY) {
         Peeked::Value(old) => {
             let step = wake_release(memory, size, cpu, code, p, state);
             undo(memory, a, old, step)

@@ -7,16 +7,16 @@ use Rattle.channel.proofs.receiver.receive.Tie as tie
 returns : tie.Need-returns
 unfolding receive
 returns c u h x r =
-    let less = c .before .before .before .before .before .less in
+    let state-word = c .before .before .before .before .before .state-word in
     let peek = c .before .before .before .before .peek in
-    rw (← less .ensures, peek .ensures u h x _, c .before .before .m .given .1) (c .peek2 .ensures u h x r)
+    rw (← state-word .ensures, peek .ensures u h x _, c .before .before .m .given .1) (c .peek2 .ensures u h x r)
 
 returns-2 : tie.Need-returns-2
 unfolding receive
 returns-2 c u h x r =
-    let less = c .before .before .before .before .less in
+    let state-word = c .before .before .before .before .state-word in
     let peek = c .before .before .before .peek in
-    rw (← less .ensures, peek .ensures u h x _, c .before .k .given .1)
+    rw (← state-word .ensures, peek .ensures u h x _, c .before .k .given .1)
 
 pub receive-spec : {M : Type 1} → statement M
 receive-spec =

@@ -10,14 +10,14 @@ use Rattle.channel.proofs.sender.output_to.Tie as tie
 
 returns : tie.Need-returns
 returns c u h g =
-    let less = c .before .before .before .before .before .before .before .before .before .before .less in
+    let state-word = c .before .before .before .before .before .before .before .before .before .before .state-word in
     let peek = c .before .before .before .before .before .before .before .before .before .peek in
     let s = c .before .before .before .before .before .before .before .s in
     let alt-state = c .before .before .before .before .before .alt-state in
     let if1 = c .before .before .before .before .if1 in
     silent (like (c .before .before .wait-at .ensures u h g)
     (λ x.
-    rw (← less .ensures, peek .ensures u h x _, s .given .1, less .ensures, ← alt-state .ensures, if1 .taken)
+    rw (← state-word .ensures, peek .ensures u h x _, s .given .1, state-word .ensures, ← alt-state .ensures, if1 .taken)
     (waits-told _ _ _ _ _)))
 
 returns-2 : tie.Need-returns-2
@@ -25,21 +25,21 @@ unfolding deliver
 returns-2 c u h g =
     let far = c .before .before .before .before .before .before .before .before .before .before in
     let pre = far .before .before .before .pre in
-    let less = c .before .before .before .before .before .before .before .before .before .before .less in
+    let state-word = c .before .before .before .before .before .before .before .before .before .before .state-word in
     let peek = c .before .before .before .before .before .before .before .before .before .peek in
     let s = c .before .before .before .before .before .before .before .s in
     let alt-state = c .before .before .before .before .before .alt-state in
     let if1 = c .before .before .before .before .if1 in
     hears (c .before .before .deliver .ensures u h)
     (λ x.
-    rw (← less .ensures, peek .ensures u h x _, s .given .1, ← alt-state .ensures, if1 .left)
+    rw (← state-word .ensures, peek .ensures u h x _, s .given .1, ← alt-state .ensures, if1 .left)
     (handed x u _ _ _ (pre .1) (omega arith) _ _ _))
 
 returns-3 : tie.Need-returns-3
 returns-3 c u h g =
-    let less = c .before .before .before .before .less in
+    let state-word = c .before .before .before .before .state-word in
     let peek = c .before .before .before .peek in
-    hears-fault (λ x. rw (← less .ensures, peek .ensures u h x _, c .before .k .given .1))
+    hears-fault (λ x. rw (← state-word .ensures, peek .ensures u h x _, c .before .k .given .1))
 
 pub output-to-spec : {M : Type 1} → statement M
 output-to-spec =

@@ -12,11 +12,11 @@ returns c u h g =
     let far = c .before .before .before .before .before .before .before .before .before .before in
     let swap = far .before .before .before .before .before .swap in
     let old = far .before .old in
-    let lessd = c .before .before .before .before .before .before .before .before .less in
-    let less2 = c .before .before .before .before .before .before .before .less2 in
+    let resume-word = c .before .before .before .before .before .before .before .before .resume-word in
+    let state-word = c .before .before .before .before .before .before .before .state-word in
     let poke2-tell = c .before .before .before .before .before .before .poke2-tell in
     like (undid _ _ _ h _ (swap .ensures) (old .given .1) (poke2-tell .ensures u h g) (c .before .before .undo .ensures))
-    (λ x. rw (← lessd .ensures, ← less2 .ensures))
+    (λ x. rw (← resume-word .ensures, ← state-word .ensures))
 
 returns-2 : tie.Need-returns-2
 returns-2 c u h g =

@@ -78,6 +78,7 @@ returns-10 c =
     (c .reduce7 .ensures) (c .before .plus2 .ensures) (pre .0 .1) (pre .0 .3) _ _
 
 pub operate-spec : {M : Type 1} → statement M
+unfolding operationCode
 operate-spec =
     tie.close
     (tie.spec

@@ -59,6 +59,7 @@ returns-7 c o =
     done-as _ _ (operates enbs (match .keys7)) (c .before .before .enable-skip .ensures (args .setup) (pre .0 .2) (pre .0 .3))
 
 returns-8 : tie.Need-returns-8
+unfolding operationCode
 returns-8 c o =
     let pre = c .before .before .pre in
     faulted _ _ (unused (c .before .before .args .n) (pre .1 .1) (pre .1 .2) (c .match .rest))

@@ -53,6 +53,7 @@ returns-6 : tie.Need-returns-6
 returns-6 c = c .before .before .operate-alt .ensures _
 
 pub operate-process-spec : {M : Type 1} → statement M
+unfolding operationCode
 operate-process-spec =
     tie.close
     (tie.spec

@@ -11,7 +11,7 @@ returns c =
     let far = c .before .before .before .before .before .before .before .before .before .before in
     let pre = far .before .before .before .before .before .before .before .pre in
     let args = far .before .before .before .before .before .before .before .args in
-    let less = far .before .before .less in
+    let state-word = far .before .before .state-word in
     let peek = far .before .peek in
     let s = c .before .before .before .before .before .before .before .before .before .s in
     let alt-state = c .before .before .before .before .before .before .before .alt-state in
@@ -22,7 +22,7 @@ returns c =
     let w = pre .1 .1 in
     let d = peek .ensures (args .machine .setup) (h .1) (restOf (args .machine)) (args .machine .cpu) in
     rw (c .settle .ensures, c .before .hold .ensures)
-    (offer-tells _ _ _ _ (omega (arith, h .0, h .1)) (h .2) (i .0) (i .1) (i .2) (w .0) (w .1) (rw (less .ensures, s .given .1) at d)
+    (offer-tells _ _ _ _ (omega (arith, h .0, h .1)) (h .2) (i .0) (i .1) (i .2) (w .0) (w .1) (rw (state-word .ensures, s .given .1) at d)
     (sym (alt-state .ensures) ∙ if1 .taken) (notify-wake .ensures (args .machine .setup) (h .1) refl))
 
 returns-2 : tie.Need-returns-2
@@ -30,7 +30,7 @@ returns-2 c =
     let far = c .before .before .before .before .before .before .before .before .before .before in
     let pre = far .before .before .before .before .before .before .before .pre in
     let args = far .before .before .before .before .before .before .before .args in
-    let less = far .before .before .less in
+    let state-word = far .before .before .state-word in
     let peek = far .before .peek in
     let s = c .before .before .before .before .before .before .before .before .before .s in
     let alt-state = c .before .before .before .before .before .before .before .alt-state in
@@ -41,14 +41,14 @@ returns-2 c =
     let w = pre .1 .1 in
     let d = peek .ensures (args .machine .setup) (h .1) (restOf (args .machine)) (args .machine .cpu) in
     rw (c .settle2 .ensures)
-    (offer-hands _ _ _ _ (omega (arith, h .0, h .1)) (h .2) (i .0) (i .1) (i .2) (w .0) (w .1) (rw (less .ensures, s .given .1) at d)
+    (offer-hands _ _ _ _ (omega (arith, h .0, h .1)) (h .2) (i .0) (i .1) (i .2) (w .0) (w .1) (rw (state-word .ensures, s .given .1) at d)
     (sym (alt-state .ensures) ∙ if1 .left) (hand-wake .ensures (args .machine .setup) (h .1) refl))
 
 returns-3 : tie.Need-returns-3
 returns-3 c =
     let pre = c .before .before .before .before .before .before .before .before .before .before .pre in
     let args = c .before .before .before .before .before .before .before .before .before .before .args in
-    let less = c .before .before .before .before .before .less in
+    let state-word = c .before .before .before .before .before .state-word in
     let peek = c .before .before .before .before .peek in
     let h = pre .0 in
     let i = pre .1 .0 in
@@ -56,7 +56,7 @@ returns-3 c =
     let d = peek .ensures (args .machine .setup) (h .1) (restOf (args .machine)) (args .machine .cpu) in
     rw (c .settle3 .ensures)
     (offer-fault _ _ _ _ (omega (arith, h .0, h .1)) (h .2) (i .0) (i .1) (i .2) (w .0) (w .1)
-    (rw (less .ensures, c .before .before .f .given .1) at d))
+    (rw (state-word .ensures, c .before .before .f .given .1) at d))
 
 pub offer-to-spec : {M : Type 1} → statement M
 offer-to-spec =

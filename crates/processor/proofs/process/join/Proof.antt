@@ -9,8 +9,8 @@ returns : tie.Need-returns
 returns c u h =
     let pre = c .before .before .before .before .before .before .before .pre in
     let if1 = c .before .before .before .before .before .if1 in
-    let less = c .before .before .before .less in
-    like (c .before .before .poke .ensures u h) (λ x. join-behind x u _ _ _ (pre .1) (if1 .taken) ∙ rw (← less .ensures))
+    let link-word = c .before .before .before .link-word in
+    like (c .before .before .poke .ensures u h) (λ x. join-behind x u _ _ _ (pre .1) (if1 .taken) ∙ rw (← link-word .ensures))
 
 returns-2 : tie.Need-returns-2
 returns-2 c u h = ends (λ x. join-first x u _ _ _ (c .before .before .pre .1) (c .if1 .left))

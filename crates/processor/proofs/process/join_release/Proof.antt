@@ -9,8 +9,8 @@ returns c u h g =
     let args = c .before .before .before .before .before .before .before .args in
     let pre = c .before .before .before .before .before .before .before .pre in
     let if1 = c .before .before .before .before .before .if1 in
-    let less = c .before .before .before .less in
-    like (c .before .before .poke-release .ensures u h g) (λ x. rw (join-behind x u (args .cpu) _ _ (pre .1) (if1 .taken), ← less .ensures))
+    let link-word = c .before .before .before .link-word in
+    like (c .before .before .poke-release .ensures u h g) (λ x. rw (join-behind x u (args .cpu) _ _ (pre .1) (if1 .taken), ← link-word .ensures))
 
 returns-2 : tie.Need-returns-2
 returns-2 c u h g =

@@ -8,16 +8,16 @@ use Rattle.processor.proofs.process.resume.Tie as tie
 returns : tie.Need-returns
 unfolding resume
 returns c u h =
-    let less = c .before .before .before .before .less in
+    let resume-word = c .before .before .before .before .resume-word in
     let peek = c .before .before .before .peek in
-    ends (λ x. rw (← less .ensures, peek .ensures u h x _, c .before .p .given .1))
+    ends (λ x. rw (← resume-word .ensures, peek .ensures u h x _, c .before .p .given .1))
 
 returns-2 : tie.Need-returns-2
 unfolding resume
 returns-2 c u h =
-    let less = c .before .before .before .before .less in
+    let resume-word = c .before .before .before .before .resume-word in
     let peek = c .before .before .before .peek in
-    faulty (λ x. rw (← less .ensures, peek .ensures u h x _, c .before .k .given .1))
+    faulty (λ x. rw (← resume-word .ensures, peek .ensures u h x _, c .before .k .given .1))
 
 pub resume-spec : {M : Type 1} → statement M
 resume-spec =

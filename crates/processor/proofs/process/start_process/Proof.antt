@@ -8,9 +8,9 @@ use Rattle.processor.proofs.process.start_process.Tie as tie
 returns : tie.Need-returns
 unfolding startProcess
 returns c u h =
-    let less = c .before .before .before .before .less in
+    let resume-word = c .before .before .before .before .resume-word in
     let plus = c .before .before .before .plus in
-    like (c .before .before .poke-join .ensures u h) (λ x. rw (← less .ensures, ← plus .ensures))
+    like (c .before .before .poke-join .ensures u h) (λ x. rw (← resume-word .ensures, ← plus .ensures))
 
 pub start-process-spec : {M : Type 1} → statement M
 start-process-spec =

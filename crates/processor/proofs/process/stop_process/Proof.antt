@@ -8,8 +8,8 @@ use Rattle.processor.proofs.process.stop_process.Tie as tie
 returns : tie.Need-returns
 unfolding stopProcess
 returns c u h g =
-    let less = c .before .before .before .less in
-    like (c .before .before .poke-release .ensures u h g) (λ x. rw (← less .ensures) (poke-release _ _ _))
+    let resume-word = c .before .before .before .resume-word in
+    like (c .before .before .poke-release .ensures u h g) (λ x. rw (← resume-word .ensures) (poke-release _ _ _))
 
 pub stop-process-spec : {M : Type 1} → statement M
 stop-process-spec = tie.close (tie.spec (λ c κs. search needs) (λ c κs. search needs) (λ c. search needs) returns)

@@ -14,19 +14,19 @@ returns-2 : tie.Need-returns-2
 unfolding takeFront
 returns-2 c u h =
     let if1 = c .before .before .before .before .before .before .if1 in
-    let less = c .before .before .before .before .before .less in
+    let link-word = c .before .before .before .before .before .link-word in
     let peek = c .before .before .before .before .peek in
     like (c .resume2 .ensures u h)
-    (λ x. rw (ne-eqb _ _ (if1 .left), ← less .ensures, peek .ensures u h x _, c .before .before .f .given .1))
+    (λ x. rw (ne-eqb _ _ (if1 .left), ← link-word .ensures, peek .ensures u h x _, c .before .before .f .given .1))
 
 returns-3 : tie.Need-returns-3
 unfolding takeFront
 returns-3 c u h =
     let if1 = c .before .before .before .before .before .if1 in
-    let less = c .before .before .before .before .less in
+    let link-word = c .before .before .before .before .link-word in
     let peek = c .before .before .before .peek in
     faulty
-    (λ x. rw (ne-eqb _ _ (if1 .left), ← less .ensures, peek .ensures u h x _, c .before .k .given .1))
+    (λ x. rw (ne-eqb _ _ (if1 .left), ← link-word .ensures, peek .ensures u h x _, c .before .k .given .1))
 
 pub take-front-spec : {M : Type 1} → statement M
 take-front-spec =

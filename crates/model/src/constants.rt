@@ -1,0 +1,17 @@
+// The words that the machine tells apart (document 01, "Workspace and code", "The machine").
+
+// NotProcess: a channel's word where no process is.
+pub const NOT_PROCESS: u32 = 0x80000000;
+
+// The states of an ALT, in W - 3.
+pub const ENABLING: u32 = 0x80000001;
+
+pub const WAITING: u32 = 0x80000002;
+
+pub const READY: u32 = 0x80000003;
+
+// In W + 0 while no branch of an ALT is chosen.
+pub const NONE_SELECTED: u32 = 0xffffffff;
+
+// The bytes of a word: the only count that IN has.
+pub const WORD_BYTES: u32 = 4;
