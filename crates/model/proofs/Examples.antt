@@ -32,9 +32,10 @@ unfolding Word.signed Number.groups Number.number Reader.readNumber Reader.oneOf
     Scheme.enableSize Scheme.disableSize Scheme.inputSize Scheme.enableCode Scheme.disableCode Scheme.guardInput Scheme.sidesCode
     Scheme.wrapped Scheme.size Scheme.exprCode Scheme.code Scheme.scheme
     Code.prefixesOf Code.bytesIn Code.placeOf Code.functionIn Code.operandIn Code.encode Code.codeOf Code.fitting Code.compile
-    Machine.peek Machine.poke Machine.testPlace Machine.resume Machine.release Machine.join Execute.loadLocal Execute.storeLocal
-    Execute.stopProcess Execute.waitAt Execute.receive Execute.received Execute.outputWord Execute.operate Execute.execute Run.fetch
-    Run.act Run.land Run.byte Run.runFrom Run.run Run.fresh Run.cleared Run.start Outside.looking Outside.waking Outside.taking Outside.take
+    Machine.nameOf Machine.spaceOf Machine.peek Machine.poke Machine.testPlace Machine.resume Machine.release Machine.join
+    Execute.loadLocal Execute.storeLocal Execute.stopProcess Execute.waitAt Execute.receive Execute.received Execute.outputWord
+    Execute.operate Execute.execute Run.fetch Run.act Run.land Run.byte Run.runFrom Run.run Run.fresh Run.cleared Run.start
+    Outside.looking Outside.waking Outside.taking Outside.take
     Bench.digits
     Bench.hex Bench.takes Bench.rounds Bench.bench Occam.operate Occam.deny Occam.eval Bench.ascii
     Examples.inSeqs Examples.inNots Examples.copies Examples.inVars

@@ -163,11 +163,11 @@ abbrev pub stateWord : ℕ → ℕ
 stateWord w = less w 3
 
 -- a process as the words of queues and channels hold it: its name, which is its workspace
-abbrev pub nameOf : (workspace : ℕ) → ℕ
+unfoldable pub nameOf : (workspace : ℕ) → ℕ
 nameOf w = w
 
 -- the workspace of a process, by its name
-abbrev pub spaceOf : (name : ℕ) → ℕ
+unfoldable pub spaceOf : (name : ℕ) → ℕ
 spaceOf p = p
 
 -- a process gets the processor: it goes on at its resume place, and its count towards the slice starts again

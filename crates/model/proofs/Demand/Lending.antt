@@ -64,7 +64,7 @@ module _ (L : Loaded) where
       where
         by : {ws : List ℕ} → Queue s ws → ((v : ℕ) → List·Memᴰ v ws → linkWord v < size L) → Queue (over s l k) ws
         by (empty e) links = empty e
-        by (some e f) links = some e (links-stable (λ v m. same (linkWord v) (links v m)) f)
+        by (some e f k l) links = some e f k (links-stable (λ v m. same (linkWord v) (links v m)) l)
 
     same-regs : SameRegs L (over s l k) s
     same-regs = record { run = refl; place = refl; operand = refl; regs = refl }

@@ -11,12 +11,13 @@ use Rattle.model.specs.Word.{low, less, notProcess}
 use Rattle.model.specs.Instruction.{opr, operationCode, operationOf, coded}
 use Rattle.model.specs.Instruction as I
 use Rattle.model.specs.Machine.{World, Result, done, Act, _>>_, withCpu, withOffers, communicate}
-use Rattle.model.specs.Machine.{peek, poke, resume, takeFront, release, join, testPlace}
+use Rattle.model.specs.Machine.{nameOf, spaceOf, peek, poke, resume, takeFront, release, join, testPlace}
 use Rattle.model.specs.Machine.{stack, goto, work, running, counting, queueing, resumeWord, linkWord, stateWord, isHeld}
 use Rattle.model.specs.Execute.{execute, operate, waitAt, receive, received, inputWord, inputMessage}
 use Rattle.model.specs.Execute.{isAltState, waiting, ready, enabling, noneSelected, notify, deliver, outputWord}
 use Rattle.model.specs.Execute.{jump, startProcess, endProcess, stopProcess, beginAlt, setReady, enableReady, enableChannel}
 use Rattle.model.specs.Execute.{enableSkip, waitAlt, select, disableReady, disableChannel, disableSkip, endAlt}
+use Rattle.model.proofs.Quiet.Names.{name-back, name-injective}
 use Rattle.model.proofs.Effects.OneWord.{cpuOf, sizeOf, stored, peek-in, poke-in, resume-in}
 
 -- a test that is true, or false, decides between two actions
@@ -35,29 +36,30 @@ poke-at {b} {u} s e d h = rw (e, d) (poke-in b u s h)
 
 -- the process w has got the processor and goes on at p; the queue is from f to k
 abbrev pub taken : (w p f k : ℕ) (queued : Bool) → World → World
-taken w p f k q s = withCpu (running true (counting 0 (goto p (work w (queueing f k q (cpuOf s)))))) s
+taken w p f k q s = withCpu (running true (counting 0 (goto p (work w (queueing (nameOf f) (nameOf k) q (cpuOf s)))))) s
 
 -- a process gets the processor
-pub resume-at : {v w p : ℕ} (s : World) → v ≡ w → resumeWord w < sizeOf s → getD (s .memory) (resumeWord w) 0 ≡ p
-    → resume v s ≡ done tt (withCpu (running true (counting 0 (goto p (work w (cpuOf s))))) s)
+pub resume-at : {n w p : ℕ} (s : World) → n ≡ nameOf w → resumeWord w < sizeOf s → getD (s .memory) (resumeWord w) 0 ≡ p
+    → resume n s ≡ done tt (withCpu (running true (counting 0 (goto p (work w (cpuOf s))))) s)
 resume-at {w} s d h e = rw (d) (resume-in w s h ∙ rw (e))
 
 -- joining behind those that are queued
 pub join-behind-in : (w f k : ℕ) (s : World) → cpuOf s .running ≡ true → cpuOf s .queued ≡ true
-    → cpuOf s .front ≡ f → cpuOf s .back ≡ k → linkWord k < sizeOf s
-    → join w s ≡ done tt (withCpu (queueing f w true (cpuOf s)) (stored (linkWord k) w s))
+    → cpuOf s .front ≡ nameOf f → cpuOf s .back ≡ nameOf k → linkWord k < sizeOf s
+    → join (nameOf w) s ≡ done tt (withCpu (queueing (nameOf f) (nameOf w) true (cpuOf s)) (stored (linkWord k) (nameOf w) s))
 unfolding join
 join-behind-in w f k s r q d e h =
-    when-true _ _ _ s r (when-true _ _ _ s q (rw (poke-at {v = w} s (ap linkWord e) refl h, d)))
+    let at : linkWord (spaceOf (cpuOf s .back)) ≡ linkWord k = ap (λ n. linkWord (spaceOf n)) e ∙ ap linkWord (name-back k) in
+    when-true _ _ _ s r (when-true _ _ _ s q (rw (poke-at {v = nameOf w} s at refl h, d)))
 
 -- a free processor takes the process that joins
-pub join-free : (w : ℕ) (s : World) → cpuOf s .running ≡ false → join w s ≡ resume w (withCpu (queueing w w false (cpuOf s)) s)
+pub join-free : (p : ℕ) (s : World) → cpuOf s .running ≡ false → join p s ≡ resume p (withCpu (queueing p p false (cpuOf s)) s)
 unfolding join
-join-free w s r = when-false _ _ _ s r refl
+join-free p s r = when-false _ _ _ s r refl
 
 pub join-free-in : (w p : ℕ) (s : World) → cpuOf s .running ≡ false → resumeWord w < sizeOf s → getD (s .memory) (resumeWord w) 0 ≡ p
-    → join w s ≡ done tt (taken w p w w false s)
-join-free-in w p s r h e = join-free w s r ∙ resume-at (withCpu (queueing w w false (cpuOf s)) s) refl h e
+    → join (nameOf w) s ≡ done tt (taken w p w w false s)
+join-free-in w p s r h e = join-free (nameOf w) s r ∙ resume-at (withCpu (queueing (nameOf w) (nameOf w) false (cpuOf s)) s) refl h e
 
 -- the processor is free and nobody is queued
 pub release-none : (s : World) → cpuOf s .queued ≡ false → release s ≡ done tt (withCpu (running false (cpuOf s)) s)
@@ -65,35 +67,36 @@ unfolding release
 release-none s q = when-false _ _ _ s q refl
 
 -- the only process that is queued gets the processor
-pub release-last : (w p : ℕ) (s : World) → cpuOf s .queued ≡ true → cpuOf s .front ≡ w → cpuOf s .back ≡ w
+pub release-last : (w p : ℕ) (s : World) → cpuOf s .queued ≡ true → cpuOf s .front ≡ nameOf w → cpuOf s .back ≡ nameOf w
     → resumeWord w < sizeOf s → getD (s .memory) (resumeWord w) 0 ≡ p
     → release s ≡ done tt (taken w p w w false s)
 unfolding release takeFront
 release-last w p s q f k h e =
-    rw (q, f, k, eq-eqb w w refl, resume-at {v = w} (withCpu (queueing w w false (cpuOf s)) s) refl h e)
+    let q′ = queueing (nameOf w) (nameOf w) false (cpuOf s) in
+    rw (q, f, k, eq-eqb (nameOf w) (nameOf w) refl, resume-at {n = nameOf w} (withCpu q′ s) refl h e)
 
 -- the front gets the processor, and the one that it links to is the front
-pub release-more : (w k g p : ℕ) (s : World) → cpuOf s .queued ≡ true → cpuOf s .front ≡ w → cpuOf s .back ≡ k → w ≢ k
-    → linkWord w < sizeOf s → getD (s .memory) (linkWord w) 0 ≡ g → resumeWord w < sizeOf s → getD (s .memory) (resumeWord w) 0 ≡ p
+pub release-more : (w k g p : ℕ) (s : World) → cpuOf s .queued ≡ true → cpuOf s .front ≡ nameOf w → cpuOf s .back ≡ nameOf k → w ≢ k
+    → linkWord w < sizeOf s → getD (s .memory) (linkWord w) 0 ≡ nameOf g → resumeWord w < sizeOf s → getD (s .memory) (resumeWord w) 0 ≡ p
     → release s ≡ done tt (taken w p g k true s)
 unfolding release takeFront
 release-more w k g p s q f b n l m h e =
     when-true _ _ _ s q (
     rw (
-      ne-eqb (cpuOf s .front) (cpuOf s .back) (λ d. n (sym f ∙ d ∙ b)),
-      peek-at s (ap linkWord f) l m,
-      resume-at (withCpu (queueing g (cpuOf s .back) true (cpuOf s)) s) f h e,
+      ne-eqb (cpuOf s .front) (cpuOf s .back) (λ d. n (name-injective w k (sym f ∙ d ∙ b))),
+      peek-at s (ap (λ i. linkWord (spaceOf i)) f ∙ ap linkWord (name-back w)) l m,
+      resume-at (withCpu (queueing (nameOf g) (cpuOf s .back) true (cpuOf s)) s) f h e,
       b,
     )
     )
 
 -- STARTP: the new process joins
 pub exec-startp : (x d p : ℕ) (s : World) → cpuOf s .a ≡ x → cpuOf s .b ≡ d → cpuOf s .place ≡ p → resumeWord x < sizeOf s
-    → execute opr (operationCode I.startp) s ≡ join x (stored (resumeWord x) (low (p + d)) s)
+    → execute opr (operationCode I.startp) s ≡ join (nameOf x) (stored (resumeWord x) (low (p + d)) s)
 unfolding execute operate operationOf operationCode coded startProcess
 exec-startp x d p s ea eb ep h =
     let e : low (cpuOf s .place + cpuOf s .b) ≡ low (p + d) = rw (ep, eb) in
-    rw (poke-at s (ap resumeWord ea) e h) (ap (λ i. join i (stored (resumeWord x) (low (p + d)) s)) ea)
+    rw (poke-at s (ap resumeWord ea) e h) (ap (λ i. join (nameOf i) (stored (resumeWord x) (low (p + d)) s)) ea)
 
 -- ENDP of the last branch: it goes on as the PAR
 pub exec-endp-last : (x k p : ℕ) (s : World) → cpuOf s .a ≡ x → low (x + 1) ≡ k → k < sizeOf s → getD (s .memory) k 0 ≡ 1
@@ -119,7 +122,7 @@ exec-stopp-general w p s ew ep h = rw (poke-at s (ap resumeWord ew) ep h)
 -- J at the slice's end, with any queue: the process joins the back, the front is taken, and the place where it goes on is tested
 pub exec-j-over : (n t w : ℕ) (s : World) → s .machine .setup .slice ≤ cpuOf s .count → low (cpuOf s .place + n) ≡ t
     → cpuOf s .workspace ≡ w → resumeWord w < sizeOf s
-    → execute I.j n s ≡ _>>_ (join w) (_>>_ release (testPlace t)) (stored (resumeWord w) t s)
+    → execute I.j n s ≡ _>>_ (join (nameOf w)) (_>>_ release (testPlace t)) (stored (resumeWord w) t s)
 unfolding execute jump
 exec-j-over n t w s h e ew hr = rw (le-ltb _ _ h, poke-at s (ap resumeWord ew) e hr, e, ew)
 
@@ -130,7 +133,7 @@ testPlace-in t s h = rw (le-leb _ _ h)
 
 -- a process with the workspace w and the place p waits at the channel word c, with the message place m
 abbrev pub parked : (c w p m : ℕ) → World → World
-parked c w p m s = stored (stateWord w) m (stored (resumeWord w) p (stored c w s))
+parked c w p m s = stored (stateWord w) m (stored (resumeWord w) p (stored c (nameOf w) s))
 
 pub waitAt-in : {b n : ℕ} (c w p m : ℕ) (s : World) → cpuOf s .workspace ≡ w → cpuOf s .place ≡ p → b ≡ c → n ≡ m
     → c < sizeOf s → resumeWord w < sizeOf s → stateWord w < sizeOf s
@@ -138,9 +141,9 @@ pub waitAt-in : {b n : ℕ} (c w p m : ℕ) (s : World) → cpuOf s .workspace �
 unfolding waitAt
 waitAt-in c w p m s ew ep eb en hc hr ht =
     rw (
-      poke-at s eb ew hc,
-      poke-at (stored c w s) (ap resumeWord ew) ep hr,
-      poke-at (stored (resumeWord w) p (stored c w s)) (ap stateWord ew) en ht,
+      poke-at s eb (ap nameOf ew) hc,
+      poke-at (stored c (nameOf w) s) (ap resumeWord ew) ep hr,
+      poke-at (stored (resumeWord w) p (stored c (nameOf w) s)) (ap stateWord ew) en ht,
     )
 
 -- a held offer is held no more
@@ -177,17 +180,17 @@ exec-in-wait c m w p s ea eb ec ew ep h hc n hr ht =
 
 -- IN takes the value of a sender, which is woken
 pub exec-in-sender : (c m x y v : ℕ) (s : World) → cpuOf s .a ≡ 4 → cpuOf s .b ≡ c → cpuOf s .c ≡ m
-    → isHeld c (s .machine) ≡ false → c < sizeOf s → getD (s .memory) c 0 ≡ x → x ≢ notProcess
+    → isHeld c (s .machine) ≡ false → c < sizeOf s → getD (s .memory) c 0 ≡ nameOf x → nameOf x ≢ notProcess
     → stateWord x < sizeOf s → getD (s .memory) (stateWord x) 0 ≡ y → y < sizeOf s → getD (s .memory) y 0 ≡ v → m < sizeOf s
-    → execute opr (operationCode I.«in») s ≡ _>>_ (join x) (communicate c v) (stored c notProcess (stored m v s))
+    → execute opr (operationCode I.«in») s ≡ _>>_ (join (nameOf x)) (communicate c v) (stored c notProcess (stored m v s))
 unfolding execute operate operationOf operationCode coded inputMessage inputWord receive received
 exec-in-sender c m x y v s ea eb ec h hc ex n hx ey hy ev hm =
     rw (
       eq-eqb _ _ ea,
       ap (λ i. isHeld i (s .machine)) eb ∙ h,
       peek-at s eb hc ex,
-      ne-eqb x _ n,
-      peek-at {a = stateWord x} s refl hx ey,
+      ne-eqb (nameOf x) _ n,
+      peek-at s (ap stateWord (name-back x)) hx ey,
       peek-at {a = y} s refl hy ev,
       poke-at {v = v} s ec refl hm,
       poke-at {v = notProcess} (stored m v s) eb refl hc,
@@ -208,33 +211,33 @@ exec-out-wait c v w p s ea eb ew ep hw hc d n hr ht =
 
 -- OUTWORD to a channel that an ALT enabled waits, and tells the ALT
 pub exec-out-alt : (c v w p x t : ℕ) (s : World) → cpuOf s .a ≡ v → cpuOf s .b ≡ c → cpuOf s .workspace ≡ w → cpuOf s .place ≡ p
-    → w < sizeOf s → c < sizeOf s → c ≢ w → getD (s .memory) c 0 ≡ x → x ≢ notProcess
+    → w < sizeOf s → c < sizeOf s → c ≢ w → getD (s .memory) c 0 ≡ nameOf x → nameOf x ≢ notProcess
     → stateWord x < sizeOf s → stateWord x ≢ w → getD (s .memory) (stateWord x) 0 ≡ t → isAltState t ≡ true
     → resumeWord w < sizeOf s → stateWord w < sizeOf s
-    → execute opr (operationCode I.outword) s ≡ _>>_ (notify x t) release (parked c w p w (stored w v s))
+    → execute opr (operationCode I.outword) s ≡ _>>_ (notify (nameOf x) t) release (parked c w p w (stored w v s))
 unfolding execute operate operationOf operationCode coded outputWord
 exec-out-alt c v w p x t s ea eb ew ep hw hc d ex n hx dx et h hr ht =
     rw (
       poke-at s ew ea hw,
       peek-at (stored w v s) eb hc (getD-set-other (s .memory) w c v 0 d ∙ ex),
-      ne-eqb x _ n,
-      peek-at {a = stateWord x} (stored w v s) refl hx (getD-set-other (s .memory) w (stateWord x) v 0 dx ∙ et),
+      ne-eqb (nameOf x) _ n,
+      peek-at (stored w v s) (ap stateWord (name-back x)) hx (getD-set-other (s .memory) w (stateWord x) v 0 dx ∙ et),
       h,
       waitAt-in c w p w (stored w v s) ew ep eb ew hc hr ht,
     )
 
 -- OUTWORD to a process that waits in IN at the message place t
 pub exec-out-receiver : (c v w x t : ℕ) (s : World) → cpuOf s .a ≡ v → cpuOf s .b ≡ c → cpuOf s .workspace ≡ w
-    → w < sizeOf s → c < sizeOf s → c ≢ w → getD (s .memory) c 0 ≡ x → x ≢ notProcess
+    → w < sizeOf s → c < sizeOf s → c ≢ w → getD (s .memory) c 0 ≡ nameOf x → nameOf x ≢ notProcess
     → stateWord x < sizeOf s → stateWord x ≢ w → getD (s .memory) (stateWord x) 0 ≡ t → isAltState t ≡ false → t < sizeOf s
-    → execute opr (operationCode I.outword) s ≡ _>>_ (join x) (communicate c v) (stored c notProcess (stored t v (stored w v s)))
+    → execute opr (operationCode I.outword) s ≡ _>>_ (join (nameOf x)) (communicate c v) (stored c notProcess (stored t v (stored w v s)))
 unfolding execute operate operationOf operationCode coded outputWord deliver received
 exec-out-receiver c v w x t s ea eb ew hw hc d ex n hx dx et h ht =
     rw (
       poke-at s ew ea hw,
       peek-at (stored w v s) eb hc (getD-set-other (s .memory) w c v 0 d ∙ ex),
-      ne-eqb x _ n,
-      peek-at {a = stateWord x} (stored w v s) refl hx (getD-set-other (s .memory) w (stateWord x) v 0 dx ∙ et),
+      ne-eqb (nameOf x) _ n,
+      peek-at (stored w v s) (ap stateWord (name-back x)) hx (getD-set-other (s .memory) w (stateWord x) v 0 dx ∙ et),
       h,
       poke-at {a = t} (stored w v s) refl ea ht,
       poke-at {v = notProcess} (stored t v (stored w v s)) eb refl hc,
@@ -243,13 +246,15 @@ exec-out-receiver c v w x t s ea eb ew hw hc d ex n hx dx et h ht =
     )
 
 -- an ALT that is told becomes Ready; one that is Waiting is woken
-pub notify-waiting : (x : ℕ) (s : World) → stateWord x < sizeOf s → notify x waiting s ≡ join x (stored (stateWord x) ready s)
+pub notify-waiting : (x : ℕ) (s : World) → stateWord x < sizeOf s
+    → notify (nameOf x) waiting s ≡ join (nameOf x) (stored (stateWord x) ready s)
 unfolding notify
-notify-waiting x s h = rw (poke-in (stateWord x) ready s h)
+notify-waiting x s h = rw (name-back x, poke-in (stateWord x) ready s h)
 
-pub notify-other : (x t : ℕ) (s : World) → stateWord x < sizeOf s → t ≢ waiting → notify x t s ≡ done tt (stored (stateWord x) ready s)
+pub notify-other : (x t : ℕ) (s : World) → stateWord x < sizeOf s → t ≢ waiting
+    → notify (nameOf x) t s ≡ done tt (stored (stateWord x) ready s)
 unfolding notify
-notify-other x t s h n = rw (poke-in (stateWord x) ready s h, ne-eqb t _ n)
+notify-other x t s h n = rw (name-back x, poke-in (stateWord x) ready s h, ne-eqb t _ n)
 
 -- the words below W are others than W + 0
 pub state-apart : (w : ℕ) → stateWord w ≢ w
@@ -286,14 +291,14 @@ exec-enbc-held c w s na eb ew h ht = rw (ne-eqb _ _ na, ap (λ i. isHeld i (s .m
 -- ENBC of an empty channel marks it
 pub exec-enbc-empty : (c w : ℕ) (s : World) → cpuOf s .a ≢ 0 → cpuOf s .b ≡ c → cpuOf s .workspace ≡ w → isHeld c (s .machine) ≡ false
     → c < sizeOf s → getD (s .memory) c 0 ≡ notProcess
-    → execute opr (operationCode I.enbc) s ≡ done tt (enabled (stored c w s))
+    → execute opr (operationCode I.enbc) s ≡ done tt (enabled (stored c (nameOf w) s))
 unfolding execute operate operationOf operationCode coded enableChannel enableReady
 exec-enbc-empty c w s na eb ew h hc n =
-    rw (ne-eqb _ _ na, ap (λ i. isHeld i (s .machine)) eb ∙ h, peek-at s eb hc n, poke-at s eb ew hc)
+    rw (ne-eqb _ _ na, ap (λ i. isHeld i (s .machine)) eb ∙ h, peek-at s eb hc n, poke-at s eb (ap nameOf ew) hc)
 
 -- ENBC of a channel that this ALT marked before
 pub exec-enbc-marked : (c w : ℕ) (s : World) → cpuOf s .a ≢ 0 → cpuOf s .b ≡ c → cpuOf s .workspace ≡ w → isHeld c (s .machine) ≡ false
-    → c < sizeOf s → getD (s .memory) c 0 ≡ w → w ≢ notProcess
+    → c < sizeOf s → getD (s .memory) c 0 ≡ nameOf w → nameOf w ≢ notProcess
     → execute opr (operationCode I.enbc) s ≡ done tt (enabled s)
 unfolding execute operate operationOf operationCode coded enableChannel enableReady
 exec-enbc-marked c w s na eb ew h hc e n =
@@ -301,13 +306,13 @@ exec-enbc-marked c w s na eb ew h hc e n =
       ne-eqb _ _ na,
       ap (λ i. isHeld i (s .machine)) eb ∙ h,
       peek-at s eb hc e,
-      ne-eqb w _ n,
-      eq-eqb w (cpuOf s .workspace) (sym ew),
+      ne-eqb (nameOf w) _ n,
+      eq-eqb (nameOf w) (nameOf (cpuOf s .workspace)) (ap nameOf (sym ew)),
     )
 
 -- ENBC of a channel at which a sender waits
 pub exec-enbc-sender : (c w x : ℕ) (s : World) → cpuOf s .a ≢ 0 → cpuOf s .b ≡ c → cpuOf s .workspace ≡ w
-    → isHeld c (s .machine) ≡ false → c < sizeOf s → getD (s .memory) c 0 ≡ x → x ≢ notProcess → x ≢ w → stateWord w < sizeOf s
+    → isHeld c (s .machine) ≡ false → c < sizeOf s → getD (s .memory) c 0 ≡ x → x ≢ notProcess → x ≢ nameOf w → stateWord w < sizeOf s
     → execute opr (operationCode I.enbc) s ≡ done tt (enabled (stored (stateWord w) ready s))
 unfolding execute operate operationOf operationCode coded enableChannel enableReady
 exec-enbc-sender c w x s na eb ew h hc e n d ht =
@@ -316,7 +321,7 @@ exec-enbc-sender c w x s na eb ew h hc e n d ht =
       ap (λ i. isHeld i (s .machine)) eb ∙ h,
       peek-at s eb hc e,
       ne-eqb x _ n,
-      ne-eqb x (cpuOf s .workspace) (λ q. d (q ∙ ew)),
+      ne-eqb x (nameOf (cpuOf s .workspace)) (λ q. d (q ∙ ap nameOf ew)),
       setReady-in w s ew ht,
     )
 
@@ -410,7 +415,7 @@ exec-disc-empty c s nb ec h hc e = rw (ne-eqb _ _ nb, peek-at s ec hc e, ap (λ 
 
 -- DISC of a channel with the ALT's own mark, which goes
 pub exec-disc-marked : (c w : ℕ) (s : World) → cpuOf s .b ≢ 0 → cpuOf s .c ≡ c → cpuOf s .workspace ≡ w → isHeld c (s .machine) ≡ false
-    → c < sizeOf s → getD (s .memory) c 0 ≡ w → w ≢ notProcess
+    → c < sizeOf s → getD (s .memory) c 0 ≡ nameOf w → nameOf w ≢ notProcess
     → execute opr (operationCode I.disc) s ≡ done tt (disabled 0 (stored c notProcess s))
 unfolding execute operate operationOf operationCode coded disableChannel disableReady
 exec-disc-marked c w s nb ec ew h hc e n =
@@ -418,14 +423,14 @@ exec-disc-marked c w s nb ec ew h hc e n =
       ne-eqb _ _ nb,
       peek-at s ec hc e,
       ap (λ i. isHeld i (s .machine)) ec ∙ h,
-      ne-eqb w _ n,
-      eq-eqb w (cpuOf s .workspace) (sym ew),
+      ne-eqb (nameOf w) _ n,
+      eq-eqb (nameOf w) (nameOf (cpuOf s .workspace)) (ap nameOf (sym ew)),
       poke-at {v = notProcess} s ec refl hc,
     )
 
 -- DISC of a channel at which a sender waits: the branch is chosen, or one was before
 pub exec-disc-sender-first : (c d w x : ℕ) (s : World) → cpuOf s .a ≡ d → cpuOf s .b ≢ 0 → cpuOf s .c ≡ c → cpuOf s .workspace ≡ w
-    → isHeld c (s .machine) ≡ false → c < sizeOf s → getD (s .memory) c 0 ≡ x → x ≢ notProcess → x ≢ w
+    → isHeld c (s .machine) ≡ false → c < sizeOf s → getD (s .memory) c 0 ≡ x → x ≢ notProcess → x ≢ nameOf w
     → w < sizeOf s → getD (s .memory) w 0 ≡ noneSelected
     → execute opr (operationCode I.disc) s ≡ done tt (disabled 1 (stored w d s))
 unfolding execute operate operationOf operationCode coded disableChannel disableReady
@@ -435,12 +440,12 @@ exec-disc-sender-first c d w x s ea nb ec ew h hc e n nw hw et =
       peek-at s ec hc e,
       ap (λ i. isHeld i (s .machine)) ec ∙ h,
       ne-eqb x _ n,
-      ne-eqb x (cpuOf s .workspace) (λ q. nw (q ∙ ew)),
+      ne-eqb x (nameOf (cpuOf s .workspace)) (λ q. nw (q ∙ ap nameOf ew)),
       select-first d w s ea ew hw et,
     )
 
 pub exec-disc-sender-later : (c w x t : ℕ) (s : World) → cpuOf s .b ≢ 0 → cpuOf s .c ≡ c → cpuOf s .workspace ≡ w
-    → isHeld c (s .machine) ≡ false → c < sizeOf s → getD (s .memory) c 0 ≡ x → x ≢ notProcess → x ≢ w
+    → isHeld c (s .machine) ≡ false → c < sizeOf s → getD (s .memory) c 0 ≡ x → x ≢ notProcess → x ≢ nameOf w
     → w < sizeOf s → getD (s .memory) w 0 ≡ t → t ≢ noneSelected
     → execute opr (operationCode I.disc) s ≡ done tt (disabled 0 s)
 unfolding execute operate operationOf operationCode coded disableChannel disableReady
@@ -450,7 +455,7 @@ exec-disc-sender-later c w x t s nb ec ew h hc e n nw hw et nt =
       peek-at s ec hc e,
       ap (λ i. isHeld i (s .machine)) ec ∙ h,
       ne-eqb x _ n,
-      ne-eqb x (cpuOf s .workspace) (λ q. nw (q ∙ ew)),
+      ne-eqb x (nameOf (cpuOf s .workspace)) (λ q. nw (q ∙ ap nameOf ew)),
       select-later (cpuOf s .a) w t s ew hw et nt,
     )
 

@@ -8,7 +8,8 @@ use Rattle.model.specs.Word.{low}
 use Rattle.model.specs.Instruction.{ldl, cj, stl}
 use Rattle.model.specs.Instruction as I
 use Rattle.model.specs.Machine.{World, done, withCpu, withMemory, memorySize, peek, poke, resume, join}
-use Rattle.model.specs.Machine.{goto, work, running, counting, queueing, resumeWord}
+use Rattle.model.specs.Machine.{goto, work, running, counting, queueing, resumeWord, nameOf}
+use Rattle.model.proofs.Quiet.Names.{name-back}
 use Rattle.model.specs.Execute.{execute, push, pop, jump, loadLocal, storeLocal, conditionalJump}
 use Rattle.model.specs.declared.Cpu.{Cpu}
 use Rattle.model.proofs.Quiet.Ways.{Mem}
@@ -57,9 +58,9 @@ unfolding execute jump
 exec-j n s h = rw (lt-ltb _ _ h)
 
 pub resume-in : (w : ℕ) (s : World) → resumeWord w < sizeOf s
-    → resume w s ≡ done tt (withCpu (running true (counting 0 (goto (getD (s .memory) (resumeWord w) 0) (work w (cpuOf s))))) s)
+    → resume (nameOf w) s ≡ done tt (withCpu (running true (counting 0 (goto (getD (s .memory) (resumeWord w) 0) (work w (cpuOf s))))) s)
 unfolding resume
-resume-in w s h = rw (peek-in (resumeWord w) s h)
+resume-in w s h = rw (name-back w, peek-in (resumeWord w) s h)
 
 -- joining an empty queue
 pub join-empty : (w : ℕ) (s : World) → cpuOf s .running ≡ true → cpuOf s .queued ≡ false

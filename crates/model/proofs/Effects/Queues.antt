@@ -9,6 +9,7 @@ use mathlib.Core.List.{List·Memᴰ·head, List·Memᴰ·tail}
 use lib.ListN.{length, set}
 use lib.Seq.{getD-set-same, getD-set-other}
 use Rattle.model.specs.Machine.{World, done, withCpu, withMemory, release, join, running, queueing, resumeWord, linkWord}
+use Rattle.model.specs.Machine.{nameOf}
 use Rattle.model.specs.declared.Cpu.{Cpu}
 use Rattle.model.proofs.Quiet.Ways.{Mem}
 use Rattle.model.proofs.Effects.OneWord.{cpuOf, sizeOf, memOf, stored, join-empty}
@@ -17,12 +18,13 @@ use Rattle.model.proofs.Effects.Acts.{taken, join-behind-in, join-free-
 -- from the front to the back each process links to the next; the back's link word holds anything
 pub data Links (μ : Mem) : (front back : ℕ) → List ℕ → Type 0 where
   one : {f : ℕ} → Links μ f f (f ∷ [])
-  more : {f g k : ℕ} {ws : List ℕ} → μ (linkWord f) ≡ g → Links μ g k ws → Links μ f k (f ∷ ws)
+  more : {f g k : ℕ} {ws : List ℕ} → μ (linkWord f) ≡ nameOf g → Links μ g k ws → Links μ f k (f ∷ ws)
 
--- the workspaces that are queued, the front first
+-- the workspaces that are queued, the front first. Registers and link words hold their names
 pub data Queue (s : World) : List ℕ → Type 0 where
   empty : cpuOf s .queued ≡ false → Queue s []
-  some : {ws : List ℕ} → cpuOf s .queued ≡ true → Links (memOf s) (cpuOf s .front) (cpuOf s .back) ws → Queue s ws
+  some : {f k : ℕ} {ws : List ℕ} → cpuOf s .queued ≡ true → cpuOf s .front ≡ nameOf f → cpuOf s .back ≡ nameOf k
+      → Links (memOf s) f k ws → Queue s ws
 
 -- no two of the workspaces have the same link word; so no two are the same
 pub data Apart : List ℕ → Type 0 where
@@ -80,11 +82,11 @@ links-back {ws = v ∷ vs} (more e l) = links-back l
 links-ends : {μ : Mem} {f k w : ℕ} {ws : List ℕ} → Links μ f k (w ∷ ws) → Links μ w (lastOf w ws) (w ∷ ws)
 links-ends one = one
 links-ends {ws = []} (more e l) = absurd (links-some l)
-links-ends {ws = v ∷ vs} (more e l) = more (e ∙ links-front l) (links-ends l)
+links-ends {ws = v ∷ vs} (more e l) = more (e ∙ ap nameOf (links-front l)) (links-ends l)
 
 links-next : {μ : Mem} {f k w v : ℕ} {vs : List ℕ} → Links μ f k (w ∷ v ∷ vs)
-    → (μ (linkWord w) ≡ v) × Links μ v (lastOf v vs) (v ∷ vs)
-links-next (more e l) = (e ∙ links-front l, links-ends l)
+    → (μ (linkWord w) ≡ nameOf v) × Links μ v (lastOf v vs) (v ∷ vs)
+links-next (more e l) = (e ∙ ap nameOf (links-front l), links-ends l)
 
 links-last : {μ : Mem} {f k : ℕ} {ws : List ℕ} → Links μ f k ws → List·Memᴰ k ws
 links-last one = List·Memᴰ·head refl
@@ -97,7 +99,7 @@ links-stable h one = one
 links-stable h (more {f} e l) = more (h f (List·Memᴰ·head refl) ∙ e) (links-stable (λ v m. h v (List·Memᴰ·tail m)) l)
 
 -- one more behind the back, in a memory that is changed at the back's link word only
-pub links-snoc : {μ ν : Mem} {f k : ℕ} {ws : List ℕ} (w : ℕ) → Apart ws → ν (linkWord k) ≡ w
+pub links-snoc : {μ ν : Mem} {f k : ℕ} {ws : List ℕ} (w : ℕ) → Apart ws → ν (linkWord k) ≡ nameOf w
     → ((a : ℕ) → a ≢ linkWord k → ν a ≡ μ a) → Links μ f k ws → Links ν f w (ws ++ w ∷ [])
 links-snoc w a n h one = more n one
 links-snoc w (apart d a) n h (more {f} {k} e l) = more (h (linkWord f) (d k (links-last l)) ∙ e) (links-snoc w a n h l)
@@ -107,7 +109,7 @@ pub queue-same : {s : World} {ws : List ℕ} (t : World) → cpuOf t .front ≡ 
     → cpuOf t .queued ≡ cpuOf s .queued → ((v : ℕ) → List·Memᴰ v ws → memOf t (linkWord v) ≡ memOf s (linkWord v))
     → Queue s ws → Queue t ws
 queue-same t f k q h (empty e) = empty (q ∙ e)
-queue-same {ws} t f k q h (some e l) = some {ws = ws} (q ∙ e) (rw (f, k) (links-stable h l))
+queue-same t f k q h (some e d b l) = some (q ∙ e) (f ∙ d) (k ∙ b) (links-stable h l)
 
 -- other registers
 pub queue-cpu : {ws : List ℕ} (r : Cpu) (s : World) → r .front ≡ cpuOf s .front → r .back ≡ cpuOf s .back → r .queued ≡ cpuOf s .queued
@@ -122,11 +124,11 @@ queue-stored a x s d u =
 -- the memory in which w is linked behind the last of the workspaces
 abbrev pub linked : (w : ℕ) → List ℕ → List ℕ → List ℕ
 linked w [] l = l
-linked w (v ∷ vs) l = set l (linkWord (lastOf v vs)) w
+linked w (v ∷ vs) l = set l (linkWord (lastOf v vs)) (nameOf w)
 
 -- w has joined the queue of a machine that runs
 abbrev pub joined : (w : ℕ) → List ℕ → World → World
-joined w ws s = withCpu (queueing (firstOf w ws) w true (cpuOf s)) (withMemory (linked w ws (s .memory)) s)
+joined w ws s = withCpu (queueing (nameOf (firstOf w ws)) (nameOf w) true (cpuOf s)) (withMemory (linked w ws (s .memory)) s)
 
 -- the front, w, has got the processor, and the others stay
 abbrev pub released : (w : ℕ) → List ℕ → World → World
@@ -139,25 +141,25 @@ last-in w (v ∷ vs) = List·Memᴰ·tail (last-in v vs)
 
 -- joining the queue of a machine that runs
 pub join-queue : {ws : List ℕ} (w : ℕ) (s : World) → cpuOf s .running ≡ true → LinksIn s ws → Queue s ws
-    → join w s ≡ done tt (joined w ws s)
-join-queue w s r h (empty q) = join-empty w s r q
-join-queue {ws = []} w s r h (some q l) = absurd (links-some l)
-join-queue {ws = v ∷ vs} w s r h (some q l) =
-    join-behind-in w v (lastOf v vs) s r q (links-front l) (links-back l) (h _ (last-in v vs))
+    → join (nameOf w) s ≡ done tt (joined w ws s)
+join-queue w s r h (empty q) = join-empty (nameOf w) s r q
+join-queue {ws = []} w s r h (some q f k l) = absurd (links-some l)
+join-queue {ws = v ∷ vs} w s r h (some q f k l) =
+    join-behind-in w v (lastOf v vs) s r q (f ∙ ap nameOf (links-front l)) (k ∙ ap nameOf (links-back l)) (h _ (last-in v vs))
 
 -- it is then the last
 pub joined-queue : {ws : List ℕ} (w : ℕ) (s : World) → sizeOf s ≤ length (s .memory) → LinksIn s ws → Apart ws → Queue s ws
     → Queue (joined w ws s) (ws ++ w ∷ [])
-joined-queue w s m h a (empty q) = some refl one
-joined-queue {ws = []} w s m h a (some q l) = absurd (links-some l)
-joined-queue {ws = v ∷ vs} w s m h a (some q l) =
-    let k = linkWord (lastOf v vs) in
-    some refl (links-snoc w a (getD-set-same (s .memory) k w 0 (omega (arith, h _ (last-in v vs))))
-    (λ i d. getD-set-other (s .memory) k i w 0 d) (links-ends l))
+joined-queue w s m h a (empty q) = some refl refl refl one
+joined-queue {ws = []} w s m h a (some q f k l) = absurd (links-some l)
+joined-queue {ws = v ∷ vs} w s m h a (some q f k l) =
+    let b = linkWord (lastOf v vs) in
+    some refl refl refl (links-snoc w a (getD-set-same (s .memory) b (nameOf w) 0 (omega (arith, h _ (last-in v vs))))
+    (λ i d. getD-set-other (s .memory) b i (nameOf w) 0 d) (links-ends l))
 
 -- a free processor takes the process that joins; then nobody is queued
 pub join-queue-free : (w : ℕ) (s : World) → cpuOf s .running ≡ false → resumeWord w < sizeOf s
-    → join w s ≡ done tt (released w [] s)
+    → join (nameOf w) s ≡ done tt (released w [] s)
 join-queue-free w s r h = join-free-in w _ s r h refl
 
 pub free-queue : (w : ℕ) (s : World) → Queue (released w [] s) []
@@ -166,7 +168,7 @@ free-queue w s = empty refl
 -- with nobody queued no process runs
 pub release-queue-none : (s : World) → Queue s [] → release s ≡ done tt (withCpu (running false (cpuOf s)) s)
 release-queue-none s (empty q) = release-none s q
-release-queue-none s (some q l) = absurd (links-some l)
+release-queue-none s (some q f k l) = absurd (links-some l)
 
 -- and the queue is as it was
 pub idle-queue : {ws : List ℕ} (s : World) → Queue s ws → Queue (withCpu (running false (cpuOf s)) s) ws
@@ -175,12 +177,14 @@ idle-queue s u = queue-cpu (running false (cpuOf s)) s refl refl refl u
 -- the front gets the processor
 pub release-queue : {ws : List ℕ} (w : ℕ) (s : World) → Apart (w ∷ ws) → LinksIn s (w ∷ ws) → resumeWord w < sizeOf s → Queue s (w ∷ ws)
     → release s ≡ done tt (released w ws s)
-release-queue {ws = []} w s a h r (some q l) = release-last w _ s q (links-front l) (links-back l) r refl
-release-queue {ws = v ∷ vs} w s (apart d a) h r (some q l) =
-    release-more w (lastOf v vs) v _ s q (links-front l) (links-back l) (λ e. d _ (last-in v vs) (ap linkWord e))
+release-queue {ws = []} w s a h r (some q f k l) =
+    release-last w _ s q (f ∙ ap nameOf (links-front l)) (k ∙ ap nameOf (links-back l)) r refl
+release-queue {ws = v ∷ vs} w s (apart d a) h r (some q f k l) =
+    release-more w (lastOf v vs) v _ s q (f ∙ ap nameOf (links-front l)) (k ∙ ap nameOf (links-back l))
+    (λ e. d _ (last-in v vs) (ap linkWord e))
     (h w (List·Memᴰ·head refl)) (links-next l .0) r refl
 
 -- and the others stay queued
 pub released-queue : {ws : List ℕ} (w : ℕ) (s : World) → Queue s (w ∷ ws) → Queue (released w ws s) ws
 released-queue {ws = []} w s u = empty refl
-released-queue {ws = v ∷ vs} w s (some q l) = some refl (links-next l .1)
+released-queue {ws = v ∷ vs} w s (some q f k l) = some refl refl refl (links-next l .1)

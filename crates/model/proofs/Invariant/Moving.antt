@@ -17,7 +17,7 @@ use Rattle.model.specs.Occam.{framesOf}
 use Rattle.model.specs.Demand.{liveIn}
 use Rattle.model.proofs.Words.Parts.{Part, Within}
 use Rattle.model.proofs.Quiet.Continuations.{Placed}
-use Rattle.model.proofs.Quiet.Marks.{Own, Skips, s-none, s-skip, s-par, Settled}
+use Rattle.model.proofs.Quiet.Marks.{Own, Skips, s-none, s-skip, s-par, Settled, own-name}
 use Rattle.model.proofs.Invariant.Trees.{some-same, Label, alone, alone-part, alone-info, Info, Tree, labelAt, bytesLeft, leaf-bytes}
 use Rattle.model.proofs.Invariant.Trees.{Kept, kept}
 use Rattle.model.proofs.Invariant.Zones.{zoneOf}
@@ -82,7 +82,8 @@ module _ (L : Loaded) where
   other-w {i = i} {j} h k d e =
       let p = sits-at L h .placed in
       let r = sits-at L k .placed in
-      own-one L (apart-parts L h k d) (omega (arith, p .room), p .low) (omega (arith, r .room, e), omega (arith, r .low, e))
+      own-one L (apart-parts L h k d) (own-name _ (i .w) (omega (arith, p .room)) (p .low))
+      (own-name _ (i .w) (omega (arith, r .room, e)) (omega (arith, r .low, e)))
 
   -- what is found at the same path is the same
   pub same-leaf : {st : State} {t : Tree (S L) (root L) (st .process)} {path other : List ℕ} {q r : Process} {b c : Part} {i j : Info}

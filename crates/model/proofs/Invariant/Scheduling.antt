@@ -8,7 +8,7 @@ use mathlib.Core.Bool.{true, false}
 use mathlib.Core.List.{List, [], _∷_, _++_, List·Memᴰ·head, List·Memᴰ·tail, List·Memᴰ·append-cases, List·Memᴰ·eq-of-singleton}
 use lib.ListN.{length, getD, set, length-set}
 use lib.Seq.{getD-set-same, getD-set-other}
-use Rattle.model.specs.Machine.{World, done, release, join, withCpu, resumeWord, linkWord}
+use Rattle.model.specs.Machine.{World, done, release, join, withCpu, resumeWord, linkWord, nameOf}
 use Rattle.model.specs.Machine as M
 use Rattle.model.specs.Scheme.{sizeEnable}
 use Rattle.model.specs.Occam.{Process, put, State}
@@ -204,12 +204,12 @@ module _ (L : Loaded) where
   -- the memory in which w is linked behind the last of the queue
   abbrev pub linkedTo : ℕ → List ℕ → Mem → Mem
   linkedTo w [] μ = μ
-  linkedTo w (v ∷ vs) μ = upd μ (linkWord (lastOf v vs)) w
+  linkedTo w (v ∷ vs) μ = upd μ (linkWord (lastOf v vs)) (nameOf w)
 
   -- a process has joined the queue
   pub record Woken (s : World) (st : State) (μ : Mem) (t : Tree (S L) (root L) (st .process)) (Out : List ℕ → Type 0) (w : ℕ) (ws : List ℕ)
       : Type 0 where
-    pub joins : join w s ≡ done tt (joined w ws s)
+    pub joins : join (nameOf w) s ≡ done tt (joined w ws s)
     pub real : Real L (joined w ws s) st (linkedTo w ws μ) (ws ++ w ∷ [])
     pub rest : Rest L st (linkedTo w ws μ) t Out (ws ++ w ∷ [])
     pub lines : Lined L st t Out (ws ++ w ∷ [])
@@ -268,22 +268,22 @@ module _ (L : Loaded) where
       under : linkWord v < j .w
       under = let p = sits-at L last .placed in omega (arith, p .room, p .low, part-small L last, small-size L)
 
-      linked-rest : Rest L st (upd μ (linkWord v) w) t Out′ (ws ++ w ∷ [])
+      linked-rest : Rest L st (upd μ (linkWord v) (nameOf w)) t Out′ (ws ++ w ∷ [])
       linked-rest =
           let p = sits-at L last .placed .scoped in
-          write-own L last wake-rest (linkWord v) w (link-low .0) (link-low .1)
+          write-own L last wake-rest (linkWord v) (nameOf w) (link-low .0) (link-low .1)
           (λ x m f. absurd (omega (arith, p .vars-above x m, under, f)))
           (λ x m f. absurd (omega (arith, p .chans-above x m, under, f))) (link (ap linkWord (sym e)))
 
       linked-intact : {path : List ℕ} {q : Process} {b : Part} {i : Info} {skip : ℕ} → LeafAt L st t path q b i → Out′ path
-          → Intact (S L) b i skip st st μ (upd μ (linkWord v) w)
+          → Intact (S L) b i skip st st μ (upd μ (linkWord v) (nameOf w))
       linked-intact {path = here} k o =
           let far = apart-zones L (λ z. stays (subst Out z (fewer here o))) (node L k) (node L last) in
           record {
-            own = λ a lo hi d. upd-other μ (linkWord v) w a
+            own = λ a lo hi d. upd-other μ (linkWord v) (nameOf w) a
                 (λ f. far .words a (lo, hi) (omega (arith, f, link-low .0), omega (arith, f, link-low .1)));
             reads = λ x m g. refl;
-            chans = λ d m. inl (upd-other μ (linkWord v) w (S L .word d)
+            chans = λ d m. inl (upd-other μ (linkWord v) (nameOf w) (S L .word d)
                 (λ f. far .chans-out d m (omega (arith, f, link-low .0), omega (arith, f, link-low .1))));
             sends = λ d m z. z;
             none-sends = λ d m g z y. y;
@@ -306,7 +306,7 @@ module _ (L : Loaded) where
       let links : LinksIn s [] = λ v m. rw (size-is L real) (links-in L lines v m) in
       record {
         joins = join-queue (i .w) s run links (real .queue);
-        real = real-memory L real (s .memory) (M.queueing (i .w) (i .w) true (cpuOf s)) refl (real .mirror)
+        real = real-memory L real (s .memory) (M.queueing (nameOf (i .w)) (nameOf (i .w)) true (cpuOf s)) refl (real .mirror)
             (joined-queue (i .w) s (omega (arith, size-is L real, real .room)) links (lines .once) (real .queue));
         rest = wake-rest real rest lines leaf out held in-again fewer not-out;
         lines = wake-lines real rest lines leaf out held in-again fewer not-out;
@@ -324,8 +324,9 @@ module _ (L : Loaded) where
       elim (lines .each (lastOf v vs) (last-in v vs)) [
         | whose last e stays ↦ record {
           joins = join-queue (i .w) s run links (real .queue);
-          real = real-memory L real (set (s .memory) k (i .w)) (M.queueing v (i .w) true (cpuOf s)) (length-set (s .memory) k (i .w))
-              (linked-mirror (lastOf v vs) (i .w) real (links-in L lines (lastOf v vs) (last-in v vs)))
+          real = real-memory L real (set (s .memory) k (nameOf (i .w)))
+              (M.queueing (nameOf v) (nameOf (i .w)) true (cpuOf s)) (length-set (s .memory) k (nameOf (i .w)))
+              (linked-mirror (lastOf v vs) (nameOf (i .w)) real (links-in L lines (lastOf v vs) (last-in v vs)))
               (joined-queue (i .w) s (omega (arith, size-is L real, real .room)) links (lines .once) (real .queue));
           rest = linked-rest real rest lines leaf out held in-again fewer not-out (lastOf v vs) last e stays;
           lines = wake-lines real rest lines leaf out held in-again fewer not-out;

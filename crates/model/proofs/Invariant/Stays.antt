@@ -8,14 +8,15 @@ use mathlib.Core.List.{List, List·Memᴰ}
 use lib.Dec.{eqb}
 use Rattle.model.specs.Syntax.{Site, Expr, constant, variable, NOT, binary, Pairs, noPair, pair, Guard, inputGuard}
 use Rattle.model.specs.Syntax.{skipGuard, condition, Guards}
-use Rattle.model.specs.Machine.{resumeWord, linkWord, stateWord}
+use Rattle.model.specs.Machine.{resumeWord, linkWord, stateWord, nameOf}
 use Rattle.model.specs.Occam.{Store, eval, isTrue, Frame, Process, firstTrue, deny, operate, State, Sender, Ready, by-input, by-skip}
 use Rattle.model.proofs.Quiet.Ways.{Regs, Mem, way-stable}
 use Rattle.model.proofs.Words.Values.{FineExpr}
 use Rattle.model.proofs.Quiet.Setting.{Setting}
 use Rattle.model.proofs.Words.Parts.{Part, guardRoom, FineWhole, FineInput, FinePairs, FineGuards}
 use Rattle.model.proofs.Quiet.Continuations.{cont-low}
-use Rattle.model.proofs.Quiet.Marks.{Own, AnyReady, r-first, r-later, Picks, p-first, p-later, Guarded, g-first, g-later, Unready}
+use Rattle.model.proofs.Quiet.Marks.{Own, own-name, AnyReady, r-first, r-later, Picks, p-first, p-later, Guarded, g-first, g-later}
+use Rattle.model.proofs.Quiet.Marks.{Unready}
 use Rattle.model.proofs.Quiet.Marks.{Noticed, n-none, n-later}
 use Rattle.model.proofs.Quiet.Marks.{Marked}
 use Rattle.model.proofs.Quiet.Marks.{Disabling, Point, pt-stop, pt-assign, pt-var, pt-chan, pt-taken, pt-none, pt-while, pt-in}
@@ -159,8 +160,8 @@ module _ (S : Setting) (b : Part) (i : Info) (high : b .top < 2 ^ 32) (sits : Si
   resumes-stays d r = record { place = resume-same d ∙ r .place; soon = r .soon }
 
   -- a workspace with room is one of the part's
-  pub own-w : Own b (i .w)
-  own-w = (omega (arith, sits .placed .room), sits .placed .low)
+  pub own-w : Own b (nameOf (i .w))
+  own-w = own-name b (i .w) (omega (arith, sits .placed .room)) (sits .placed .low)
 
   waits-stays : {c : Site} {k : List Frame} {at hi message : ℕ} → resumeWord (i .w) ≢ skip → stateWord (i .w) ≢ skip
       → Waits S b i st μ c k at hi message → Waits S b i st′ ν c k at hi message
@@ -203,22 +204,23 @@ module _ (S : Setting) (b : Part) (i : Info) (high : b .top < 2 ^ 32) (sits : Si
     unready-stays f m n (r-first (by-skip {e} h)) = n (r-first (by-skip (true-same b (i .vars) (intact .reads) e (f .0) ∙ h)))
     unready-stays f m n (r-later g) = unready-stays (f .3) (λ d h. m d (g-later h)) (λ h. n (r-later h)) g
 
-    guard-unready : {w : ℕ} → Own b w → (g : Guard) → FineWhole b (i .vars) vw guardRoom (condition g) → FineInput b (i .vars) (i .chans) g
+    guard-unready : (w : ℕ) → Own b (nameOf w) → (g : Guard) → FineWhole b (i .vars) vw guardRoom (condition g)
+        → FineInput b (i .vars) (i .chans) g
         → Unready st (S .word) μ w g → Unready st′ (S .word) ν w g
-    guard-unready o (inputGuard e c x) f d u = λ z.
+    guard-unready w o (inputGuard e c x) f d u = λ z.
         let g = u (true-same b (i .vars) (intact .reads) e f ∙ z) in
         let mine = subst (Own b) (sym (g .0)) o in
         (own-on c (d .1) mine ∙ g .0, (λ s. g .1 (intact .none-sends c (d .1) (d .2) mine s)))
-    guard-unready o (skipGuard e) f d u = sym (true-same b (i .vars) (intact .reads) e f) ∙ u
+    guard-unready w o (skipGuard e) f d u = sym (true-same b (i .vars) (intact .reads) e f) ∙ u
 
-    pub noticed-stays : {gs hs : Guards} {w : ℕ} → Own b w → FineGuards (S .word) b (i .vars) (i .chans) vw gs
+    pub noticed-stays : {gs hs : Guards} {w : ℕ} → Own b (nameOf w) → FineGuards (S .word) b (i .vars) (i .chans) vw gs
         → Noticed st (S .word) μ w gs hs → Noticed st′ (S .word) ν w gs hs
     noticed-stays o f n-none = n-none
-    noticed-stays o f (n-later {g} u n) = n-later (guard-unready o g (f .0) (f .1) u) (noticed-stays o (f .3) n)
+    noticed-stays {w} o f (n-later {g} u n) = n-later (guard-unready w o g (f .0) (f .1) u) (noticed-stays o (f .3) n)
 
-    pub marked-stays : {gs : Guards} {w : ℕ} → FineGuards (S .word) b (i .vars) (i .chans) vw gs
+    pub marked-stays : {gs : Guards} (w : ℕ) → FineGuards (S .word) b (i .vars) (i .chans) vw gs
         → Marked S b st (i .vars) (i .chans) gs μ w → Marked S b st′ (i .vars) (i .chans) gs ν w
-    marked-stays f h c m o =
+    marked-stays w f h c m o =
         let e = own-back c m o in
         let g = h c m (subst (Own b) e o) in
         (e ∙ g .0, guarded-same b (i .vars) (intact .reads) (S .word) (i .chans) vw f (g .1))
@@ -226,9 +228,9 @@ module _ (S : Setting) (b : Part) (i : Info) (high : b .top < 2 ^ 32) (sits : Si
     pub disabling-stays : {k : List Frame} {gs hs : Guards} {choice w : ℕ} → FineGuards (S .word) b (i .vars) (i .chans) vw gs
         → FineGuards (S .word) b (i .vars) (i .chans) vw hs → ν w ≡ μ w → ν (stateWord w) ≡ μ (stateWord w)
         → Disabling S b st (i .vars) (i .chans) k gs hs choice μ w → Disabling S b st′ (i .vars) (i .chans) k gs hs choice ν w
-    disabling-stays f g e x d =
+    disabling-stays {w = w} f g e x d =
         record {
-          marks = marked-stays g (d .marks);
+          marks = marked-stays w g (d .marks);
           state = x ∙ d .state;
           chosen = ⊎-elim (λ c. let (t, p, h, z) = c in inl (t, p, picks-stays f h, e ∙ z)) (λ c. inr (e ∙ c .0, ready-stays g (c .1)))
               (d .chosen);
@@ -262,7 +264,7 @@ held-stays S b i high sits intact (h-output w m l v z) =
 held-stays S b i high sits intact (h-stop u) = h-stop (unmarked-stays S b i high sits intact u)
 held-stays S b i high sits {st} {st′} {μ} {ν} intact (h-wait {gs} c r s v m n k) =
     let low = sits .placed .low in
-    let mine : Own b (i .w) = own-w S b i high sits intact in
+    let mine : Own b (nameOf (i .w)) = own-w S b i high sits intact in
     let back : (d : Site) → Guarded (st′ .store) d gs → Guarded (st .store) d gs =
     λ d g. guarded-same b (i .vars) (λ x h l. sym (intact .reads x h l)) (S .word) (i .chans) (i .w + 1) (c .fine .1) g in
     let here : (d : Site) → Guarded (st .store) d gs → Own b (μ (S .word d)) = λ d g. subst (Own b) (sym (m d g)) mine in
@@ -273,4 +275,4 @@ held-stays S b i high sits {st} {st′} {μ} {ν} intact (h-wait {gs} c r s v m 
     (λ d g. own-on S b i high sits intact d (guarded-fine (S .word) b (i .vars) (i .chans) (i .w + 1) (back d g) (c .fine .1) .0)
     (here d (back d g)) ∙ m d (back d g))
     (unready-stays S b i high sits intact (i .w + 1) (c .fine .1) here n)
-    (marked-stays S b i high sits intact (i .w + 1) (c .fine .1) k)
+    (marked-stays S b i high sits intact (i .w + 1) (i .w) (c .fine .1) k)

@@ -51,8 +51,8 @@ module _ (L : Loaded) where
   -- no word is a name of two parts that are apart
   pub own-one : {b c : Part} {n : ℕ} → Parts.Apart b c → Own b n → Own c n → ⊥
   own-one {b} {c} a h k =
-      ⊎-elim (λ (l : b .top ≤ c .bottom). absurd (omega (arith, h .1, k .0)))
-      (λ (l : c .top ≤ b .bottom). absurd (omega (arith, h .0, k .1)))
+      ⊎-elim (λ (l : b .top ≤ c .bottom). absurd (omega (arith, h .below, k .above)))
+      (λ (l : c .top ≤ b .bottom). absurd (omega (arith, h .above, k .below)))
       (a .words)
 
   -- parts are below the program's workspace

@@ -4,6 +4,7 @@ use mathlib.Core.Path.{_≡_, refl}
 use mathlib.Core.Bool.{Bool, true, false, cond}
 use lib.Dec.{ltb, leb, eqb}
 use Rattle.model.specs.Machine.{World, Result, done, faults, Act, next, _>>=_, _>>_, return, setRegisters, memorySize, peek, poke}
+use Rattle.model.specs.Machine.{spaceOf}
 use Rattle.model.specs.Machine.{testPlace, queueing, resumeWord, linkWord, resume, takeFront, join}
 use Rattle.model.specs.declared.Cpu.{Cpu}
 use Rattle.model.proofs.Cases.{by-bool, of-cond}
@@ -82,15 +83,15 @@ abbrev pub Runs : Cpu → Type 0
 Runs r = r .running ≡ true
 
 -- one that goes on has it
-pub resume-runs : (w : ℕ) → Brings Runs (resume w)
+pub resume-runs : (n : ℕ) → Brings Runs (resume n)
 unfolding resume
-resume-runs w = at-last (peek (resumeWord w)) _ (λ p. record { from = λ s. refl })
+resume-runs n = at-last (peek (resumeWord (spaceOf n))) _ (λ p. record { from = λ s. refl })
 
 -- the queue without its front
 abbrev leaveFront : Cpu → Act (Unit {0})
 leaveFront r =
     cond (eqb (r .front) (r .back)) (setRegisters (queueing (r .front) (r .back) false r))
-    (do f ← peek (linkWord (r .front)); setRegisters (queueing f (r .back) true r))
+    (do f ← peek (linkWord (spaceOf (r .front))); setRegisters (queueing f (r .back) true r))
 
 -- the front of the queue gets it
 pub takeFront-runs : Brings Runs takeFront

@@ -16,7 +16,7 @@ use Rattle.model.specs.Syntax.{Program}
 use Rattle.model.specs.Accept.{memoryWords}
 use Rattle.model.specs.Layout.{base}
 use Rattle.model.specs.Code.{Compilation, compiled, refused, compile}
-use Rattle.model.specs.Machine.{World, done, Act, peek, poke, stateWord}
+use Rattle.model.specs.Machine.{World, done, Act, peek, poke, stateWord, spaceOf}
 use Rattle.model.specs.Execute.{receive, received}
 use Rattle.model.specs.Run.{land, byte, ended, waits, runFrom, shortMemory, After, unchanged, worldOf, finished, fresh, blank}
 use Rattle.model.specs.Run.{cleared, start}
@@ -90,7 +90,7 @@ of-looking k =
           let c = s .machine .setup .base + s .machine .setup .inputs + k in
           bind (of-peek c)
           (λ p. picks (eqb p notProcess) (returning none)
-          (bind (bind (of-peek (stateWord p)) (λ a. of-peek a)) (λ v. returning (some v)))) .from s h;
+          (bind (bind (of-peek (stateWord (spaceOf p))) (λ a. of-peek a)) (λ v. returning (some v)))) .from s h;
     }
 
 -- a process that has the processor keeps it through a take

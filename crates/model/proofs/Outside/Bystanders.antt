@@ -11,7 +11,7 @@ use mathlib.Core.Option.{some}
 use Rattle.model.specs.Syntax.{Site, Stmt, Stmts, noStmt, stmt, Guards}
 use Rattle.model.specs.Counts.{need}
 use Rattle.model.specs.Scheme.{size, howMany}
-use Rattle.model.specs.Machine.{World, stateWord}
+use Rattle.model.specs.Machine.{World, stateWord, nameOf}
 use Rattle.model.specs.Occam.{Store, Frame, Process, atOutput, begin, look, State}
 use Rattle.model.proofs.Cases.{never}
 use Rattle.model.proofs.Quiet.Ways.{Regs, regsOf, Mem, upd, upd-other, Way, arrived, through, quiet, loads, stores, reloads, jumps}
@@ -21,7 +21,7 @@ use Rattle.model.proofs.Quiet.Setting.{Setting}
 use Rattle.model.proofs.Occam.Paths.{same-path, silent-begin}
 use Rattle.model.proofs.Words.Parts.{Part, joins, partOf, FineGuards}
 use Rattle.model.proofs.Quiet.Continuations.{cont-low}
-use Rattle.model.proofs.Quiet.Marks.{Own, AltCode, Enabling, Enables, e-input, e-skip, Disables, d-input, d-skip, AltPoint}
+use Rattle.model.proofs.Quiet.Marks.{Own, AltCode, Enabling, Enables, e-input, e-skip, Disables, d-input, d-skip, AltPoint, own-name}
 use Rattle.model.proofs.Quiet.Marks.{pt-enable}
 use Rattle.model.proofs.Quiet.Marks.{pt-wait, pt-disable, pt-choose}
 use Rattle.model.proofs.Quiet.Arrivals.{Goes, comes}
@@ -75,8 +75,8 @@ module _ (S : Setting) (b : Part) (i : Info) (high : b .top < 2 ^ 32) (sits : Si
 
   -- an ALT's code has room for its words
   module _ (w : ℕ) {gs : Guards} {k : List Frame} {hi at : ℕ} (c : AltCode S b gs (i .vars) (i .chans) k hi at (w + 1)) where
-    alt-own : Own b w
-    alt-own = (omega (arith, c .fine .0), omega (arith, cont-low S b (c .after)))
+    alt-own : Own b (nameOf w)
+    alt-own = own-name b w (omega (arith, c .fine .0)) (omega (arith, cont-low S b (c .after)))
 
     alt-base : ν w ≡ μ w
     alt-base = all-same w (omega (arith, c .fine .0)) (omega (arith, cont-low S b (c .after)))
@@ -88,7 +88,7 @@ module _ (S : Setting) (b : Part) (i : Info) (high : b .top < 2 ^ 32) (sits : Si
     enabling-stays n =
         record {
           rest = n .rest;
-          marks = marked-stays S b i high sits intact (w + 1) (c .fine .1) (n .marks);
+          marks = marked-stays S b i high sits intact (w + 1) w (c .fine .1) (n .marks);
           state = ⊎-elim
               (λ e. inl (alt-state ∙ e .0, noticed-stays S b i high sits intact (w + 1) alt-own (c .fine .1) (e .1)))
               (λ e. inr (alt-state ∙ e .0, ready-stays S b i high sits intact (w + 1) (c .fine .1) (e .1))) (n .state);

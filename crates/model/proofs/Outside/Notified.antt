@@ -8,9 +8,10 @@ use lib.Dec.{eqb}
 use mathlib.Core.List.{List, List·Memᴰ}
 use Rattle.model.specs.Limits.{wordLimit}
 use Rattle.model.specs.Syntax.{Site, inputOf, Guards}
-use Rattle.model.specs.Machine.{stateWord}
+use Rattle.model.specs.Machine.{stateWord, nameOf}
 use Rattle.model.specs.Execute.{enabling, ready}
 use Rattle.model.specs.Occam.{store, Frame, Process, State, Sender, offers}
+use Rattle.model.proofs.Quiet.Names.{name-back, name-injective}
 use Rattle.model.proofs.Quiet.Ways.{upd-other, upd, Regs, Mem, way-stable}
 use Rattle.model.proofs.Quiet.Continuations.{Placed, cont-low, cont-placed}
 use Rattle.model.proofs.Words.Parts.{Part}
@@ -35,11 +36,11 @@ module _ (L : Loaded) (b : Part) (i : Info) (st : State) where
   module _ (c : Site) (m : List·Memᴰ c (i .chans)) where
     -- it stands at w, and the channel holds its name
     pub record StoodAt (w : ℕ) (μ : Mem) : Type 0 where
-      pub holds : μ (S L .word c) ≡ w
+      pub holds : μ (S L .word c) ≡ nameOf w
       pub stood : Stood μ w
 
     stood-at : {gs : Guards} {l : List Frame} {hi at : ℕ} {μ : Mem} (w : ℕ) → AltCode (S L) b gs (i .vars) (i .chans) l hi at (w + 1)
-        → μ (S L .word c) ≡ w
+        → μ (S L .word c) ≡ nameOf w
         → (μ (stateWord w) ≡ enabling) ⊎ (μ (stateWord w) ≡ ready) → StoodAt w μ
     stood-at w a e f =
         record { holds = e; stood = record { low = omega (arith, a .fine .0); placed = cont-placed (S L) b (a .after); state = f } }
@@ -80,10 +81,10 @@ module _ (L : Loaded) (b : Part) (i : Info) (st : State) where
           (λ h ν j r p o. subst (λ w. StoodAt w ν) (p .1) (point-stood h j r o (p .0))) (λ ν z. absurd z) way o
 
       -- it stays in the ALT, Ready, when its channel gets an offer
-      module _ (n v : ℕ) (named : c ≡ inputOf n) (p : ℕ) (o : Own b p) where
+      module _ (n v : ℕ) (named : c ≡ inputOf n) (p : ℕ) (o : Own b (nameOf p)) where
         -- its state word is Ready, and all others are as they were
         pub record Told (μ η : Mem) : Type 0 where
-          pub holds : μ (S L .word c) ≡ p
+          pub holds : μ (S L .word c) ≡ nameOf p
           pub now-ready : η (stateWord p) ≡ ready
           pub others : (u : ℕ) → u ≢ stateWord p → η u ≡ μ u
 
@@ -98,9 +99,9 @@ module _ (L : Loaded) (b : Part) (i : Info) (st : State) where
           mine = subst (Own b) (sym (told .holds)) o
 
           module _ (w : ℕ) {gs : Guards} {l : List Frame} {hi at : ℕ} (a : AltCode (S L) b gs (i .vars) (i .chans) l hi at (w + 1))
-              (e : μ (S L .word c) ≡ w) where
+              (e : μ (S L .word c) ≡ nameOf w) where
             same-w : p ≡ w
-            same-w = sym (told .holds) ∙ e
+            same-w = name-injective p w (sym (told .holds) ∙ e)
 
             state-low : stateWord p < p
             state-low = omega (arith, a .fine .0, cont-low (S L) b (a .after), same-w)
@@ -151,7 +152,7 @@ module _ (L : Loaded) (b : Part) (i : Info) (st : State) where
 
         -- a spare word is below the state word
         spare-off : {u : ℕ} → b .bottom + 3 ≤ p → AltSpare (S L) b st (i .vars) (i .chans) p u → u ≢ stateWord p
-        spare-off low s e = absurd (omega (arith, s .1, o .1, e))
+        spare-off low s e = absurd (omega (arith, s .1, o .below, name-back p, e))
 
         both-told : b .bottom + 3 ≤ p → (μ η : Mem) (u z : ℕ) → AltSpare (S L) b st (i .vars) (i .chans) p u → Told μ η
             → Told (upd μ u z) (upd η u z)

@@ -14,12 +14,13 @@ use borrow.Author.Tests.{eq-eqb, ne-eqb, eqb-true}
 use Rattle.model.specs.Word.{notProcess}
 use Rattle.model.specs.Syntax.{Site, inputOf}
 use Rattle.model.specs.Layout.{base}
-use Rattle.model.specs.Machine.{World, done, withOffers, join, stateWord}
+use Rattle.model.specs.Machine.{World, done, withOffers, join, stateWord, nameOf}
 use Rattle.model.specs.Execute.{isAltState, notify, deliver}
 use Rattle.model.specs.Run.{land}
 use Rattle.model.specs.Outside.{offering}
 use Rattle.model.specs.Occam.{store, State, Sender, process, outside, offers}
 use Rattle.model.proofs.Cases.{never, by-bool}
+use Rattle.model.proofs.Quiet.Names.{name-back}
 use Rattle.model.proofs.Quiet.Ways.{Mem}
 use Rattle.model.proofs.Effects.OneWord.{sizeOf, stored, poke-in}
 use Rattle.model.proofs.Effects.Acts.{peek-at}
@@ -41,31 +42,32 @@ unfolding offering
 offer-holds k v c s at h empty l = waking-does _ s (holding k v s) (rw (peek-at s at h empty)) l
 
 -- an ALT is
-pub offer-tells : (k v c p t : ℕ) (s u : World) → s .machine .setup .base + k ≡ c → c < sizeOf s → getD (s .memory) c 0 ≡ p → p ≢ notProcess
-    → stateWord p < sizeOf s → getD (s .memory) (stateWord p) 0 ≡ t → isAltState t ≡ true → notify p t (holding k v s) ≡ done tt u
+pub offer-tells : (k v c p t : ℕ) (s u : World) → s .machine .setup .base + k ≡ c → c < sizeOf s → getD (s .memory) c 0 ≡ nameOf p
+    → nameOf p ≢ notProcess
+    → stateWord p < sizeOf s → getD (s .memory) (stateWord p) 0 ≡ t → isAltState t ≡ true → notify (nameOf p) t (holding k v s) ≡ done tt u
     → land u ≡ done tt u → offering k v s ≡ done tt u
 unfolding offering
 offer-tells k v c p t s u at h name n hs state alt told l =
-    waking-does _ s u (rw (peek-at s at h name, ne-eqb p notProcess n, peek-at s refl hs state, alt, told)) l
+    let state-at = ap stateWord (name-back p) in
+    waking-does _ s u (rw (peek-at s at h name, ne-eqb (nameOf p) notProcess n, peek-at s state-at hs state, alt, told)) l
 
 -- a process in IN is
-pub offer-delivers : (k v c p m : ℕ) (s u : World) → s .machine .setup .base + k ≡ c → c < sizeOf s → getD (s .memory) c 0 ≡ p
-    → p ≢ notProcess
+pub offer-delivers : (k v c p m : ℕ) (s u : World) → s .machine .setup .base + k ≡ c → c < sizeOf s → getD (s .memory) c 0 ≡ nameOf p
+    → nameOf p ≢ notProcess
     → stateWord p < sizeOf s → getD (s .memory) (stateWord p) 0 ≡ m → isAltState m ≡ false → m < sizeOf s
-    → join p (stored c notProcess (stored m v s)) ≡ done tt u → land (communicated c v u) ≡ done tt (communicated c v u)
+    → join (nameOf p) (stored c notProcess (stored m v s)) ≡ done tt u → land (communicated c v u) ≡ done tt (communicated c v u)
     → offering k v s ≡ done tt (communicated c v u)
 unfolding offering deliver
 offer-delivers k v c p m s u at h name n hs state alt hm joined l =
     waking-does _ s (communicated c v u)
     (rw (
       peek-at s at h name,
-      ne-eqb p notProcess n,
-      peek-at s refl hs state,
+      ne-eqb (nameOf p) notProcess n,
+      peek-at s (ap stateWord (name-back p)) hs state,
       alt,
       poke-in m v s hm,
       at,
-      received-does c p v
-          (stored m v s) u h joined,
+      received-does c (nameOf p) v (stored m v s) u h joined,
     )) l
 
 -- with an offer more

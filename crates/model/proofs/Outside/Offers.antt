@@ -14,7 +14,7 @@ use Rattle.model.specs.Limits.{wordLimit}
 use Rattle.model.specs.Syntax.{Site, inputOf, Guards}
 use Rattle.model.specs.Layout.{base}
 use Rattle.model.specs.Scheme.{sizeEnable}
-use Rattle.model.specs.Machine.{World, done, resumeWord, stateWord}
+use Rattle.model.specs.Machine.{World, done, resumeWord, stateWord, nameOf}
 use Rattle.model.specs.Execute.{isAltState, notify, waiting, ready, noneSelected}
 use Rattle.model.specs.Run.{land}
 use Rattle.model.specs.Outside.{offering}
@@ -24,9 +24,10 @@ use Rattle.model.specs.Demand as Demand
 use Rattle.model.specs.declared.Setup.{Setup}
 use Rattle.model.specs.declared.OfferAnswer.the-variants.{Offered}
 use Rattle.model.proofs.Cases.{never}
+use Rattle.model.proofs.Quiet.Names.{name-given}
 use Rattle.model.proofs.Quiet.Ways.{upd-same, upd-other, upd, regsOf, Mem}
 use Rattle.model.proofs.Words.Parts.{Part, Target}
-use Rattle.model.proofs.Quiet.Marks.{Own, Guarded, AltCode, Marked, Disabling}
+use Rattle.model.proofs.Quiet.Marks.{Own, Guarded, AltCode, Marked, Disabling, own-name}
 use Rattle.model.proofs.Quiet.Onwards.{AltWay, alt-goes, guarded-ready}
 use Rattle.model.proofs.Invariant.Trees.{Info, Tree, bytesLeft}
 use Rattle.model.proofs.Invariant.Leaves.{member, Unmarked, Resumes, Waits, Held, h-woken}
@@ -114,12 +115,14 @@ module _ (L : Loaded) {s : World} {st : State} {μ : Mem} {t : Tree (S L) (root 
   -- an ALT has enabled the channel
   module _ {other : List ℕ} {gs : Guards} {l : List Frame} {d : Part} {j : Info} {far to : ℕ}
       (chooser : LeafAt L st t other (atAlt gs l) d j)
-      (strange : Out other → ⊥) (a : AltCode (S L) d gs (j .vars) (j .chans) l far to (j .w + 1)) (here : μ (S L .word c) ≡ j .w) where
+      (strange : Out other → ⊥) (a : AltCode (S L) d gs (j .vars) (j .chans) l far to (j .w + 1))
+      (here : μ (S L .word c) ≡ nameOf (j .w)) where
     chooser₁ : LeafAt L st₁ t other (atAlt gs l) d j
     chooser₁ = after-leaf L chooser
 
-    own-name : Own d (μ (S L .word c))
-    own-name = let p = sits-at L chooser .placed in subst (Own d) (sym here) (omega (arith, p .room), p .low)
+    own-chooser : Own d (μ (S L .word c))
+    own-chooser =
+        let p = sits-at L chooser .placed in subst (Own d) (sym here) (own-name d (j .w) (omega (arith, p .room)) (p .low))
 
     -- its words
     t-low : (d .bottom ≤ stateWord (j .w)) × (stateWord (j .w) < j .w)
@@ -144,7 +147,7 @@ module _ (L : Loaded) {s : World} {st : State} {μ : Mem} {t : Tree (S L) (root 
         rest-below L chooser₁ (inr refl) (sits-at L chooser .placed) (stateWord (j .w)) ready (t-low .0) (t-low .1)
         (change-offers L (withOffer k v (st .offers)) (rest-out L (λ here o. inl o) (G .rest)) (λ path r b i x n. (
           (λ y m g. more-senders st k v g),
-          (λ y m z o g. fewer-senders st k v (λ e. own-one L (apart-parts L chooser x (λ q. n (inr q))) own-name
+          (λ y m z o g. fewer-senders st k v (λ e. own-one L (apart-parts L chooser x (λ q. n (inr q))) own-chooser
               (subst (λ z. Own b (μ (S L .word z))) e o)) g),
         )))
 
@@ -152,7 +155,7 @@ module _ (L : Loaded) {s : World} {st : State} {μ : Mem} {t : Tree (S L) (root 
     keeps path q b i x o =
         let off : other ≢ path = λ e. strange (subst Out (sym e) o) in (
           after-leaf L x,
-          intact-trans (intact-held (λ n. own-one L (apart-parts L chooser x off) own-name n))
+          intact-trans (intact-held (λ n. own-one L (apart-parts L chooser x off) own-chooser n))
               (intact-own L chooser₁ (after-leaf L x) off μ (stateWord (j .w)) ready (t-low .0) t-high),
         )
 
@@ -189,13 +192,14 @@ module _ (L : Loaded) {s : World} {st : State} {μ : Mem} {t : Tree (S L) (root 
         let g = h y m (subst (Own d) e o) in
         (e ∙ g .0, g .1)
 
-    tells : {z : ℕ} → μ (stateWord (j .w)) ≡ z → isAltState z ≡ true → (u : World) → notify (j .w) z (holding k v s) ≡ done tt u
+    tells : {z : ℕ} → μ (stateWord (j .w)) ≡ z → isAltState z ≡ true → (u : World)
+        → notify (nameOf (j .w)) z (holding k v s) ≡ done tt u
         → land u ≡ done tt u → offering k v s ≡ done tt u
     tells {z} state alt u told lands =
         let p = sits-at L chooser .placed in
         let sz = size-is L (G .real) in
         offer-tells k v (S L .word c) (j .w) z s u at-word (rw sz c-in) (mirrored L (G .real) (S L .word c) c-in here)
-        (λ q. absurd (omega (arith, p .low, part-small L chooser, small-size L, q))) (rw sz alt-in)
+        (name-given (j .w) (omega (arith, p .low, part-small L chooser, small-size L))) (rw sz alt-in)
         (mirrored L (G .real) (stateWord (j .w)) alt-in state) alt told lands
 
     -- it waits: it is woken
@@ -268,7 +272,8 @@ module _ (L : Loaded) {s : World} {st : State} {μ : Mem} {t : Tree (S L) (root 
     receiver₃ = after-leaf L receiver
 
     own-before : Own d (μ (S L .word c))
-    own-before = let p = sits-at L receiver .placed in subst (Own d) (sym (waits .here)) (omega (arith, p .room), p .low)
+    own-before =
+        let p = sits-at L receiver .placed in subst (Own d) (sym (waits .here)) (own-name d (j .w) (omega (arith, p .room)) (p .low))
 
     own-then : Own d (η₁ (S L .word c))
     own-then = subst (Own d) (sym (upd-other μ (S L .word x) v (S L .word c) x-not-c)) own-before
@@ -345,7 +350,7 @@ module _ (L : Loaded) {s : World} {st : State} {μ : Mem} {t : Tree (S L) (root 
         answers-talk L {c = c} {v = v} passes refl
         (λ u e lands. offer-delivers k v (S L .word c) (j .w) (S L .word x) s u at-word (rw sz c-in)
         (mirrored L (G .real) (S L .word c) c-in (waits .here))
-        (λ q. absurd (omega (arith, p .low, part-small L receiver, small-size L, q))) (rw sz tall)
+        (name-given (j .w) (omega (arith, p .low, part-small L receiver, small-size L))) (rw sz tall)
         (mirrored L (G .real) (stateWord (j .w)) tall (waits .message-at)) (no-alt-state (S L .word x) (omega (arith, x-in, small-size L)))
         (rw sz x-in) e lands) goes
 
@@ -369,16 +374,14 @@ module _ (L : Loaded) {s : World} {st : State} {μ : Mem} {t : Tree (S L) (root 
     {ws : List ℕ} (G : Ground L s st μ t (Only path) ws) (run : cpuOf s .running ≡ true) (leaf : LeafAt L st t path q b i) (k v : ℕ)
     (below : k < L .prog .inputs) (small : v < 2 ^ 32) (free : getD (s .machine .held) k false ≡ false)
     (m : List·Memᴰ (inputOf k) (i .chans)) (o : Own b (μ (S L .word (inputOf k)))) where
-  -- its name, and its state word
-  abbrev p : ℕ
-  p = μ (S L .word (inputOf k))
-
   high : b .top ≤ wordLimit
   high = omega (arith, part-small L leaf, small-size L)
 
-  module _ (stood : Stood L b i st μ p) where
+  -- its workspace, and its state word
+  module _ {p : ℕ} (named : μ (S L .word (inputOf k)) ≡ nameOf p) (stood : Stood L b i st μ p) where
     w-low : (b .bottom ≤ stateWord p) × (stateWord p < p + 1)
-    w-low = (omega (arith, stood .low, o .1, high), omega (arith, stood .low, o .1, high))
+    w-low =
+        let l = stood .placed .low in (omega (arith, stood .low, l, high), omega (arith, stood .low, l, high))
 
     w-in : stateWord p < size L
     w-in = omega (arith, w-low .1, stood .placed .low, part-small L leaf)
@@ -410,7 +413,7 @@ module _ (L : Loaded) {s : World} {st : State} {μ : Mem} {t : Tree (S L) (root 
         let sz = size-is L (G .real) in
         let inside-c = c-in L G k v below small free in
         offer-tells k v (S L .word (inputOf k)) p z s s₄ (at-word L G k v below small free) (rw sz inside-c)
-        (G .real .mirror (S L .word (inputOf k)) inside-c) (λ e. not-own b high (subst (Own b) e o)) (rw sz w-in)
+        (mirrored L (G .real) (S L .word (inputOf k)) inside-c named) (λ e. not-own b high (subst (Own b) (named ∙ e) o)) (rw sz w-in)
         (mirrored L (G .real) (stateWord p) w-in state) alt (notify-other p z (holding k v s) (rw sz w-in) n) lands
 
     did-alert : {hi at : ℕ} → Here L at (cpuOf s .place) (cpuOf s .operand)
@@ -418,9 +421,9 @@ module _ (L : Loaded) {s : World} {st : State} {μ : Mem} {t : Tree (S L) (root 
         → hi ≤ i .left + cpuOf s .place → Answers L (λ u. offering k v s ≡ done tt u) s st (offers k v Offered) (bytesLeft (S L) t)
     did-alert here way soon =
         let inv = runs real₄ run (after-leaf L leaf) rest₄ (after-lined L (G .lined))
-        (now-alt here (alt-goes p (told-way L b i st (inputOf k) m high k v refl p o (stood .low)
+        (now-alt here (alt-goes p (told-way L b i st (inputOf k) m high k v refl p (subst (Own b) named o) (stood .low)
         (record {
-          holds = refl;
+          holds = named;
           now-ready = upd-same μ (stateWord p) ready;
           others = λ u d. upd-other μ (stateWord p) ready u d;
         }) way)) soon) in
@@ -433,9 +436,7 @@ module _ (L : Loaded) {s : World} {st : State} {μ : Mem} {t : Tree (S L) (root 
   now-alerts (now-goes h way settled clean soon) = absurd (clean (inputOf k) m o)
   now-alerts (now-alt {hi} {at} h (alt-goes w way) soon) =
       let there = stood L b i st (inputOf k) m high o way in
-      let same : w ≡ p = sym (there .holds) in
-      did-alert (subst (λ z. Stood L b i st μ z) same (there .stood)) h
-      (subst (λ z. AltWay (S L) b st (i .vars) (i .chans) q z hi μ at (regsOf (cpuOf s))) same way) soon
+      did-alert (there .holds) (there .stood) h way soon
 
 -- every offer that is not turned down
 pub offers-does : (L : Loaded) {s : World} {st : State} {n : ℕ} → Inv L s st n → (k v : ℕ) → k < L .prog .inputs → v < 2 ^ 32

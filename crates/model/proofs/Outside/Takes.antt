@@ -12,7 +12,7 @@ use borrow.Author.Tests.{ne-eqb}
 use Rattle.model.specs.Word.{notProcess}
 use Rattle.model.specs.Syntax.{Site, outputOf}
 use Rattle.model.specs.Layout.{base}
-use Rattle.model.specs.Machine.{World, done, Act, return, join, resumeWord, stateWord}
+use Rattle.model.specs.Machine.{World, done, Act, return, join, resumeWord, stateWord, nameOf}
 use Rattle.model.specs.Execute.{receive, received}
 use Rattle.model.specs.Run.{land}
 use Rattle.model.specs.Outside.{waking, looking, taking}
@@ -20,9 +20,10 @@ use Rattle.model.specs.Occam.{Frame, Process, atOutput, resume, State, S
 use Rattle.model.specs.declared.Setup.{Setup}
 use Rattle.model.specs.declared.TakeAnswer.the-variants.{Taken}
 use Rattle.model.proofs.Cases.{never, by-bool}
+use Rattle.model.proofs.Quiet.Names.{name-back, name-given}
 use Rattle.model.proofs.Quiet.Ways.{upd-same, upd-other, upd, Mem}
 use Rattle.model.proofs.Words.Parts.{Part}
-use Rattle.model.proofs.Quiet.Marks.{Own}
+use Rattle.model.proofs.Quiet.Marks.{Own, own-name}
 use Rattle.model.proofs.Invariant.Trees.{Info, Tree, bytesLeft}
 use Rattle.model.proofs.Invariant.Leaves.{member, Unmarked, Waits}
 use Rattle.model.proofs.Effects.OneWord.{cpuOf, sizeOf, stored, poke-in}
@@ -67,18 +68,30 @@ take-none k c s e h f = rw (peek-at s e h f)
 
 -- a take with one
 module _ (k c p m v : ℕ) (s u : World) (at : s .machine .setup .base + s .machine .setup .inputs + k ≡ c) (h : c < sizeOf s)
-    (name : getD (s .memory) c 0 ≡ p) (some-name : p ≢ notProcess) (hm : stateWord p < sizeOf s)
+    (name : getD (s .memory) c 0 ≡ nameOf p) (some-name : nameOf p ≢ notProcess) (hm : stateWord p < sizeOf s)
     (place : getD (s .memory) (stateWord p) 0 ≡ m)
-    (hv : m < sizeOf s) (holds : getD (s .memory) m 0 ≡ v) (joined : join p (stored c notProcess s) ≡ done tt u)
+    (hv : m < sizeOf s) (holds : getD (s .memory) m 0 ≡ v) (joined : join (nameOf p) (stored c notProcess s) ≡ done tt u)
     (lands : land (communicated c v u) ≡ done tt (communicated c v u)) where
   look-some : looking k s ≡ done (some v) s
   unfolding looking receive
-  look-some = rw (peek-at s at h name, ne-eqb p notProcess some-name, peek-at s refl hm place, peek-at s refl hv holds)
+  look-some =
+      rw (
+        peek-at s at h name,
+        ne-eqb (nameOf p) notProcess some-name,
+        peek-at s (ap stateWord (name-back p)) hm place,
+        peek-at s refl hv holds,
+      )
 
   take-some : taking k s ≡ done (some v) (communicated c v u)
   unfolding taking
   take-some =
-      rw (look-some, peek-at s at h name, at, waking-does (received c p v) s (communicated c v u) (received-does c p v s u h joined) lands)
+      rw (
+        look-some,
+        peek-at s at h name,
+        at,
+        waking-does (received c (nameOf p) v) s (communicated c v u)
+            (received-does c (nameOf p) v s u h joined) lands,
+      )
 
 module _ (L : Loaded) {s : World} {st : State} {μ : Mem} {t : Tree (S L) (root L) (st .process)} {Out : List ℕ → Type 0} {ws : List ℕ}
     (G : Ground L s st μ t Out ws) (k : ℕ) (below : k < L .prog .outputs) where
@@ -104,8 +117,8 @@ module _ (L : Loaded) {s : World} {st : State} {μ : Mem} {t : Tree (S L) (root 
       ⊎-elim by (λ z. let (n, v, e, o) = z in never (cc)) (sender-at L (G .rest) c (λ path v l e o. G .silent path c v l e o) g)
     where
       by : Sends L (G .rest) c → ⊥
-      by (sends l n e out m) =
-          let p = sits-at L l .placed in absurd (omega (arith, e, empty, p .low, part-small L l, small-size L))
+      by (sends {i = j} l n e out m) =
+          let p = sits-at L l .placed in name-given (j .w) (omega (arith, p .low, part-small L l, small-size L)) (sym e ∙ empty)
 
   -- a sender waits: it goes on
   module _ {other : List ℕ} {v : ℕ} {f : List Frame} {d : Part} {j : Info} {to far : ℕ} (sender : LeafAt L st t other (atOutput c v f) d j)
@@ -114,14 +127,14 @@ module _ (L : Loaded) {s : World} {st : State} {μ : Mem} {t : Tree (S L) (root 
     abbrev ν : Mem
     ν = upd μ (S L .word c) notProcess
 
-    own-name : Own d (μ (S L .word c))
-    own-name = let p = sits-at L sender .placed in subst (Own d) (sym (waits .here)) (omega (arith, p .room), p .low)
+    own-sender : Own d (μ (S L .word c))
+    own-sender = let p = sits-at L sender .placed in subst (Own d) (sym (waits .here)) (own-name d (j .w) (omega (arith, p .room)) (p .low))
 
     lines : Lined L st t (With Out other) ws
     lines = lined-out L sender unqueued (λ here o. ⊎-elim (λ o. inr o) (λ e. inl e) o) (G .lined)
 
     rest : Rest L st ν t (With Out other) ws
-    rest = clear-chan L sender (inr refl) (rest-out L (λ here o. inl o) (G .rest)) c (waits .scope) (inr own-name)
+    rest = clear-chan L sender (inr refl) (rest-out L (λ here o. inl o) (G .rest)) c (waits .scope) (inr own-sender)
 
     real : Real L (stored (S L .word c) notProcess s) st ν ws
     real = real-stored L (S L .word c) notProcess c-in (link-chan L lines sender (inr refl) c (waits .scope)) (G .real)
@@ -145,7 +158,7 @@ module _ (L : Loaded) {s : World} {st : State} {μ : Mem} {t : Tree (S L) (root 
     keeps path q b i l o =
         let off : other ≢ path = λ e. strange (subst Out (sym e) o) in (
           l,
-          intact-chan L sender l off μ c notProcess (waits .scope) (λ n. own-one L (apart-parts L sender l off) own-name n)
+          intact-chan L sender l off μ c notProcess (waits .scope) (λ n. own-one L (apart-parts L sender l off) own-sender n)
               (not-own b (omega (arith, part-small L l, small-size L))),
         )
 
@@ -163,7 +176,7 @@ module _ (L : Loaded) {s : World} {st : State} {μ : Mem} {t : Tree (S L) (root 
         let in-memory : j .w < size L = omega (arith, low, part-small L sender) in
         answers-talk L {c = c} {v = v} (t-event (taken other (sender .found)) t-none) refl
         (λ u e l. take-some k (S L .word c) (j .w) (j .w) v s u at-word (rw sz c-in) (mirrored L (G .real) (S L .word c) c-in (waits .here))
-        (λ e. absurd (omega (arith, p .low, part-small L sender, small-size L, e))) (rw sz tall)
+        (name-given (j .w) (omega (arith, p .low, part-small L sender, small-size L))) (rw sz tall)
         (mirrored L (G .real) (stateWord (j .w)) tall (waits .message-at)) (rw sz in-memory)
         (mirrored L (G .real) (j .w) in-memory holds) e l) goes
 

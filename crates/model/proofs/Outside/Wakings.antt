@@ -12,7 +12,7 @@ use Rattle.model.specs.Word.{notProcess}
 use Rattle.model.specs.Syntax.{Site, inputOf, outputOf, Stmts}
 use Rattle.model.specs.Reader.{numbered}
 use Rattle.model.specs.Usage.{same}
-use Rattle.model.specs.Machine.{Talk, World, done, return, testPlace, join, resumeWord}
+use Rattle.model.specs.Machine.{Talk, World, done, return, testPlace, join, resumeWord, nameOf}
 use Rattle.model.specs.Run.{land}
 use Rattle.model.specs.Occam.{store, Frame, Process, Branches, atOutput, framesOf, put, resume, State, Sender, process}
 use Rattle.model.specs.Occam.{Communication, over-channel, Event}
@@ -191,8 +191,8 @@ module _ (L : Loaded) where
 
   -- a process has joined the queue, or has the processor
   pub data Joins (w : ℕ) (s : World) (st : State) (n : ℕ) : Type 0 where
-    joins : (u : World) {st′ : State} (g : Segment) → join w s ≡ done tt u → u .talk ≡ s .talk → Trace st g st′ [] [] → Inv L u st′ n
-        → Joins w s st n
+    joins : (u : World) {st′ : State} (g : Segment) → join (nameOf w) s ≡ done tt u → u .talk ≡ s .talk → Trace st g st′ [] []
+        → Inv L u st′ n → Joins w s st n
 
   -- where it can go on
   module _ {s₀ : World} {st₀ : State} {μ₀ : Mem} {t₀ : Tree (S L) (root L) (st₀ .process)} {Out : List ℕ → Type 0} {ws : List ℕ}
@@ -218,7 +218,7 @@ module _ (L : Loaded) where
       low : resumeWord (j .w) < size L
       low = let p = sits-at L leaf .placed in omega (arith, p .room, p .low, part-small L leaf, small-size L)
 
-      join-is : join (j .w) s ≡ done tt taken
+      join-is : join (nameOf (j .w)) s ≡ done tt taken
       join-is = join-queue-free (j .w) s (same-regs .run ∙ F .stopped) (rw (size-is L real) low)
 
       only : (here : List ℕ) → With Out other here → Only other here
@@ -310,7 +310,7 @@ module _ (L : Loaded) where
   -- a process was woken by a communication
   pub answers-talk : {did : World → Type 0} {s₀ s : World} {st₀ st : State} {e : Event} {c : Site} {v w n : ℕ} {g : Segment}
       → Trace st₀ g st (over-channel c v) (e ∷ []) → s .talk ≡ s₀ .talk
-      → ((u : World) → join w s ≡ done tt u → land (talked c v u) ≡ done tt (talked c v u) → did (talked c v u)) → Joins w s st n
+      → ((u : World) → join (nameOf w) s ≡ done tt u → land (talked c v u) ≡ done tt (talked c v u) → did (talked c v u)) → Joins w s st n
       → Answers did s₀ st₀ e n
   answers-talk {c = c} {v} {g = g} ms talk ran (joins u h e f ns inv) =
       let inv′ = inv-talk (u .talk ++ record { channel = S L .word c; value = v } ∷ []) inv in
@@ -320,7 +320,8 @@ module _ (L : Loaded) where
   -- without one
   pub answers-silent : {did : World → Type 0} {s₀ s : World} {st₀ st : State} {e : Event} {w n : ℕ} {g : Segment}
       → Trace st₀ g st [] (e ∷ [])
-      → s .talk ≡ s₀ .talk → ((u : World) → join w s ≡ done tt u → land u ≡ done tt u → did u) → Joins w s st n → Answers did s₀ st₀ e n
+      → s .talk ≡ s₀ .talk → ((u : World) → join (nameOf w) s ≡ done tt u → land u ≡ done tt u → did u) → Joins w s st n
+      → Answers did s₀ st₀ e n
   answers-silent {s₀ = s₀} {g = g} ms talk ran (joins u h e f ns inv) =
       answers u (g ++ h) (ran u e (inv-lands inv)) (trace-then ms ns) (f ∙ talk ∙ sym (append-nil (s₀ .talk))) inv (omega arith)
 

@@ -18,6 +18,7 @@ use Rattle.model.specs.Execute.{enabling, ready, noneSelected}
 use Rattle.model.specs.Machine.{stateWord, nameOf, spaceOf}
 use Rattle.model.specs.Occam.{Store, eval, isTrue, Frame, inWhile, Process, before, atInput, atOutput, atStop, atAlt, inPar}
 use Rattle.model.specs.Occam.{finished, resume, begin, firstTrue, State, Sender, branchOf, Ready}
+use Rattle.model.proofs.Quiet.Names.{name-back}
 use Rattle.model.proofs.Quiet.Ways.{Regs, Mem}
 use Rattle.model.proofs.Quiet.Stretches.{Seg}
 use Rattle.model.proofs.Quiet.Setting.{Setting, whole, At}
@@ -44,9 +45,9 @@ pub data Rest : Guards → (b : ℕ) → Guards → (t : ℕ) → Type 0 where
   rest-all : {gs : Guards} {b : ℕ} → Rest gs b gs b
   rest-later : {g : Guard} {s : Stmt} {gs hs : Guards} {b t : ℕ} → Rest gs (nextBranch b g s) hs t → Rest (guard g s gs) b hs t
 
--- a guard that is not ready; one that waits for input is marked with w where its condition is true
+-- a guard that is not ready; one that waits for input is marked by the process at w where its condition is true
 abbrev pub Unready : State → (Site → ℕ) → Mem → (w : ℕ) → Guard → Type 0
-Unready st word μ w (inputGuard e c x) = isTrue (st .store) e ≡ true → (μ (word c) ≡ w) × (Sender st c → ⊥)
+Unready st word μ w (inputGuard e c x) = isTrue (st .store) e ≡ true → (μ (word c) ≡ nameOf w) × (Sender st c → ⊥)
 Unready st word μ w (skipGuard e) = isTrue (st .store) e ≡ false
 
 -- of the guards from the first list up to the second, which is the rest of it, none is ready
@@ -93,8 +94,12 @@ Settled (inPar bs k) = ⊥
 Settled finished = Unit {0}
 
 -- the name of a process of a part
-abbrev pub Own : Part → ℕ → Type 0
-Own a n = (a .bottom < spaceOf n) × (spaceOf n ≤ a .top)
+pub record Own (a : Part) (n : ℕ) : Type 0 where
+  pub above : a .bottom < spaceOf n
+  pub below : spaceOf n ≤ a .top
+
+pub own-name : (a : Part) (w : ℕ) → a .bottom < w → w ≤ a .top → Own a (nameOf w)
+own-name a w l h = record { above = rw (name-back w) l; below = rw (name-back w) h }
 
 module _ (S : Setting) (a : Part) where
   -- an ALT's code: from index i, at the workspace w, up to `over`

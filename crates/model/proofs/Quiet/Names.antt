@@ -1,7 +1,7 @@
 -- The name by which the queue and channels know a process: what a word that names a process holds.
-use Prim.Native.Nat.{ℕ, _≤_}
+use Prim.Native.Nat.{ℕ, _≤_, _<_}
 use native.Mathlib.Omega.{arith}
-use mathlib.Core.Path.{_≡_, refl}
+use mathlib.Core.Path.{_≡_, refl, sym, ap, _∙_}
 use mathlib.Core.Logic.{_≢_}
 use Rattle.model.specs.Word.{notProcess}
 use Rattle.model.specs.Limits.{wordLimit}
@@ -9,8 +9,19 @@ use Rattle.model.specs.Machine.{nameOf, spaceOf}
 
 -- there and back
 pub name-back : (w : ℕ) → spaceOf (nameOf w) ≡ w
+unfolding nameOf spaceOf
 name-back w = refl
+
+-- so names tell workspaces apart
+pub name-injective : (v w : ℕ) → nameOf v ≡ nameOf w → v ≡ w
+name-injective v w e = sym (name-back v) ∙ ap spaceOf e ∙ name-back w
 
 -- no process of a program is NotProcess
 pub name-given : (w : ℕ) → w ≤ wordLimit → nameOf w ≢ notProcess
+unfolding nameOf
 name-given w h e = absurd (omega arith)
+
+-- nor has NotProcess a workspace in memory
+pub none-high : wordLimit < spaceOf notProcess
+unfolding spaceOf
+none-high = omega arith

@@ -16,7 +16,7 @@ use Rattle.model.specs.Instruction as I
 use Rattle.model.specs.Scheme.{size, sizeEnable, sizeEnds, altWords, local, guardCode, code, codeAll}
 use Rattle.model.specs.Scheme.{codeStarts, codeEnds, codeEnable, codeDisable, codeBranches, inputSize, enableCode, disableCode}
 use Rattle.model.specs.Scheme.{guardInput}
-use Rattle.model.specs.Machine.{stateWord}
+use Rattle.model.specs.Machine.{stateWord, nameOf}
 use Rattle.model.specs.Occam.{Store, eval, Sender, Frame, Process, before, atAlt, begin, State}
 use Rattle.model.specs.Occam.{branchOf, Ready, by-input, by-skip, Choice, first-guard, later-guard}
 use Rattle.model.proofs.Quiet.Ways.{Regs, pushing, pointing, reversing, moving, Mem, Way, arrived, quiet}
@@ -83,7 +83,7 @@ noticed-unready {word} {μ} {w} (n-later u n) (r-first r) = unready word μ w u 
 noticed-unready (n-later u n) (r-later h) = noticed-unready n h
 
 pub noticed-marked : {st : State} {word : Site → ℕ} {μ : Mem} {w : ℕ} {gs : Guards} {c : Site} → Noticed st word μ w gs noGuard
-    → Guarded (st .store) c gs → μ (word c) ≡ w
+    → Guarded (st .store) c gs → μ (word c) ≡ nameOf w
 noticed-marked (n-later u n) (g-first e) = u e .0
 noticed-marked (n-later u n) (g-later h) = noticed-marked n h
 

@@ -11,7 +11,7 @@ use borrow.Author.Tests.{lt-ltb, le-ltb, le-leb, lt-leb}
 use Rattle.model.specs.Syntax.{Site, inputOf, outputOf, Guards}
 use Rattle.model.specs.Scheme.{sizeEnable}
 use Rattle.model.specs.Layout.{base, wordOf}
-use Rattle.model.specs.Machine.{World, isHeld, stateWord}
+use Rattle.model.specs.Machine.{World, isHeld, stateWord, nameOf}
 use Rattle.model.specs.Execute.{waiting, ready, noneSelected}
 use Rattle.model.specs.Occam.{Frame, Process, atInput, atOutput, atAlt, look, State, Sender, process, outside}
 use Rattle.model.specs.declared.Setup.{Setup}
@@ -42,14 +42,14 @@ module _ (L : Loaded) where
     holds-wait : {path : List ℕ} {gs : Guards} {k : List Frame} {b : Part} {i : Info} {hi at : ℕ} → LeafAt L st t path (atAlt gs k) b i
         → (Out path → ⊥) → member (i .w) ws ≡ false → (a : AltCode (S L) b gs (i .vars) (i .chans) k hi at (i .w + 1))
         → Resumes (S L) b i st μ (at + 2 + sizeEnable gs + 1) hi → μ (stateWord (i .w)) ≡ waiting → μ (i .w) ≡ noneSelected
-        → ((d : Site) → Guarded (st .store) d gs → μ (S L .word d) ≡ i .w) → (AnyReady st gs → ⊥)
-        → Marked (S L) b st (i .vars) (i .chans) gs μ (i .w) → μ (S L .word c) ≡ i .w → Guarded (st .store) c gs → List·Memᴰ c (b .inputs)
-        → Holder st μ t Out ws c
+        → ((d : Site) → Guarded (st .store) d gs → μ (S L .word d) ≡ nameOf (i .w)) → (AnyReady st gs → ⊥)
+        → Marked (S L) b st (i .vars) (i .chans) gs μ (i .w) → μ (S L .word c) ≡ nameOf (i .w) → Guarded (st .store) c gs
+        → List·Memᴰ c (b .inputs) → Holder st μ t Out ws c
     holds-woken : {path : List ℕ} {gs : Guards} {k : List Frame} {b : Part} {i : Info} {hi at : ℕ} → LeafAt L st t path (atAlt gs k) b i
         → (Out path → ⊥) → member (i .w) ws ≡ true → (a : AltCode (S L) b gs (i .vars) (i .chans) k hi at (i .w + 1))
         → Resumes (S L) b i st μ (at + 2 + sizeEnable gs + 1) hi → μ (stateWord (i .w)) ≡ ready
-        → Disabling (S L) b st (i .vars) (i .chans) k gs gs (a .choice) μ (i .w) → μ (S L .word c) ≡ i .w → Guarded (st .store) c gs
-        → List·Memᴰ c (b .inputs) → Holder st μ t Out ws c
+        → Disabling (S L) b st (i .vars) (i .chans) k gs gs (a .choice) μ (i .w) → μ (S L .word c) ≡ nameOf (i .w)
+        → Guarded (st .store) c gs → List·Memᴰ c (b .inputs) → Holder st μ t Out ws c
     -- one that is left out
     holds-out : {path : List ℕ} {q : Process} {b : Part} {i : Info} → LeafAt L st t path q b i → Out path → List·Memᴰ c (i .chans)
         → Own b (μ (S L .word c)) → Holder st μ t Out ws c
@@ -84,7 +84,7 @@ module _ (L : Loaded) where
       -- a process that sends is at the channel: its word holds its name
       pub data Sends (c : Site) : Type 0 where
         sends : {path : List ℕ} {v : ℕ} {k : List Frame} {b : Part} {i : Info} → LeafAt L st t path (atOutput c v k) b i → (Out path → ⊥)
-            → μ (S L .word c) ≡ i .w → List·Memᴰ c (b .outputs) → List·Memᴰ c (i .chans) → Sends c
+            → μ (S L .word c) ≡ nameOf (i .w) → List·Memᴰ c (b .outputs) → List·Memᴰ c (i .chans) → Sends c
 
       sends-held : {path : List ℕ} {c : Site} {v : ℕ} {k : List Frame} {b : Part} {i : Info} {f : Bool}
           → LeafAt L st t path (atOutput c v k) b i → (Out path → ⊥) → Held (S L) b i st μ f (atOutput c v k) → Sends c

@@ -14,7 +14,7 @@ use Rattle.model.specs.Instruction.{ldc, Instruction, distance, operatio
 use Rattle.model.specs.Instruction as I
 use Rattle.model.specs.Code.{functionIn, operandIn}
 use Rattle.model.specs.Scheme.{sizeEnable, codeDisable}
-use Rattle.model.specs.Machine.{World, withCpu, withMemory, stack, goto, isHeld, stateWord}
+use Rattle.model.specs.Machine.{World, withCpu, withMemory, stack, goto, isHeld, stateWord, nameOf}
 use Rattle.model.specs.Execute.{ready, noneSelected}
 use Rattle.model.specs.Occam.{Store, eval, isTrue, Frame, Process, before, atAlt, framesOf, begin, State, Sender, Ready, by-input}
 use Rattle.model.specs.Occam.{by-skip, chooses}
@@ -251,7 +251,7 @@ module _ (L : Loaded) {s : World} {st : State} {μ : Mem} {t : Tree (S L) (root 
 
       -- a sender, and no held offer
       module _ (held : isHeld (S L .word y) (s .machine) ≡ false) where
-        disc-sent : μ (S L .word y) ≢ notProcess → μ (S L .word y) ≢ space s → (Own b (μ (S L .word y)) → ⊥) → Sender st y
+        disc-sent : μ (S L .word y) ≢ notProcess → μ (S L .word y) ≢ nameOf (space s) → (Own b (μ (S L .word y)) → ⊥) → Sender st y
             → Dec (μ (space s) ≡ noneSelected) → Goal (operation I.disc)
         unfolding functionIn operandIn
         disc-sent some-name not-w no-own sd (yes f) =

@@ -16,12 +16,13 @@ use Rattle.model.specs.Instruction.{Instruction, operation}
 use Rattle.model.specs.Instruction as I
 use Rattle.model.specs.Code.{functionIn, operandIn}
 use Rattle.model.specs.Scheme.{sizeEnable, codeEnable}
-use Rattle.model.specs.Machine.{World, withCpu, withMemory, stack, resumeWord, stateWord, isHeld}
+use Rattle.model.specs.Machine.{World, withCpu, withMemory, stack, resumeWord, stateWord, isHeld, nameOf}
 use Rattle.model.specs.Execute.{enabling, waiting, ready, noneSelected}
 use Rattle.model.specs.Occam.{Store, eval, isTrue, Frame, Process, before, atAlt, look, State, Sender, process, outside}
 use Rattle.model.specs.Occam.{by-input, by-skip, Step, begins, go}
 use Rattle.model.specs.Demand.{step}
 use Rattle.model.proofs.Cases.{never}
+use Rattle.model.proofs.Quiet.Names.{name-given}
 use Rattle.model.proofs.Quiet.Ways.{upd-same, upd-other, upd, regsOf, Mem}
 use Rattle.model.proofs.Quiet.Stretches.{Seg}
 use Rattle.model.proofs.Quiet.Setting.{whole}
@@ -29,7 +30,7 @@ use Rattle.model.proofs.Quiet.CodeParts.{rises-le}
 use Rattle.model.proofs.Occam.Paths.{l-alt, same-path}
 use Rattle.model.proofs.Words.Parts.{Part, FineGuards}
 use Rattle.model.proofs.Quiet.Continuations.{Placed, placed-down, cont-placed, cont-low}
-use Rattle.model.proofs.Quiet.Marks.{Own, AnyReady, r-first, Rest as RestOf, rest-all, Unready, Noticed, n-none, n-later}
+use Rattle.model.proofs.Quiet.Marks.{Own, AnyReady, r-first, Rest as RestOf, rest-all, Unready, Noticed, n-none, n-later, own-name}
 use Rattle.model.proofs.Quiet.Marks.{Guarded}
 use Rattle.model.proofs.Quiet.Marks.{g-first, AltCode, Marked, Enabling, Disabling}
 use Rattle.model.proofs.Quiet.Onwards.{AltGoes, alt-goes, rest-past, rest-ready, rest-guarded, rest-fine, noticed-past}
@@ -50,6 +51,7 @@ use Rattle.model.proofs.Invariant.Running.{Only, fresh, now-alt, runs, 
 use Rattle.model.proofs.Invariant.Moving.{relaid, same-leaf}
 use Rattle.model.proofs.Invariant.Reals.{size-is, mirrored, real-cpu, real-state, real-stored, link-own, link-chan}
 use Rattle.model.proofs.Invariant.Finish.{alt-goes-on, silent}
+use Rattle.model.proofs.Steps.Meets.{not-own}
 use Rattle.model.proofs.Steps.Advance.{Silent, leaves-as}
 use Rattle.model.proofs.Steps.Channels.{Holder, holds-input, holds-output, holds-wait, holds-woken, holds-out, holder, Sends, sends}
 use Rattle.model.proofs.Steps.Channels.{sender-at, HeldAt, held-at, not-held, held-here}
@@ -73,15 +75,17 @@ pub offer-sends : {st : State} {y : Site} {n v : ℕ} → y ≡ inputOf n → st
 offer-sends {st} e o = subst (Sender st) (sym e) (outside o)
 
 -- guards stay noticed where their marks stay
-unready-more : (st : State) (word : Site → ℕ) (μ ν : Mem) {w : ℕ} → ((d : Site) → μ (word d) ≡ w → ν (word d) ≡ w) → (g : Guard)
+unready-more : (st : State) (word : Site → ℕ) (μ ν : Mem) (w : ℕ) → ((d : Site) → μ (word d) ≡ nameOf w → ν (word d) ≡ nameOf w)
+    → (g : Guard)
     → Unready st word μ w g → Unready st word ν w g
-unready-more st word μ ν f (inputGuard e c x) u = λ z. (f c (u z .0), u z .1)
-unready-more st word μ ν f (skipGuard e) u = u
+unready-more st word μ ν w f (inputGuard e c x) u = λ z. (f c (u z .0), u z .1)
+unready-more st word μ ν w f (skipGuard e) u = u
 
-noticed-more : {st : State} (word : Site → ℕ) (μ ν : Mem) {w : ℕ} {gs hs : Guards} → ((d : Site) → μ (word d) ≡ w → ν (word d) ≡ w)
+noticed-more : {st : State} (word : Site → ℕ) (μ ν : Mem) (w : ℕ) {gs hs : Guards}
+    → ((d : Site) → μ (word d) ≡ nameOf w → ν (word d) ≡ nameOf w)
     → Noticed st word μ w gs hs → Noticed st word ν w gs hs
-noticed-more word μ ν f n-none = n-none
-noticed-more {st} word μ ν f (n-later {g} u n) = n-later (unready-more st word μ ν f g u) (noticed-more word μ ν f n)
+noticed-more word μ ν w f n-none = n-none
+noticed-more {st} word μ ν w f (n-later {g} u n) = n-later (unready-more st word μ ν w f g u) (noticed-more word μ ν w f n)
 
 -- the workspace of the process that has the processor
 abbrev pub space : World → ℕ
@@ -104,11 +108,11 @@ module _ (L : Loaded) {s : World} {st : State} {μ : Mem} {t : Tree (S L) (root 
   pub top-small : b .top ≤ wordLimit
   top-small = omega (arith, part-small L (A .leaf), S L .top-small)
 
-  pub w-own : Own b w
-  w-own = (omega (arith, w-room), omega (arith, w-under))
+  pub w-own : Own b (nameOf w)
+  w-own = own-name b w (omega (arith, w-room)) (omega (arith, w-under))
 
-  pub w-some : w ≢ notProcess
-  w-some e = omega (arith, w-under, top-small)
+  pub w-some : nameOf w ≢ notProcess
+  w-some = name-given w (omega (arith, w-under, top-small))
 
   -- such a word
   abbrev pub Mine : ℕ → Type 0
@@ -162,17 +166,19 @@ module _ (L : Loaded) {s : World} {st : State} {μ : Mem} {t : Tree (S L) (root 
   -- names: none is NotProcess, and none of another process is w
   strange-none : {other : List ℕ} {r : Process} {d : Part} {j : Info} → LeafAt L st t other r d j → {v : ℕ} → v ≡ notProcess → Own d v
       → ⊥
-  strange-none l e o = omega (arith, part-small L l, S L .top-small, o .1)
+  strange-none {d = d} l e o = not-own d (omega (arith, part-small L l, S L .top-small)) (subst (Own d) e o)
 
   pub none-own : {v : ℕ} → v ≡ notProcess → Own b v → ⊥
   none-own e o = strange-none (A .leaf) e o
 
-  strange-w : {other : List ℕ} {r : Process} {d : Part} {j : Info} → LeafAt L st t other r d j → (Only path other → ⊥) → {v : ℕ} → v ≡ w
-      → Own d v → ⊥
+  strange-w : {other : List ℕ} {r : Process} {d : Part} {j : Info} → LeafAt L st t other r d j → (Only path other → ⊥) → {v : ℕ}
+      → v ≡ nameOf w → Own d v → ⊥
   strange-w {d = d} l n e o = own-one L (apart-parts L (A .leaf) l n) w-own (subst (Own d) e o)
 
-  named-own : {other : List ℕ} {r : Process} {d : Part} {j : Info} → LeafAt L st t other r d j → {v : ℕ} → v ≡ j .w → Own d v
-  named-own l e = let p = sits-at L l .placed in (omega (arith, p .room), omega (arith, p .low))
+  named-own : {other : List ℕ} {r : Process} {d : Part} {j : Info} → LeafAt L st t other r d j → {v : ℕ} → v ≡ nameOf (j .w)
+      → Own d v
+  named-own {d = d} {j} l e =
+      let p = sits-at L l .placed in subst (Own d) (sym e) (own-name d (j .w) (omega (arith, p .room)) (p .low))
 
   -- a number that is no other process's name
   abbrev pub Free : ℕ → Type 0
@@ -181,7 +187,7 @@ module _ (L : Loaded) {s : World} {st : State} {μ : Mem} {t : Tree (S L) (root 
   pub free-none : {v : ℕ} → v ≡ notProcess → Free v
   free-none e other r d j l n o = strange-none l e o
 
-  pub free-w : {v : ℕ} → v ≡ w → Free v
+  pub free-w : {v : ℕ} → v ≡ nameOf w → Free v
   free-w e other r d j l n o = strange-w l n e o
 
   -- memories that the machine may have now
@@ -202,7 +208,8 @@ module _ (L : Loaded) {s : World} {st : State} {μ : Mem} {t : Tree (S L) (root 
       }
 
   -- a channel's word is written: it gets the mark, or is empty
-  pub chan-write : {l : List ℕ} {ν : Mem} (y : Site) (z : ℕ) → List·Memᴰ y (i .chans) → Free (ν (S L .word y)) → (z ≡ notProcess) ⊎ (z ≡ w)
+  pub chan-write : {l : List ℕ} {ν : Mem} (y : Site) (z : ℕ) → List·Memᴰ y (i .chans) → Free (ν (S L .word y))
+      → (z ≡ notProcess) ⊎ (z ≡ nameOf w)
       → Shows l ν → Shows (set l (S L .word y) z) (upd ν (S L .word y) z)
   chan-write y z mine old new m =
       record {
@@ -231,7 +238,7 @@ module _ (L : Loaded) {s : World} {st : State} {μ : Mem} {t : Tree (S L) (root 
     own-noticed n = noticed-stays (S L) b i (omega (arith, top-small)) (sits-at L (A .leaf)) own-intact (w + 1) w-own (c .fine .1) n
 
     pub own-marked : Marked (S L) b st (i .vars) (i .chans) gs ν w → Marked (S L) b st (i .vars) (i .chans) gs (upd ν v z) w
-    own-marked n = marked-stays (S L) b i (omega (arith, top-small)) (sits-at L (A .leaf)) own-intact (w + 1) (c .fine .1) n
+    own-marked n = marked-stays (S L) b i (omega (arith, top-small)) (sits-at L (A .leaf)) own-intact (w + 1) w (c .fine .1) n
 
   -- the process goes on inside the ALT, with another stack and another memory
   pub onward : {x : Instruction} (f g h : ℕ) {l : List ℕ} {ν : Mem} → Executes L x s (withCpu (stack f g h (cpuOf s)) (withMemory l s))
@@ -249,12 +256,12 @@ module _ (L : Loaded) {s : World} {st : State} {μ : Mem} {t : Tree (S L) (root 
   -- what a channel's word holds: nothing, the ALT's own mark, or the name of a sender
   pub data ChannelIs (y : Site) : Type 0 where
     is-empty : μ (S L .word y) ≡ notProcess → ChannelIs y
-    is-ours : μ (S L .word y) ≡ w → ChannelIs y
-    is-sent : μ (S L .word y) ≢ notProcess → μ (S L .word y) ≢ w → (Own b (μ (S L .word y)) → ⊥) → Sender st y
+    is-ours : μ (S L .word y) ≡ nameOf w → ChannelIs y
+    is-sent : μ (S L .word y) ≢ notProcess → μ (S L .word y) ≢ nameOf w → (Own b (μ (S L .word y)) → ⊥) → Sender st y
         → List·Memᴰ y (root L .outputs) → ChannelIs y
 
   module _ (y : Site) (mine : List·Memᴰ y (i .chans)) (inputs : List·Memᴰ y (b .inputs)) where
-    by-holder : (Own b (μ (S L .word y)) → μ (S L .word y) ≡ w) → Holder L st μ t (Only path) ws y → ChannelIs y
+    by-holder : (Own b (μ (S L .word y)) → μ (S L .word y) ≡ nameOf w) → Holder L st μ t (Only path) ws y → ChannelIs y
     by-holder marks (holds-input l n e wt x inp free) = absurd (apart-parts L (A .leaf) l n .inputs y inputs inp)
     by-holder marks (holds-output {path = other} {b = d} l n e wt out m v z) =
         let theirs = named-own l (wt .here) in
@@ -265,13 +272,13 @@ module _ (L : Loaded) {s : World} {st : State} {μ : Mem} {t : Tree (S L) (root 
     by-holder marks (holds-out l o m own) =
         is-ours (marks (same-leaf L (λ r d (j : Info). Own d (μ (S L .word y))) (sym o) l (A .leaf) own))
 
-    pub channel-is : (Own b (μ (S L .word y)) → μ (S L .word y) ≡ w) → ChannelIs y
+    pub channel-is : (Own b (μ (S L .word y)) → μ (S L .word y) ≡ nameOf w) → ChannelIs y
     channel-is marks =
         ⊎-elim (λ e. is-empty e) (λ o. by-holder marks (holder L (A .rest) (λ other. same-path path other) o refl))
         (A .rest .chans (node L (A .leaf)) y mine)
 
     -- nobody sends on a channel that no sender is at and no offer is held for
-    pub unsent : Silent q → ((n : ℕ) → y ≡ inputOf n → st .offers n ≡ none) → (μ (S L .word y) ≡ notProcess) ⊎ (μ (S L .word y) ≡ w)
+    pub unsent : Silent q → ((n : ℕ) → y ≡ inputOf n → st .offers n ≡ none) → (μ (S L .word y) ≡ notProcess) ⊎ (μ (S L .word y) ≡ nameOf w)
         → Sender st y → ⊥
     unsent silently no-offer here sd =
         ⊎-elim at-word (λ f. let (n, v, e, o) = f in never (cc (no-offer n e, o)))
@@ -365,7 +372,7 @@ module _ (L : Loaded) {s : World} {st : State} {μ : Mem} {t : Tree (S L) (root 
 
     -- nothing changes
     passes : Executes L (operation I.enbc) s (enabled s)
-        → (isTrue (st .store) e ≡ true → (μ (S L .word y) ≡ space s) × (Sender st y → ⊥)) → Goal (operation I.enbc)
+        → (isTrue (st .store) e ≡ true → (μ (S L .word y) ≡ nameOf (space s)) × (Sender st y → ⊥)) → Goal (operation I.enbc)
     passes ran f =
         enables-on hs near code (cpuOf s .a) (cpuOf s .c) (cpuOf s .c) ran (shown L A c)
         (record {
@@ -389,42 +396,45 @@ module _ (L : Loaded) {s : World} {st : State} {μ : Mem} {t : Tree (S L) (root 
     module _ (a : cpuOf s .a ≢ 0) (free : isHeld (S L .word y) (s .machine) ≡ false)
         (no-offer : (m : ℕ) → y ≡ inputOf m → st .offers m ≡ none) where
       abbrev marked : Mem
-      marked = upd μ (S L .word y) (space s)
+      marked = upd μ (S L .word y) (nameOf (space s))
 
       -- the marks that are there stay, and the new one is this guard's
-      mark-here : (d : Site) → S L .word d ≡ S L .word y → marked (S L .word d) ≡ space s
-      mark-here d h = ap marked h ∙ upd-same μ (S L .word y) (space s)
+      mark-here : (d : Site) → S L .word d ≡ S L .word y → marked (S L .word d) ≡ nameOf (space s)
+      mark-here d h = ap marked h ∙ upd-same μ (S L .word y) (nameOf (space s))
 
-      mark-stays : (d : Site) → μ (S L .word d) ≡ space s → marked (S L .word d) ≡ space s
+      mark-stays : (d : Site) → μ (S L .word d) ≡ nameOf (space s) → marked (S L .word d) ≡ nameOf (space s)
       mark-stays d f = by (ℕ-discrete (S L .word d) (S L .word y))
         where
-          by : Dec (S L .word d ≡ S L .word y) → marked (S L .word d) ≡ space s
+          by : Dec (S L .word d ≡ S L .word y) → marked (S L .word d) ≡ nameOf (space s)
           by (yes h) = mark-here d h
-          by (no h) = upd-other μ (S L .word y) (space s) (S L .word d) h ∙ f
+          by (no h) = upd-other μ (S L .word y) (nameOf (space s)) (S L .word d) h ∙ f
 
       new-marks : Marks marked
       new-marks d m o = by (ℕ-discrete (S L .word d) (S L .word y))
         where
-          by : Dec (S L .word d ≡ S L .word y) → (marked (S L .word d) ≡ space s) × Guarded (st .store) d gs
+          by : Dec (S L .word d ≡ S L .word y) → (marked (S L .word d) ≡ nameOf (space s)) × Guarded (st .store) d gs
           by (yes h) =
               let same : d ≡ y = placed L A c .scoped .chans-distinct d y m mine h in
               let it : Guarded (st .store) y gs = rest-guarded (n .rest .1) (g-first (true-when (st .store) e (cpuOf s .a) val a)) in
               (mark-here d h, subst (λ v. Guarded (st .store) v gs) (sym same) it)
           by (no h) =
-              let old = upd-other μ (S L .word y) (space s) (S L .word d) h in
+              let old = upd-other μ (S L .word y) (nameOf (space s)) (S L .word d) h in
               let (f, it) = n .marks d m (subst (Own b) old o) in
               (old ∙ f, it)
 
       marks-it : μ (S L .word y) ≡ notProcess → Enabled hs marked
       marks-it f =
-          let off = upd-other μ (S L .word y) (space s) state-word (λ h. chan-off L A c (state-mine L A c) y mine (sym h)) in
-          let it : (marked (S L .word y) ≡ space s) × (Sender st y → ⊥) =
-          (upd-same μ (S L .word y) (space s), unsent L A c y mine inputs before-silent no-offer (inl f)) in
+          let off = upd-other μ (S L .word y) (nameOf (space s)) state-word (λ h. chan-off L A c (state-mine L A c) y mine (sym h)) in
+          let it : (marked (S L .word y) ≡ nameOf (space s)) × (Sender st y → ⊥) =
+          (upd-same μ (S L .word y) (nameOf (space s)), unsent L A c y mine inputs before-silent no-offer (inl f)) in
           record {
             rest = past;
             marks = new-marks;
             state = ⊎-elim
-                (λ m. inl (off ∙ m .0, noticed-past (inputGuard e y z) (noticed-more (S L .word) μ marked mark-stays (m .1)) (λ h. it)))
+                (λ m. inl (
+                  off ∙ m .0,
+                  noticed-past (inputGuard e y z) (noticed-more (S L .word) μ marked (space s) mark-stays (m .1)) (λ h. it),
+                ))
                 (λ m. inr (off ∙ m .0, m .1)) (n .state);
           }
 
@@ -435,7 +445,7 @@ module _ (L : Loaded) {s : World} {st : State} {μ : Mem} {t : Tree (S L) (root 
           enables-on hs near code (cpuOf s .a) (cpuOf s .c) (cpuOf s .c)
           (executes
           (exec-enbc-empty (S L .word y) (space s) s a chan refl free (chan-size L A c y mine) (chan-holds L A c y mine f)))
-          (chan-write L A c y (space s) mine (free-none L A c f) (inr refl) (shown L A c)) (marks-it f)
+          (chan-write L A c y (nameOf (space s)) mine (free-none L A c f) (inr refl) (shown L A c)) (marks-it f)
       enbc-free (is-ours f) =
           passes
           (executes
@@ -529,7 +539,7 @@ module _ (L : Loaded) {s : World} {st : State} {μ : Mem} {t : Tree (S L) (root 
   high = omega (arith, top-small L A c)
 
   marks-there : (ν : Mem) → Marks ν → Marked (S L) b then-at (i .vars) (i .chans) gs ν (space s)
-  marks-there ν m = marked-stays (S L) b i high (sits-at L (A .leaf)) (intact-there ν) (space s + 1) (c .fine .1) m
+  marks-there ν m = marked-stays (S L) b i high (sits-at L (A .leaf)) (intact-there ν) (space s + 1) (space s) (c .fine .1) m
 
   module _ (here : at ≡ i₀ + 2 + sizeEnable gs) (marks : Marks μ) where
     -- the bytes that are left reach as far as is needed

@@ -17,12 +17,13 @@ use Rattle.model.specs.Instruction.{operation}
 use Rattle.model.specs.Instruction as I
 use Rattle.model.specs.Code.{functionIn, operandIn}
 use Rattle.model.specs.Layout.{base}
-use Rattle.model.specs.Machine.{World, isHeld, resumeWord, stateWord}
+use Rattle.model.specs.Machine.{World, isHeld, resumeWord, stateWord, nameOf}
 use Rattle.model.specs.Occam.{store, Frame, before, atInput, atOutput, resume, go, look, put, State}
 use Rattle.model.specs.Occam.{over-channel, Sender, process, outside, Step, begins, communicates, receives}
 use Rattle.model.specs.Demand.{step, talkOf}
 use Rattle.model.specs.declared.Setup.{Setup}
 use Rattle.model.proofs.Cases.{never, by-bool}
+use Rattle.model.proofs.Quiet.Names.{name-given}
 use Rattle.model.proofs.Quiet.Ways.{upd-same, upd-other, upd, Mem}
 use Rattle.model.proofs.Quiet.Setting.{whole}
 use Rattle.model.proofs.Quiet.CodeParts.{inside}
@@ -31,7 +32,7 @@ use Rattle.model.proofs.Occam.Paths.{put-put-same}
 use Rattle.model.proofs.Occam.Paths.{Apart, apart-sym as path-apart-sym, leaves-apart, look-put-other, put-put-apart}
 use Rattle.model.proofs.Words.Parts.{Part, Fine}
 use Rattle.model.proofs.Quiet.Continuations.{Placed, Cont, cont-placed}
-use Rattle.model.proofs.Quiet.Marks.{Own}
+use Rattle.model.proofs.Quiet.Marks.{Own, own-name}
 use Rattle.model.proofs.Quiet.Arrivals.{arrives}
 use Rattle.model.proofs.Invariant.Trees.{Info, Sits, Tree, bytesLeft}
 use Rattle.model.proofs.Invariant.Leaves.{member, Unmarked, Waits, h-input}
@@ -192,11 +193,11 @@ module _ (L : Loaded) {s : World} {st : State} {μ : Mem} {t : Tree (S L) (root 
   -- nobody sends: it waits
   module _ (no-offer-held : isHeld (S L .word c) (s .machine) ≡ false) (nothing : (n : ℕ) → c ≡ inputOf n → st .offers n ≡ none)
       (empty : μ (S L .word c) ≡ notProcess) where
-    own-w : Own b w
-    own-w = (omega (arith, placed .room), placed .low)
+    own-w : Own b (nameOf w)
+    own-w = own-name b w (omega (arith, placed .room)) (placed .low)
 
     abbrev ν₁ : Mem
-    ν₁ = upd μ (S L .word c) w
+    ν₁ = upd μ (S L .word c) (nameOf w)
 
     abbrev ν₂ : Mem
     ν₂ = upd ν₁ (resumeWord w) (cpuOf s .place)
@@ -218,13 +219,13 @@ module _ (L : Loaded) {s : World} {st : State} {μ : Mem} {t : Tree (S L) (root 
     rest₃ =
         rest-below L (A .leaf) refl placed (stateWord w) (S L .word x) (s-low .0) (s-low .1)
         (rest-below L (A .leaf) refl placed (resumeWord w) (cpuOf s .place) (r-low .0) (r-low .1)
-        (mark-chan L (A .leaf) refl (A .rest) c (f .2) w own-w empty))
+        (mark-chan L (A .leaf) refl (A .rest) c (f .2) (nameOf w) own-w empty))
 
     real₃ : Real L (parked (S L .word c) w (cpuOf s .place) (S L .word x) s) st ν₃ ws
     real₃ =
         real-below L (A .leaf) refl placed (stateWord w) (S L .word x) (s-low .0) (s-low .1) (A .lined)
         (real-below L (A .leaf) refl placed (resumeWord w) (cpuOf s .place) (r-low .0) (r-low .1) (A .lined)
-        (real-stored L (S L .word c) w c-in (link-chan L (A .lined) (A .leaf) refl c (f .2)) (A .real)))
+        (real-stored L (S L .word c) (nameOf w) c-in (link-chan L (A .lined) (A .leaf) refl c (f .2)) (A .real)))
 
     -- the channels' words
     chan-now : (d : Site) → List·Memᴰ d (i .chans) → ν₃ (S L .word d) ≡ ν₁ (S L .word d)
@@ -239,15 +240,15 @@ module _ (L : Loaded) {s : World} {st : State} {μ : Mem} {t : Tree (S L) (root 
       where
         by : Dec (S L .word d ≡ S L .word c) → d ≡ c
         by (yes e) = placed .scoped .chans-distinct d c m (f .2) e
-        by (no e) = absurd (clean d m (subst (Own b) (chan-now d m ∙ upd-other μ (S L .word c) w (S L .word d) e) o))
+        by (no e) = absurd (clean d m (subst (Own b) (chan-now d m ∙ upd-other μ (S L .word c) (nameOf w) (S L .word d) e) o))
 
     nobody : Sender st c → ⊥
     nobody g = ⊎-elim (λ z. by z) (λ z. let (n, v, e, o) = z in never (cc (o, nothing n e)))
         (sender-at L (A .rest) c (λ p v l e q. never (cc (sym (A .leaf .found), ap (λ y. look y (st .process)) q, e))) g)
       where
         by : Sends L (A .rest) c → ⊥
-        by (sends k n e out m) =
-            let p = sits-at L k .placed in absurd (omega (arith, e, empty, p .low, part-small L k, small-size L))
+        by (sends {i = j} k n e out m) =
+            let p = sits-at L k .placed in name-given (j .w) (omega (arith, p .low, part-small L k, small-size L)) (sym e ∙ empty)
 
     pub did-wait : Did L (Executes L (operation I.«in») s) s st (bytesLeft (S L) t)
     unfolding functionIn operandIn
@@ -268,7 +269,7 @@ module _ (L : Loaded) {s : World} {st : State} {μ : Mem} {t : Tree (S L) (root 
             soon = near-on;
           };
           space = f .0;
-          here = chan-now c (f .2) ∙ upd-same μ (S L .word c) w;
+          here = chan-now c (f .2) ∙ upd-same μ (S L .word c) (nameOf w);
           only = only;
           message-at = upd-same ν₂ (stateWord w) (S L .word x);
         }) (f .1) (f .3) (λ g. nobody (sender-before L (A .leaf) (atInput c x k) l-input j sits-j c (λ v l e. never (cc)) g)))
@@ -299,7 +300,7 @@ module _ (L : Loaded) {s : World} {st : State} {μ : Mem} {t : Tree (S L) (root 
     own-sender =
         let p = sits-at L sender .placed in
         subst (Own d) (sym (upd-other μ (S L .word x) v (S L .word c) (λ e. x-not-c (sym e)) ∙ waits .here))
-        (omega (arith, p .room), p .low)
+        (own-name d (j .w) (omega (arith, p .room)) (p .low))
 
     rest₂ : Rest L st₂ η t (Both path other) ws
     rest₂ =
@@ -397,7 +398,8 @@ module _ (L : Loaded) {s : World} {st : State} {μ : Mem} {t : Tree (S L) (root 
         let not-c : S L .word c ≢ S L .word x = λ e. x-not-c (sym e) in
         executes
         (exec-in-sender (S L .word c) (S L .word x) (j .w) (j .w) v s ea eb ec free (rw (size-is L (A .real)) c-in)
-        (mirrored L (A .real) (S L .word c) c-in (waits .here)) (λ e. absurd (omega (arith, p .low, part-small L sender, small-size L, e)))
+        (mirrored L (A .real) (S L .word c) c-in (waits .here))
+        (name-given (j .w) (omega (arith, p .low, part-small L sender, small-size L)))
         (rw (size-is L (A .real)) small-j) (mirrored L (A .real) (stateWord (j .w)) small-j (waits .message-at))
         (rw (size-is L (A .real)) (omega (arith, low, part-small L sender)))
         (mirrored L (A .real) (j .w) (omega (arith, low, part-small L sender)) holds) (rw (size-is L (A .real)) x-in)

@@ -11,6 +11,7 @@ use Rattle.model.specs.Syntax.{Site}
 use Rattle.model.specs.Machine.{World, resumeWord}
 use Rattle.model.specs.Occam.{Frame, Process, atOutput, framesOf, put, resume, State}
 use Rattle.model.specs.Demand.{liveIn}
+use Rattle.model.proofs.Quiet.Names.{none-high}
 use Rattle.model.proofs.Quiet.Ways.{upd-other, upd, Mem}
 use Rattle.model.proofs.Quiet.Setting.{Setting}
 use Rattle.model.proofs.Occam.Paths.{leaf-resume, live-resume, silent-resume}
@@ -35,7 +36,7 @@ Both path other here = (path ≡ here) ⊎ (other ≡ here)
 
 -- NotProcess is no workspace
 pub not-own : (b : Part) → b .top ≤ wordLimit → Own b notProcess → ⊥
-not-own b h o = absurd (omega (arith, o .1))
+not-own b h o = absurd (omega (arith, o .below, none-high))
 
 -- a process that waited goes on, once its channel's word is another
 pub resumed : (S : Setting) (b : Part) (i : Info) {st st′ : State} {μ ν : Mem} {c : Site} {k : List Frame} {at hi m : ℕ}

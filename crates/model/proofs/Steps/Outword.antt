@@ -13,11 +13,12 @@ use Rattle.model.specs.Syntax.{Site, Expr, Guard, Guards, output}
 use Rattle.model.specs.Instruction.{plain, operation}
 use Rattle.model.specs.Instruction as I
 use Rattle.model.specs.Code.{functionIn, operandIn}
-use Rattle.model.specs.Machine.{World, release, _>>_, resumeWord, stateWord}
+use Rattle.model.specs.Machine.{World, release, _>>_, resumeWord, stateWord, nameOf}
 use Rattle.model.specs.Occam.{eval, isTrue, store, Frame, Process, before, atInput, atOutput, atAlt, resume, go, put, State}
 use Rattle.model.specs.Occam.{over-channel, Sender, process, Ready, by-input, by-skip, Step, begins, communicates}
 use Rattle.model.specs.Demand.{step}
 use Rattle.model.proofs.Cases.{never}
+use Rattle.model.proofs.Quiet.Names.{name-given}
 use Rattle.model.proofs.Quiet.Ways.{upd-same, upd-other, upd, Mem}
 use Rattle.model.proofs.Quiet.Setting.{whole, At}
 use Rattle.model.proofs.Quiet.CodeParts.{inside, up}
@@ -27,6 +28,7 @@ use Rattle.model.proofs.Occam.Paths.{Apart, apart-sym as path-apart-sym
 use Rattle.model.proofs.Words.Parts.{Part, Target, Fine}
 use Rattle.model.proofs.Quiet.Continuations.{Placed, Cont, c-up, cont-low, cont-placed}
 use Rattle.model.proofs.Quiet.Marks.{Own, AnyReady, r-first, r-later, Picks, p-first, p-later, Guarded, AltCode, Marked, Disabling}
+use Rattle.model.proofs.Quiet.Marks.{own-name}
 use Rattle.model.proofs.Quiet.Arrivals.{arrives}
 use Rattle.model.proofs.Invariant.Trees.{alone, Info, Sits, Tree, bytesLeft}
 use Rattle.model.proofs.Invariant.Leaves.{member, Unmarked, Resumes, Waits, Held, h-output, h-woken}
@@ -130,8 +132,8 @@ module _ (L : Loaded) {s : World} {st : State} {μ : Mem} {t : Tree (S L) (root 
   r-not-s : resumeWord w ≢ stateWord w
   r-not-s q = absurd (omega (arith, space, placed .low, high))
 
-  own-w : Own b w
-  own-w = (omega (arith, placed .room), placed .low)
+  own-w : Own b (nameOf w)
+  own-w = own-name b w (omega (arith, placed .room)) (placed .low)
 
   c-not-w : S L .word c ≢ w
   c-not-w = chan-above L above w (w-low .1) c (f .2)
@@ -149,7 +151,7 @@ module _ (L : Loaded) {s : World} {st : State} {μ : Mem} {t : Tree (S L) (root 
   ν₀ = upd μ w z
 
   abbrev ν₁ : Mem
-  ν₁ = upd ν₀ (S L .word c) w
+  ν₁ = upd ν₀ (S L .word c) (nameOf w)
 
   abbrev ν₂ : Mem
   ν₂ = upd ν₁ (resumeWord w) (cpuOf s .place)
@@ -167,7 +169,7 @@ module _ (L : Loaded) {s : World} {st : State} {μ : Mem} {t : Tree (S L) (root 
   parked-real =
       real-below L (A .leaf) refl placed (stateWord w) w (s-low .0) (s-low .1) (A .lined)
       (real-below L (A .leaf) refl placed (resumeWord w) (cpuOf s .place) (r-low .0) (r-low .1) (A .lined)
-      (real-stored L (S L .word c) w c-in (link-chan L (A .lined) (A .leaf) refl c (f .2))
+      (real-stored L (S L .word c) (nameOf w) c-in (link-chan L (A .lined) (A .leaf) refl c (f .2))
       (real-below L (A .leaf) refl above w z (w-low .0) (w-low .1) (A .lined) (A .real))))
 
   -- the channels' words
@@ -182,7 +184,7 @@ module _ (L : Loaded) {s : World} {st : State} {μ : Mem} {t : Tree (S L) (root 
       by : Dec (S L .word d ≡ S L .word c) → d ≡ c
       by (yes q) = placed .scoped .chans-distinct d c m (f .2) q
       by (no q) =
-          absurd (clean d m (subst (Own b) (chan-now d m ∙ upd-other ν₀ (S L .word c) w (S L .word d) q
+          absurd (clean d m (subst (Own b) (chan-now d m ∙ upd-other ν₀ (S L .word c) (nameOf w) (S L .word d) q
           ∙ upd-other μ w z (S L .word d) (chan-above L above w (w-low .1) d m)) o))
 
   abbrev waiting-info : Info
@@ -206,13 +208,13 @@ module _ (L : Loaded) {s : World} {st : State} {μ : Mem} {t : Tree (S L) (root 
           soon = near-on;
         };
         space = space;
-        here = chans c (f .2) ∙ chan-now c (f .2) ∙ upd-same ν₀ (S L .word c) w;
+        here = chans c (f .2) ∙ chan-now c (f .2) ∙ upd-same ν₀ (S L .word c) (nameOf w);
         only = λ d m o. only d m (subst (Own b) (chans d m) o);
         message-at = own (stateWord w) (s-low .0) (omega (arith, s-low .1, placed .low)) ∙ upd-same ν₂ (stateWord w) w;
       }) (f .3) (omega (arith, above .low))
       (own w (w-low .0) (omega (arith, above .low)) ∙ upd-other ν₂ (stateWord w) w w (λ q. absurd (omega (arith, s-low .1)))
       ∙ upd-other ν₁ (resumeWord w) (cpuOf s .place) w (λ q. absurd (omega (arith, r-low .1)))
-      ∙ upd-other ν₀ (S L .word c) w w (λ q. c-not-w (sym q)) ∙ upd-same μ w z) small
+      ∙ upd-other ν₀ (S L .word c) (nameOf w) w (λ q. c-not-w (sym q)) ∙ upd-same μ w z) small
 
   -- nobody is there: it waits
   pub did-wait : μ (S L .word c) ≡ notProcess → Did L (Executes L (operation I.outword) s) s st (bytesLeft (S L) t)
@@ -220,13 +222,13 @@ module _ (L : Loaded) {s : World} {st : State} {μ : Mem} {t : Tree (S L) (root 
   did-wait empty =
       let old : ν₀ (S L .word c) ≡ notProcess = upd-other μ w z (S L .word c) c-not-w ∙ empty in
       let rest = parks refl
-      (mark-chan L (A .leaf) refl (rest-below L (A .leaf) refl above w z (w-low .0) (w-low .1) (A .rest)) c (f .2) w own-w old) in
+      (mark-chan L (A .leaf) refl (rest-below L (A .leaf) refl above w z (w-low .0) (w-low .1) (A .rest)) c (f .2) (nameOf w) own-w old) in
       leaves-as L parked-real (A .leaf) (A .lined) (atOutput c z k) l-output waiting-info sits-here
       (rest-then L (A .leaf) (atOutput c z k) l-output waiting-info sits-here rest refl (rest .vars (node L (A .leaf)))
       (rest .chans (node L (A .leaf))) (A .rest .live (A .leaf)) (λ d m o. m) (λ d v g q other r p y x n m. never (cc))
       (λ d v g q other r p y x n m inp o.
       own-one L (apart-parts L (A .leaf) x n) own-w
-      (subst (Own p) (ap (λ a. ν₃ (S L .word a)) (output-channel (sym q)) ∙ chan-now c (f .2) ∙ upd-same ν₀ (S L .word c) w) o)))
+      (subst (Own p) (ap (λ a. ν₃ (S L .word a)) (output-channel (sym q)) ∙ chan-now c (f .2) ∙ upd-same ν₀ (S L .word c) (nameOf w)) o)))
       (waits-here (λ v lo hi. refl) (λ d m. refl)) (A .operand) coming
       (λ y q g. executes (exec-out-wait (S L .word c) z w (cpuOf s .place) s ea eb refl refl (rw (size-is L (A .real)) w-in)
       (rw (size-is L (A .real)) c-in) c-not-w (mirrored L (A .real) (S L .word c) c-in empty)
@@ -263,7 +265,7 @@ module _ (L : Loaded) {s : World} {st : State} {μ : Mem} {t : Tree (S L) (root 
     own-receiver =
         let p = sits-at L receiver .placed in
         subst (Own d) (sym (upd-other ν₀ (S L .word x) z (S L .word c) x-not-c ∙ upd-other μ w z (S L .word c) c-not-w ∙ waits .here))
-        (omega (arith, p .room), p .low)
+        (own-name d (j .w) (omega (arith, p .room)) (p .low))
 
     lines₁ : Lined L st t (Both path other) ws
     lines₁ = lined-out L receiver idle (λ y q. ⊎-elim (λ p. inr p) (λ p. inl p) q) (A .lined)
@@ -373,7 +375,7 @@ module _ (L : Loaded) {s : World} {st : State} {μ : Mem} {t : Tree (S L) (root 
         executes
         (exec-out-receiver (S L .word c) z w (j .w) (S L .word x) s ea eb refl (rw size-s w-in) (rw size-s c-in) c-not-w
         (mirrored L (A .real) (S L .word c) c-in (waits .here))
-        (λ q. absurd (omega (arith, p .low, part-small L receiver, small-size L, q)))
+        (name-given (j .w) (omega (arith, p .low, part-small L receiver, small-size L)))
         (rw size-s small-j) (λ q. zones .words (stateWord (j .w)) (omega (arith, q, w-low .0), omega (arith, q, above .low)) (lo, up))
         (mirrored L (A .real) (stateWord (j .w)) small-j (waits .message-at))
         (no-alt-state (S L .word x) (omega (arith, x-in, small-size L)))
@@ -399,13 +401,13 @@ module _ (L : Loaded) {s : World} {st : State} {μ : Mem} {t : Tree (S L) (root 
   -- an ALT has enabled the channel: the process waits, and the ALT is told
   module _ {other : List ℕ} {gs : Guards} {l : List Frame} {d : Part} {j : Info} {far to : ℕ}
       (chooser : LeafAt L st t other (atAlt gs l) d j)
-      (apart : path ≢ other) (a : AltCode (S L) d gs (j .vars) (j .chans) l far to (j .w + 1)) (here : μ (S L .word c) ≡ j .w)
+      (apart : path ≢ other) (a : AltCode (S L) d gs (j .vars) (j .chans) l far to (j .w + 1)) (here : μ (S L .word c) ≡ nameOf (j .w))
       (guarded : Guarded (st .store) c gs) where
     zones-alt : Distant (S L) (zoneOf (alone b i)) (zoneOf (alone d j))
     zones-alt = apart-zones L apart (node L (A .leaf)) (node L chooser)
 
-    own-j : Own d (j .w)
-    own-j = let p = sits-at L chooser .placed in (omega (arith, p .room), p .low)
+    own-j : Own d (nameOf (j .w))
+    own-j = let p = sits-at L chooser .placed in own-name d (j .w) (omega (arith, p .room)) (p .low)
 
     -- its words
     t-low : (d .bottom ≤ stateWord (j .w)) × (stateWord (j .w) < j .w)
@@ -426,7 +428,7 @@ module _ (L : Loaded) {s : World} {st : State} {μ : Mem} {t : Tree (S L) (root 
     rest₁ =
         parks (inl refl)
         (write-chan L (A .leaf)
-        (rest-below L (A .leaf) (inl refl) above w z (w-low .0) (w-low .1) (rest-out L (λ y q. inl q) (A .rest))) c w (f .2)
+        (rest-below L (A .leaf) (inl refl) above w z (w-low .0) (w-low .1) (rest-out L (λ y q. inl q) (A .rest))) c (nameOf w) (f .2)
         (λ y r p g x n. (
           (λ o. own-one L (apart-parts L chooser x (λ q. n (inr q))) own-j
               (subst (Own p) (upd-other μ w z (S L .word c) c-not-w ∙ here) o)),
@@ -456,7 +458,8 @@ module _ (L : Loaded) {s : World} {st : State} {μ : Mem} {t : Tree (S L) (root 
         (λ y v g q here r p n x out m inp o.
         own-one L (apart-parts L (A .leaf) x (λ q. out (inl q))) own-w
         (subst (Own p)
-        (ap (λ a. ν₄ (S L .word a)) (output-channel (sym q)) ∙ chans₄ c (f .2) ∙ chan-now c (f .2) ∙ upd-same ν₀ (S L .word c) w) o))
+        (ap (λ a. ν₄ (S L .word a)) (output-channel (sym q)) ∙ chans₄ c (f .2) ∙ chan-now c (f .2)
+        ∙ upd-same ν₀ (S L .word c) (nameOf w)) o))
 
     -- the ALT's words
     alt-word : (v : ℕ) → d .bottom ≤ v → v < d .top → v ≢ stateWord (j .w) → ν₄ v ≡ μ v
@@ -464,7 +467,7 @@ module _ (L : Loaded) {s : World} {st : State} {μ : Mem} {t : Tree (S L) (root 
         upd-other ν₃ (stateWord (j .w)) ready v n
         ∙ upd-other ν₂ (stateWord w) w v (mine-not (stateWord w) (s-low .0) (omega (arith, s-low .1, placed .low)) v lo hi)
         ∙ upd-other ν₁ (resumeWord w) (cpuOf s .place) v (mine-not (resumeWord w) (r-low .0) (omega (arith, r-low .1, placed .low)) v lo hi)
-        ∙ upd-other ν₀ (S L .word c) w v (λ q. zones-alt .chans-out c (f .2) (omega (arith, q), omega (arith, q)))
+        ∙ upd-other ν₀ (S L .word c) (nameOf w) v (λ q. zones-alt .chans-out c (f .2) (omega (arith, q), omega (arith, q)))
         ∙ upd-other μ w z v (mine-not w (w-low .0) (omega (arith, above .low)) v lo hi)
 
     -- and its channels'
@@ -476,16 +479,16 @@ module _ (L : Loaded) {s : World} {st : State} {μ : Mem} {t : Tree (S L) (root 
         upd-other ν₃ (stateWord (j .w)) ready (S L .word y) (chan-above L p (stateWord (j .w)) (t-low .1) y m)
         ∙ upd-other ν₂ (stateWord w) w (S L .word y) (off (stateWord w) (s-low .0) (omega (arith, s-low .1, placed .low)))
         ∙ upd-other ν₁ (resumeWord w) (cpuOf s .place) (S L .word y) (off (resumeWord w) (r-low .0) (omega (arith, r-low .1, placed .low)))
-        ∙ upd-other ν₀ (S L .word c) w (S L .word y) n
+        ∙ upd-other ν₀ (S L .word c) (nameOf w) (S L .word y) n
         ∙ upd-other μ w z (S L .word y) (off w (w-low .0) (omega (arith, above .low)))
 
     alt-marked : {hs : Guards} → Marked (S L) d st (j .vars) (j .chans) hs μ (j .w) → Marked (S L) d st₁ (j .vars) (j .chans) hs ν₄ (j .w)
     alt-marked {hs} h y m o = by (ℕ-discrete (S L .word y) (S L .word c))
       where
-        by : Dec (S L .word y ≡ S L .word c) → (ν₄ (S L .word y) ≡ j .w) × Guarded (st .store) y hs
+        by : Dec (S L .word y ≡ S L .word c) → (ν₄ (S L .word y) ≡ nameOf (j .w)) × Guarded (st .store) y hs
         by (yes q) =
             absurd (own-one L (apart-parts L (A .leaf) chooser apart) own-w
-            (subst (Own d) (ap ν₄ q ∙ chans₄ c (f .2) ∙ chan-now c (f .2) ∙ upd-same ν₀ (S L .word c) w) o))
+            (subst (Own d) (ap ν₄ q ∙ chans₄ c (f .2) ∙ chan-now c (f .2) ∙ upd-same ν₀ (S L .word c) (nameOf w)) o))
         by (no q) = let e = alt-chan y m q in let g = h y m (subst (Own d) e o) in (e ∙ g .0, g .1)
 
     chooser₅ : LeafAt L st₁ (treeThen L (A .leaf) (atOutput c z k) l-output waiting-info sits-here) other (atAlt gs l) d j
@@ -514,12 +517,12 @@ module _ (L : Loaded) {s : World} {st : State} {μ : Mem} {t : Tree (S L) (root 
 
     -- the state was an ALT's
     told : {v : ℕ} → μ (stateWord (j .w)) ≡ v → isAltState v ≡ true
-        → execute I.opr (I.operationCode I.outword) s ≡ _>>_ (notify (j .w) v) release s₃
+        → execute I.opr (I.operationCode I.outword) s ≡ _>>_ (notify (nameOf (j .w)) v) release s₃
     told {v} q g =
         let p = sits-at L chooser .placed in
         let size-s = size-is L (A .real) in
         exec-out-alt (S L .word c) z w (cpuOf s .place) (j .w) v s ea eb refl refl (rw size-s w-in) (rw size-s c-in) c-not-w
-        (mirrored L (A .real) (S L .word c) c-in here) (λ q. absurd (omega (arith, p .low, part-small L chooser, small-size L, q)))
+        (mirrored L (A .real) (S L .word c) c-in here) (name-given (j .w) (omega (arith, p .low, part-small L chooser, small-size L)))
         (rw size-s alt-in) (mine-not w (w-low .0) (omega (arith, above .low)) (stateWord (j .w)) (t-low .0) t-high)
         (mirrored L (A .real) (stateWord (j .w)) alt-in q) g (rw size-s (omega (arith, r-low .1, w-in)))
         (rw size-s (omega (arith, s-low .1, w-in)))

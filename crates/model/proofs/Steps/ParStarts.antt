@@ -165,7 +165,10 @@ module _ (L : Loaded) {s : World} {st : State} {μ : Mem} {t : Tree (S L) (root 
     -- a branch's names are the PAR's
     branch-clean : (part : Part) (v : ℕ) → Inside part b
         → Unmarked (S L) part (newInfo (S L) (i .vars) (i .chans) v) (forkState L (A .leaf) c) ν
-    branch-clean part v inner a q o = clean₀ a q (omega (arith, o .0, inner .above), omega (arith, o .1, inner .below))
+    branch-clean part v inner a q o = clean₀ a q (record {
+      above = omega (arith, o .above, inner .above);
+      below = omega (arith, o .below, inner .below);
+    })
 
     -- the branches' code is in the code
     ends-in : c .first + size d + 2 + sizeEnds ds ≤ length (S L .xs)

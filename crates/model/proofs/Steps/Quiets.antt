@@ -180,7 +180,7 @@ module _ (L : Loaded) {s : World} {st : State} {μ : Mem} {t : Tree (S L) (root 
 
     still-clean : Unmarked (S L) b i st (upd μ v (L .off k))
     still-clean c m o =
-        clean c m (subst (λ z. (b .bottom < z) × (z ≤ b .top)) (upd-other μ v (L .off k) (S L .word c)
+        clean c m (subst (Own b) (upd-other μ v (L .off k) (S L .word c)
         (λ e. absurd (omega (arith, placed .scoped .chans-above c m, below, e)))) o)
 
     -- it is queued, to go on where the jump leads
