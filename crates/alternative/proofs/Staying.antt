@@ -7,7 +7,7 @@ use borrow.Author.Tests.{lt-ltb, ltb-true}
 use lib.ListN.{getD, set}
 use lib.Dec.{ltb, eqb}
 use Rattle.model.specs.Word.{notProcess}
-use Rattle.model.specs.Machine.{World, Act, Result, done, faults, next, _>>=_, _>>_, return, withCpu, withMemory, registers}
+use Rattle.model.specs.Machine.{World, Act, Result, done, faults, next, _>>=_, _>>_, return, withCpu, withMemory, registers, nameOf}
 use Rattle.model.specs.Machine.{memorySize, stack, peek, poke, stateWord, release}
 use Rattle.model.specs.Execute.{changing, setReady, ready, select, noneSelected, waitAlt}
 use Rattle.model.specs.Run.{land}
@@ -113,7 +113,7 @@ module _ {u : Setup} {r : Cpu} where
   -- ENBC with a true condition, where no offer is held
   pub enables : (c : ℕ) (l : List ℕ) → Blind u r (enableInside c) l
   enables c l =
-      let w = r .workspace in
+      let w = nameOf (r .workspace) in
       alike
       (then (λ p. cond (eqb p notProcess) (poke c w) (cond (eqb p w) (return tt) setReady)) (peeks c l)
       (λ p m. either (eqb p notProcess) (pokes c w m) (either (eqb p w) (gives tt m) (readies m))))
@@ -127,10 +127,10 @@ module _ {u : Setup} {r : Cpu} where
   -- DISC without, where the channel's word is p
   pub selects-inside :
       (c b p : ℕ) (l : List ℕ)
-      → Blind u r (cond (eqb p notProcess) (return 0) (cond (eqb p (r .workspace)) (do poke c notProcess; return 0) (select b))) l
+      → Blind u r (cond (eqb p notProcess) (return 0) (cond (eqb p (nameOf (r .workspace))) (do poke c notProcess; return 0) (select b))) l
   selects-inside c b p l =
       either (eqb p notProcess) (gives 0 l)
-      (either (eqb p (r .workspace)) (then {B = ℕ} (λ n. return 0) (pokes c notProcess l) (λ n. gives 0)) (selects b l))
+      (either (eqb p (nameOf (r .workspace))) (then {B = ℕ} (λ n. return 0) (pokes c notProcess l) (λ n. gives 0)) (selects b l))
 
 module _ (x : Rest) (u : Setup) (r : Cpu) (l : List ℕ) (t : r .running ≡ true) (p : r .place ≤ u .code) where
   -- the process stays where it is

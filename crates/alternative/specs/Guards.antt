@@ -3,7 +3,7 @@ use Prim.Native.Nat.{ℕ}
 use mathlib.Core.Bool.{cond}
 use lib.Dec.{eqb}
 use Rattle.model.specs.Word.{notProcess}
-use Rattle.model.specs.Machine.{Act, _>>=_, _>>_, return, registers, stack, peek, poke, stateWord, resumeWord, release}
+use Rattle.model.specs.Machine.{Act, _>>=_, _>>_, return, registers, stack, peek, poke, stateWord, resumeWord, nameOf, release}
 use Rattle.model.specs.Execute.{changing, enableUnheld, ready, waiting, select}
 use Rattle.processor.specs.Pieces.{landing}
 
@@ -37,4 +37,4 @@ disableHeld c b = choosing (do t ← select b; poke c notProcess; return t)
 abbrev pub disableInside : (channel branch p : ℕ) → Act (Unit {0})
 disableInside c b p = choosing (do
   r ← registers
-  cond (eqb p notProcess) (return 0) (cond (eqb p (r .workspace)) (do poke c notProcess; return 0) (select b)))
+  cond (eqb p notProcess) (return 0) (cond (eqb p (nameOf (r .workspace))) (do poke c notProcess; return 0) (select b)))

@@ -6,7 +6,7 @@ use mathlib.Core.List.{List}
 use lib.ListN.{getD, set}
 use lib.Dec.{ltb, eqb}
 use Rattle.model.specs.Word.{notProcess}
-use Rattle.model.specs.Machine.{World, Act, done, faults, _>>_, return, memorySize, poke, release, join, communicate}
+use Rattle.model.specs.Machine.{World, Act, done, faults, _>>_, return, memorySize, poke, release, join, communicate, nameOf, spaceOf}
 use Rattle.model.specs.Machine.{linkWord, resumeWord, stateWord, queueing}
 use Rattle.model.specs.Execute.{waitAt, outputWord, received, notify, waiting, ready}
 use Rattle.model.specs.Run.{land}
@@ -31,7 +31,7 @@ waits c m s =
     let r = s .machine .cpu in
     let w = r .workspace in
     simp next-next
-    (ap (λ (f : Act (Unit {0})). (do poke c w; poke (resumeWord w) (r .place); poke (stateWord w) m; release; f) s) first-place)
+    (ap (λ (f : Act (Unit {0})). (do poke c (nameOf w); poke (resumeWord w) (r .place); poke (stateWord w) m; release; f) s) first-place)
 
 -- a process in an ALT is woken if it was Waiting, and the processor is free
 woken : (t : Bool) (p : ℕ) → (do cond t (join p) (return tt); release; land) ≡ cond t (joinRelease 0 p) (releaseAt 0)
@@ -44,13 +44,14 @@ pub waits-told :
     → let r = s .machine .cpu in
     let w = r .workspace in
     landing (do waitAt c m; notify p a; release) s
-    ≡ (do poke c w; poke (resumeWord w) (r .place); poke (stateWord w) m; notifyRelease p a) s
+    ≡ (do poke c (nameOf w); poke (resumeWord w) (r .place); poke (stateWord w) m; notifyRelease p a) s
 unfolding waitAt notify
 waits-told c m p a s =
     let r = s .machine .cpu in
     let w = r .workspace in
     simp next-next
-    (ap (λ (f : Act (Unit {0})). (do poke c w; poke (resumeWord w) (r .place); poke (stateWord w) m; poke (stateWord p) ready; f) s)
+    (ap (λ (f : Act (Unit {0})).
+    (do poke c (nameOf w); poke (resumeWord w) (r .place); poke (stateWord w) m; poke (stateWord (spaceOf p)) ready; f) s)
     (woken (eqb a waiting) p))
 
 -- OUTWORD's value goes to W + 0 first

@@ -3,7 +3,7 @@ use Prim.Native.Nat.{ℕ}
 use mathlib.Core.Bool.{cond}
 use lib.Dec.{eqb}
 use Rattle.model.specs.Word.{notProcess}
-use Rattle.model.specs.Machine.{Act, _>>=_, _>>_, registers, peek, poke, resumeWord, stateWord, release}
+use Rattle.model.specs.Machine.{Act, _>>=_, _>>_, registers, peek, poke, resumeWord, stateWord, nameOf, spaceOf, release}
 use Rattle.model.specs.Execute.{waitAt, inputUnheld, notify, deliver, isAltState}
 use Rattle.model.specs.declared.Cpu.{Cpu}
 use Rattle.processor.specs.Pieces.{landing, pokeJoin, poke2Tell}
@@ -12,7 +12,7 @@ use Rattle.processor.specs.Pieces.{landing, pokeJoin, poke2Tell}
 abbrev pub waitTell : (channel message p state : ℕ) → Act (Unit {0})
 waitTell c m p s = do
   r ← registers
-  poke c (r .workspace)
+  poke c (nameOf (r .workspace))
   poke2Tell (resumeWord (r .workspace)) (r .place) (stateWord (r .workspace)) m p s
 
 -- a value goes to a message place, the channel is empty again and the process that waited there is woken
@@ -30,7 +30,7 @@ insideInput = landing (do
 -- what OUTWORD does with the process at the channel's word: in an ALT it is told and the sender waits; in IN it gets the value
 abbrev sending : Cpu → (p : ℕ) → Act (Unit {0})
 sending r p = do
-  s ← peek (stateWord p)
+  s ← peek (stateWord (spaceOf p))
   cond (isAltState s)
       (do waitAt (r .b) (r .workspace); notify p s; release)
       (deliver (r .b) p s (r .a))

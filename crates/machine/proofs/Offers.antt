@@ -8,7 +8,7 @@ use lib.ListN.{length, getD}
 use lib.Dec.{ltb}
 use borrow.Author.Tests.{lt-ltb, le-ltb, ltb-true, eq-eqb, ne-eqb}
 use Rattle.model.specs.Word.{notProcess}
-use Rattle.model.specs.Machine.{done, faults, memorySize, peek, stateWord}
+use Rattle.model.specs.Machine.{done, faults, memorySize, peek, stateWord, spaceOf}
 use Rattle.model.specs.Execute.{isAltState, deliver, notify, received}
 use Rattle.model.specs.Run.{unchanged, worldOf}
 use Rattle.model.specs.Outside.{waking, offering, offered, offerUnless, offer}
@@ -48,11 +48,12 @@ module _ (m : Machine) (memory : List ℕ) (k v : ℕ) {p : ℕ} (i : k < m .set
 
   module _ (n : p ≡ notProcess → ⊥) where
     -- its state word is outside
-    offering-fault : {f : FaultKind} → peek (stateWord p) (worldOf m memory) ≡ faults f → offering k v (worldOf m memory) ≡ faults f
+    offering-fault : {f : FaultKind} → peek (stateWord (spaceOf p)) (worldOf m memory) ≡ faults f
+        → offering k v (worldOf m memory) ≡ faults f
     unfolding offering waking
     offering-fault g = rw (at-word, ne-eqb _ _ n, g)
 
-    module _ {s : ℕ} (g : peek (stateWord p) (worldOf m memory) ≡ done s (worldOf m memory)) where
+    module _ {s : ℕ} (g : peek (stateWord (spaceOf p)) (worldOf m memory) ≡ done s (worldOf m memory)) where
       told-alt :
           isAltState s ≡ true
           → offering k v (worldOf m memory) ≡ waking (notify p s) (world (restOf (holding m k v)) (m .setup) (m .cpu) memory)
@@ -132,11 +133,11 @@ module _ (m : Machine) (memory : List ℕ) (k v : ℕ) where
             module _ (n : p ≡ notProcess → ⊥) where
               -- the process's state word is outside
               pub offer-fault :
-                  {f : FaultKind} → peek (stateWord p) (worldOf m memory) ≡ faults f
+                  {f : FaultKind} → peek (stateWord (spaceOf p)) (worldOf m memory) ≡ faults f
                   → Answers (offer m memory k v) (offeredBy m m (Fault f) .answer) (offeredBy m m (Fault f) .machine) memory
               offer-fault {f} d = settled m (Fault f) (ap quiet (offering-fault m memory k v i a n d)) refl
 
-              module _ {s : ℕ} (d : peek (stateWord p) (worldOf m memory) ≡ done s (worldOf m memory)) {l : List ℕ} where
+              module _ {s : ℕ} (d : peek (stateWord (spaceOf p)) (worldOf m memory) ≡ done s (worldOf m memory)) {l : List ℕ} where
                 -- it is told
                 pub offer-tells :
                     {q : Step} → isAltState s ≡ true → Does (m .setup) (notifyWake p s) (m .cpu) memory q l

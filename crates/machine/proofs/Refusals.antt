@@ -60,7 +60,15 @@ module _ (code memory : List ℕ) (w i o q : ℕ) where
         by-memory =
             let n : w + i + o - w ≡ i + o = omega arith in
             let t = le-leb (w + i + o) wordLimit words in
-            simp (le-leb 1 q q₁, le-leb q sliceLimit q₂, le-leb i channelLimit i₈, le-leb o channelLimit o₈, t, le-leb (length code) codeLimit bytes, n)
+            simp (
+              le-leb 1 q q₁,
+              le-leb q sliceLimit q₂,
+              le-leb i channelLimit i₈,
+              le-leb o channelLimit o₈,
+              t,
+              le-leb (length code) codeLimit bytes,
+              n,
+            )
 
         -- 11
         pub short : length memory < w + i + o → start code memory w i o q ≡ unchanged (Short (w + i + o)) blank memory

@@ -8,6 +8,7 @@ use lib.Dec.{ltb, leb, eqb}
 use borrow.Author.Tests.{lt-ltb}
 use Rattle.model.specs.Word.{notProcess}
 use Rattle.model.specs.Machine.{World, Act, Result, done, faults, next, _>>_, return, memorySize, poke, testPlace, join, communicate}
+use Rattle.model.specs.Machine.{spaceOf}
 use Rattle.model.specs.Machine.{stateWord}
 use Rattle.model.specs.Execute.{received, notify, waiting, ready}
 use Rattle.model.specs.Run.{land}
@@ -67,8 +68,8 @@ module _ (x : Rest) (u : Setup) (r : Cpu) where
   pub wakes-notify : (p s : ℕ) (l : List ℕ) → waking (notify p s) (world x u r l) ≡ notifyWake p s (world x u r l)
   unfolding notify
   wakes-notify p s l =
-      wakes-poke (cond (eqb s waiting) (join p) (return tt)) (stateWord p) ready l
-      ∙ after-poke (λ q. q) x u _ _ (stateWord p) ready r l (go (eqb s waiting))
+      wakes-poke (cond (eqb s waiting) (join p) (return tt)) (stateWord (spaceOf p)) ready l
+      ∙ after-poke (λ q. q) x u _ _ (stateWord (spaceOf p)) ready r l (go (eqb s waiting))
     where
       go : (t : Bool) (m : List ℕ)
           → waking (cond t (join p) (return tt)) (world x u r m) ≡ cond t (wakeJoin p) (return tt) (world x u r m)

@@ -7,7 +7,7 @@ use lib.ListN.{length, getD, set}
 use native.Mathlib.Omega.{arith}
 use lib.Seq.{set-set, set-getD}
 use lib.Dec.{ltb, leb·zero}
-use Rattle.model.specs.Machine.{World, Act, Result, done, faults, next, _>>_, return, setRegisters, running, queueing}
+use Rattle.model.specs.Machine.{World, Act, Result, done, faults, next, _>>_, return, setRegisters, running, queueing, spaceOf}
 use Rattle.model.specs.Machine.{memorySize, poke, testPlace, linkWord, resume, takeFront, release, join}
 use Rattle.model.specs.Word.{low}
 use Rattle.model.specs.Execute.{jump}
@@ -125,7 +125,7 @@ module _ (x : Rest) (u : Setup) (r : Cpu) (l : List ℕ) where
   pub join-behind :
       (w : ℕ) → r .running ≡ true → r .queued ≡ true
       → join w (world x u r l) ≡ poke (linkWord (r .back)) w (world x u (queueing (r .front) w true r) l)
-  unfolding join
+  unfolding join spaceOf
   join-behind w t q =
       at x u r l (pick-true (r .running) _ _ t ∙ pick-true (r .queued) _ _ q)
       ∙ poke-registers x u r (queueing (r .front) w true r) l (linkWord (r .back)) w

@@ -3,6 +3,7 @@ use Prim.Native.Nat.{ℕ}
 use mathlib.Core.Bool.{cond}
 use lib.Dec.{eqb}
 use Rattle.model.specs.Machine.{Act, _>>=_, _>>_, registers, setRegisters, goto, work, peek, poke, testPlace, resumeWord, stateWord}
+use Rattle.model.specs.Machine.{nameOf, spaceOf}
 use Rattle.model.specs.Machine.{release, join, return}
 use Rattle.model.specs.Execute.{isAltState, ready, waiting}
 use Rattle.model.specs.Run.{land}
@@ -56,7 +57,7 @@ abbrev pub yieldSlice : (to : ℕ) → Act (Unit {0})
 yieldSlice to = do
   r ← registers
   poke (resumeWord (r .workspace)) to
-  joinRelease to (r .workspace)
+  joinRelease to (nameOf (r .workspace))
 
 -- an ALT was made Ready: its process is woken if it was Waiting, and the processor is free
 abbrev pub wakeRelease : (p state : ℕ) → Act (Unit {0})
@@ -65,7 +66,7 @@ wakeRelease p s = cond (eqb s waiting) (joinRelease 0 p) (releaseAt 0)
 -- a process in an ALT is told, and the processor is free
 abbrev pub notifyRelease : (p state : ℕ) → Act (Unit {0})
 notifyRelease p s = do
-  poke (stateWord p) ready
+  poke (stateWord (spaceOf p)) ready
   wakeRelease p s
 
 -- the processor is free; a process in an ALT, whose state is given, is told before
@@ -95,5 +96,5 @@ wakeWaiting p s = cond (eqb s waiting) (wakeJoin p) (return tt)
 -- a process in an ALT is told from outside
 abbrev pub notifyWake : (p state : ℕ) → Act (Unit {0})
 notifyWake p s = do
-  poke (stateWord p) ready
+  poke (stateWord (spaceOf p)) ready
   wakeWaiting p s

@@ -2,6 +2,7 @@
 use borrow.Author.Needs.{needs}
 use mathlib.Core.Path.{refl}
 use borrow.Author.Tests.{eq-eqb, ne-eqb}
+use Rattle.model.specs.Machine.{nameOf}
 use Rattle.processor.proofs.Laws.{like, ends, next-next}
 use Rattle.alternative.proofs.Staying.{poke-changing}
 use Rattle.alternative.proofs.disable.disable_inside.Statement.{statement}
@@ -11,6 +12,7 @@ returns : tie.Need-returns
 returns c u h = ends (λ x. rw (eq-eqb _ _ (c .if1 .taken), c .before .stack .ensures))
 
 returns-2 : tie.Need-returns-2
+unfolding nameOf
 returns-2 c u h =
     let stack = c .before .before .before .before .before .before .before .stack in
     let if1 = c .before .before .before .before .before .before .if1 in
@@ -21,6 +23,7 @@ returns-2 c u h =
     (simp next-next (poke-changing _ _ _ _ _ (λ m. refl))))
 
 returns-3 : tie.Need-returns-3
+unfolding nameOf
 returns-3 c u h =
     let if1 = c .before .before .before .before .before .before .if1 in
     let if2 = c .before .before .before .before .if2 in

@@ -1,6 +1,7 @@
 -- `channel::sender::output_to` meets its contract. Assumes nothing.
 use borrow.Author.Needs.{needs}
 use native.Mathlib.Omega.{arith}
+use Rattle.model.specs.Machine.{spaceOf}
 use Rattle.model.specs.Execute.{deliver}
 use Rattle.processor.proofs.Laws.{like}
 use Rattle.processor.proofs.Talking.{hears, hears-fault, silent}
@@ -9,6 +10,7 @@ use Rattle.channel.proofs.sender.output_to.Statement.{statement}
 use Rattle.channel.proofs.sender.output_to.Tie as tie
 
 returns : tie.Need-returns
+unfolding spaceOf
 returns c u h g =
     let state-word = c .before .before .before .before .before .before .before .before .before .before .state-word in
     let peek = c .before .before .before .before .before .before .before .before .before .peek in
@@ -21,7 +23,7 @@ returns c u h g =
     (waits-told _ _ _ _ _)))
 
 returns-2 : tie.Need-returns-2
-unfolding deliver
+unfolding deliver spaceOf
 returns-2 c u h g =
     let far = c .before .before .before .before .before .before .before .before .before .before in
     let pre = far .before .before .before .pre in
@@ -36,6 +38,7 @@ returns-2 c u h g =
     (handed x u _ _ _ (pre .1) (omega arith) _ _ _))
 
 returns-3 : tie.Need-returns-3
+unfolding spaceOf
 returns-3 c u h g =
     let state-word = c .before .before .before .before .state-word in
     let peek = c .before .before .before .peek in

@@ -1,6 +1,7 @@
 -- `channel::wait::wait_at` meets its contract. Assumes nothing.
 use borrow.Author.Needs.{needs}
 use mathlib.Core.Path.{refl}
+use Rattle.model.specs.Machine.{nameOf}
 use Rattle.model.specs.Word.{less}
 use Rattle.processor.specs.Pieces.{poke2Tell}
 use Rattle.processor.proofs.Laws.{like, undid, refused}
@@ -8,6 +9,7 @@ use Rattle.channel.proofs.wait.wait_at.Statement.{statement}
 use Rattle.channel.proofs.wait.wait_at.Tie as tie
 
 returns : tie.Need-returns
+unfolding nameOf
 returns c u h g =
     let far = c .before .before .before .before .before .before .before .before .before .before in
     let swap = far .before .before .before .before .before .swap in
@@ -19,6 +21,7 @@ returns c u h g =
     (λ x. rw (← resume-word .ensures, ← state-word .ensures))
 
 returns-2 : tie.Need-returns-2
+unfolding nameOf
 returns-2 c u h g =
     let args = c .before .before .before .before .before .before .before .before .args in
     let swap = c .before .before .before .before .before .swap in

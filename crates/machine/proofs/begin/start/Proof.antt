@@ -18,7 +18,8 @@ use Rattle.machine.proofs.begin.start.Tie as tie
 returns : tie.Need-returns
 returns c =
     let a = c .before .before .before .before .args in
-    let h : 1 ≤ a .slice → a .slice ≤ sliceLimit → ⊥ = λ p q. ⊎-elim (λ t. omega arith) (λ t. omega (arith, ltb-true)) (c .before .if1 .came) in
+    let h : 1 ≤ a .slice → a .slice ≤ sliceLimit → ⊥ =
+    λ p q. ⊎-elim (λ t. omega arith) (λ t. omega (arith, ltb-true)) (c .before .if1 .came) in
     with-number refusedStart (start _ _ _ _ _ _) (start-refuses _ _ _ _ _ _)
     (rw (bad-slice _ _ _ _ _ _ h) (c .refused .ensures .0, (c .refused .ensures .1, refl)))
 
@@ -26,7 +27,8 @@ returns-2 : tie.Need-returns-2
 returns-2 c =
     let a = c .before .before .before .before .before .before .args in
     let q : a .slice ≤ sliceLimit = omega (arith, ltb-false) in
-    let h : a .inputs ≤ channelLimit → a .outputs ≤ channelLimit → ⊥ = λ p q. ⊎-elim (λ t. omega arith) (λ t. omega (arith, ltb-true)) (c .before .if3 .came) in
+    let h : a .inputs ≤ channelLimit → a .outputs ≤ channelLimit → ⊥ =
+    λ p q. ⊎-elim (λ t. omega arith) (λ t. omega (arith, ltb-true)) (c .before .if3 .came) in
     with-number refusedStart (start _ _ _ _ _ _) (start-refuses _ _ _ _ _ _)
     (rw (bad-count _ _ _ _ _ _ (omega arith) q h) (c .refused2 .ensures .0, (c .refused2 .ensures .1, refl)))
 

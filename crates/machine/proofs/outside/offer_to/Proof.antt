@@ -2,11 +2,13 @@
 use borrow.Author.Needs.{needs}
 use native.Mathlib.Omega.{arith}
 use mathlib.Core.Path.{refl, sym, _∙_}
+use Rattle.model.specs.Machine.{spaceOf}
 use Rattle.machine.proofs.Offers.{restOf, offer-tells, offer-hands, offer-fault}
 use Rattle.machine.proofs.outside.offer_to.Statement.{statement}
 use Rattle.machine.proofs.outside.offer_to.Tie as tie
 
 returns : tie.Need-returns
+unfolding spaceOf
 returns c =
     let far = c .before .before .before .before .before .before .before .before .before .before in
     let pre = far .before .before .before .before .before .before .before .pre in
@@ -26,6 +28,7 @@ returns c =
     (sym (alt-state .ensures) ∙ if1 .taken) (notify-wake .ensures (args .machine .setup) (h .1) refl))
 
 returns-2 : tie.Need-returns-2
+unfolding spaceOf
 returns-2 c =
     let far = c .before .before .before .before .before .before .before .before .before .before in
     let pre = far .before .before .before .before .before .before .before .pre in
@@ -45,6 +48,7 @@ returns-2 c =
     (sym (alt-state .ensures) ∙ if1 .left) (hand-wake .ensures (args .machine .setup) (h .1) refl))
 
 returns-3 : tie.Need-returns-3
+unfolding spaceOf
 returns-3 c =
     let pre = c .before .before .before .before .before .before .before .before .before .before .pre in
     let args = c .before .before .before .before .before .before .before .before .before .before .args in

@@ -10,7 +10,8 @@ returns c u h g =
     let pre = c .before .before .before .before .before .before .before .pre in
     let if1 = c .before .before .before .before .before .if1 in
     let link-word = c .before .before .before .link-word in
-    like (c .before .before .poke-release .ensures u h g) (λ x. rw (join-behind x u (args .cpu) _ _ (pre .1) (if1 .taken), ← link-word .ensures))
+    like (c .before .before .poke-release .ensures u h g)
+    (λ x. rw (join-behind x u (args .cpu) _ _ (pre .1) (if1 .taken), ← link-word .ensures))
 
 returns-2 : tie.Need-returns-2
 returns-2 c u h g =

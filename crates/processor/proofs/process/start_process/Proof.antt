@@ -1,12 +1,13 @@
 -- `processor::process::start_process` meets its contract. Assumes nothing.
 use borrow.Author.Needs.{needs}
+use Rattle.model.specs.Machine.{nameOf}
 use Rattle.model.specs.Execute.{startProcess}
 use Rattle.processor.proofs.Laws.{like}
 use Rattle.processor.proofs.process.start_process.Statement.{statement}
 use Rattle.processor.proofs.process.start_process.Tie as tie
 
 returns : tie.Need-returns
-unfolding startProcess
+unfolding startProcess nameOf
 returns c u h =
     let resume-word = c .before .before .before .before .resume-word in
     let plus = c .before .before .before .plus in

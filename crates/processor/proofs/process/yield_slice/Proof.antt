@@ -1,11 +1,13 @@
 -- `processor::process::yield_slice` meets its contract. Assumes nothing.
 use borrow.Author.Needs.{needs}
+use Rattle.model.specs.Machine.{nameOf}
 use Rattle.processor.specs.Pieces.{joinRelease}
 use Rattle.processor.proofs.Laws.{like, undid, refused}
 use Rattle.processor.proofs.process.yield_slice.Statement.{statement}
 use Rattle.processor.proofs.process.yield_slice.Tie as tie
 
 returns : tie.Need-returns
+unfolding nameOf
 returns c u h g =
     let far = c .before .before .before .before .before .before .before .before .before .before in
     let resume-word = far .before .before .before .before .before .resume-word in
@@ -16,6 +18,7 @@ returns c u h g =
     (λ x. rw (← resume-word .ensures))
 
 returns-2 : tie.Need-returns-2
+unfolding nameOf
 returns-2 c u h g =
     let args = c .before .before .before .before .before .before .before .before .before .args in
     let resume-word = c .before .before .before .before .before .before .before .resume-word in
