@@ -16,8 +16,12 @@
 // in the order of model::Cpu, the held offers as input=value, the kept fault, and a sum over the memory's 4,200 words. Numbers are
 // hexadecimal, but for those of refusals.
 ghost use Prim.Native.Nat.{_≤_};
-ghost use mathlib.Core.Path.{_≡_};
-ghost use lib.ListN.{length};
+
+// The code's room: longer than any code and than a start takes.
+const BYTES: usize = model::limits::CODE + 256;
+
+// The memory's words: more than any program needs.
+const WORDS: usize = 4200;
 
 // How far a list has come: the machine, what is lent, which number comes next, and whether there was no answer yet.
 struct List {
@@ -28,213 +32,58 @@ struct List {
     first: bool,
 }
 
-// Code as long as any, and longer than a start takes.
-fn some_code() -> [u8; 16640]
-    ensures { λ r. ⌜ 16640 ≡ length r ⌝ }
+// The lesser of a number and a length.
+fn least(number: u64, length: usize) -> usize
+    ensures { λ r. ⌜ r ≤ length ⌝ }
 {
-    [0x99; 16640]
-}
-
-// A memory, longer than any program needs.
-fn some_memory() -> [u32; 4200]
-    ensures { λ r. ⌜ 4200 ≡ length r ⌝ }
-{
-    [0; 4200]
-}
-
-// What words hold before the first call.
-fn fill(words: &mut [u32]) {
-    let mut value = 0x7700;
-    let mut i = 0;
-    while i < words.len() {
-        words[i] = value;
-        value = std::num::wrapping_add_u32(value, 1);
-        i += 1;
+    if number < length as u64 {
+        return number as usize;
     }
-}
-
-// The lesser of two numbers.
-fn least(a: u64, b: usize) -> usize
-    ensures { λ r. ⌜ r ≤ b ⌝ }
-{
-    if a < b as u64 {
-        return a as usize;
-    }
-    b
-}
-
-// A number of a list, so many behind a place, or 0 where the list has no more.
-fn at(numbers: &[u64], place: usize, behind: usize) -> u64 {
-    let i = std::num::wrapping_add_usize(place, behind);
-    if i < numbers.len() {
-        return numbers[i];
-    }
-    0
-}
-
-// A number of a list that is a word.
-fn word(numbers: &[u64], place: usize, behind: usize) -> u32 {
-    (at(numbers, place, behind) % 4294967296) as u32
-}
-
-// The bytes of a list from a place on, so many of them, at the front of some room. Answers how many there are.
-fn row(numbers: &[u64], place: usize, count: u64, bytes: &mut [u8]) -> usize {
-    if place > numbers.len() {
-        return 0;
-    }
-    let rest = &numbers[place..];
-    let end = least(count, rest.len());
-    lines::to_bytes(&rest[0..end], bytes);
-    end
+    length
 }
 
 // Begins an answer: one after the first stands behind a comma.
 fn begin_answer(list: List) {
     if !list.first {
-        io::write_all(1, b", ");
+        lines::write(b", ");
     }
 }
 
 // A list after a call without an answer: so many numbers further.
 fn onward(list: List, numbers: usize) -> List {
-    let machine = list.machine;
-    List {
-        machine: machine,
-        bytes: list.bytes,
-        words: list.words,
-        next: std::num::wrapping_add_usize(list.next, numbers),
-        first: list.first,
-    }
+    let mut further = list;
+    further.next = std::num::wrapping_add_usize(list.next, numbers);
+    further
 }
 
 // A list after an answer: with another machine, and so many numbers further.
 fn answered(list: List, machine: model::Machine, numbers: usize) -> List {
-    List {
-        machine: machine,
-        bytes: list.bytes,
-        words: list.words,
-        next: std::num::wrapping_add_usize(list.next, numbers),
-        first: false,
-    }
+    let mut further = onward(list, numbers);
+    further.machine = machine;
+    further.first = false;
+    further
 }
 
 // A list with other lengths lent.
 fn lending(list: List, bytes: usize, words: usize) -> List {
-    let machine = list.machine;
-    List {
-        machine: machine,
-        bytes: bytes,
-        words: words,
-        next: list.next,
-        first: list.first,
-    }
+    let mut lent = list;
+    lent.bytes = bytes;
+    lent.words = words;
+    lent
 }
 
-// Writes a start's answer.
-fn print_start(answer: model::StartAnswer) {
-    match answer {
-        model::StartAnswer::Started => {
-            io::write_all(1, b"started");
-        }
-        model::StartAnswer::BadSlice => {
-            io::write_all(1, b"15");
-        }
-        model::StartAnswer::BadCount => {
-            io::write_all(1, b"3 0");
-        }
-        model::StartAnswer::TooLarge => {
-            io::write_all(1, b"10 0");
-        }
-        model::StartAnswer::Short(size) => show::print(b"11 ", size),
-    }
-}
-
-// Writes an offer's answer.
-fn print_offer(answer: model::OfferAnswer) {
-    match answer {
-        model::OfferAnswer::Offered => {
-            io::write_all(1, b"offered");
-        }
-        model::OfferAnswer::Short(size) => show::print(b"11 ", size),
-        model::OfferAnswer::Fault(kind) => {
-            io::write_all(1, b"fault ");
-            show::print_fault(kind);
-        }
-        model::OfferAnswer::NoChannel => {
-            io::write_all(1, b"13");
-        }
-        model::OfferAnswer::Held => {
-            io::write_all(1, b"14");
-        }
-    }
-}
-
-// Writes a take's answer.
-fn print_take(answer: model::TakeAnswer) {
-    match answer {
-        model::TakeAnswer::Taken(value) => show::print(b"taken ", value as u64),
-        model::TakeAnswer::Nothing => {
-            io::write_all(1, b"none");
-        }
-        model::TakeAnswer::Short(size) => show::print(b"11 ", size),
-        model::TakeAnswer::Fault(kind) => {
-            io::write_all(1, b"fault ");
-            show::print_fault(kind);
-        }
-        model::TakeAnswer::NoChannel => {
-            io::write_all(1, b"13");
-        }
-    }
-}
-
-// Starts a machine over what is lent, and writes the answer.
-fn start(
-    code: &[u8],
-    memory: &mut [u32],
-    w: u32,
-    inputs: u32,
-    outputs: u32,
-    slice: u32,
-) -> model::Machine {
-    let begun = machine::start(code, memory, w, inputs, outputs, slice);
+// A list after a start, whose answer is written.
+fn started(list: List, begun: machine::Begun, numbers: usize) -> List {
     let machine = begun.machine;
     let answer = begun.answer;
-    print_start(answer);
-    machine
-}
-
-// Runs a machine over what is lent, and writes the answer.
-fn run(machine: model::Machine, code: &[u8], memory: &mut [u32], budget: u64) -> model::Machine {
-    let ran = machine::run(machine, code, memory, budget);
-    let left = ran.machine;
-    let answer = ran.answer;
-    show::print_run(answer);
-    left
-}
-
-// Offers a value, and writes the answer.
-fn offer(machine: model::Machine, memory: &mut [u32], k: u32, value: u32) -> model::Machine {
-    let offered = machine::offer(machine, memory, k, value);
-    let left = offered.machine;
-    let answer = offered.answer;
-    print_offer(answer);
-    left
-}
-
-// Takes a value, and writes the answer.
-fn take(machine: model::Machine, memory: &mut [u32], k: u32) -> model::Machine {
-    let taken = machine::take(machine, memory, k);
-    let left = taken.machine;
-    let answer = taken.answer;
-    print_take(answer);
-    left
+    show::print_start(answer);
+    answered(list, machine, numbers)
 }
 
 // Call 0: other code.
 fn load_code(numbers: &[u64], list: List, code: &mut [u8]) -> List {
-    let place = list.next;
-    let from = std::num::wrapping_add_usize(place, 2);
-    let count = row(numbers, from, at(numbers, place, 1), code);
+    let bytes = lines::front(lines::rest(numbers, 2), lines::at(numbers, 1));
+    let count = lines::to_bytes(bytes, code);
     onward(
         lending(list, count, list.words),
         std::num::wrapping_add_usize(count, 2),
@@ -243,59 +92,54 @@ fn load_code(numbers: &[u64], list: List, code: &mut [u8]) -> List {
 
 // Call 1: what is lent.
 fn lend(numbers: &[u64], list: List) -> List {
-    let place = list.next;
-    let bytes = least(at(numbers, place, 1), 16640);
-    let words = least(at(numbers, place, 2), 4200);
+    let bytes = least(lines::at(numbers, 1), BYTES);
+    let words = least(lines::at(numbers, 2), WORDS);
     onward(lending(list, bytes, words), 3)
 }
 
 // Call 2: a start.
 fn call_start(numbers: &[u64], list: List, code: &[u8], memory: &mut [u32]) -> List {
-    let place = list.next;
-    let machine = start(
+    let begun = machine::start(
         code,
         memory,
-        word(numbers, place, 1),
-        word(numbers, place, 2),
-        word(numbers, place, 3),
-        word(numbers, place, 4),
+        lines::word(numbers, 1),
+        lines::word(numbers, 2),
+        lines::word(numbers, 3),
+        lines::word(numbers, 4),
     );
-    answered(list, machine, 5)
+    started(list, begun, 5)
 }
 
 // Call 4: a run.
 fn call_run(numbers: &[u64], list: List, code: &[u8], memory: &mut [u32]) -> List {
-    let place = list.next;
     let before = list.machine;
-    let machine = run(before, code, memory, at(numbers, place, 1));
+    let machine = show::run(before, code, memory, lines::at(numbers, 1));
     answered(list, machine, 2)
 }
 
 // Call 5: an offer.
 fn call_offer(numbers: &[u64], list: List, memory: &mut [u32]) -> List {
-    let place = list.next;
     let before = list.machine;
-    let machine = offer(
+    let machine = show::offer(
         before,
         memory,
-        word(numbers, place, 1),
-        word(numbers, place, 2),
+        lines::word(numbers, 1),
+        lines::word(numbers, 2),
     );
     answered(list, machine, 3)
 }
 
 // Call 6: a take.
 fn call_take(numbers: &[u64], list: List, memory: &mut [u32]) -> List {
-    let place = list.next;
     let before = list.machine;
-    let machine = take(before, memory, word(numbers, place, 1));
+    let machine = show::take(before, memory, lines::word(numbers, 1));
     answered(list, machine, 2)
 }
 
 // A call over lent code and memory.
 fn call_machine(numbers: &[u64], list: List, code: &[u8], memory: &mut [u32]) -> List {
     begin_answer(list);
-    match at(numbers, list.next, 0) {
+    match lines::at(numbers, 0) {
         2 => call_start(numbers, list, code, memory),
         4 => call_run(numbers, list, code, memory),
         5 => call_offer(numbers, list, memory),
@@ -312,18 +156,15 @@ fn start_program(
     slice: u32,
     numbers: usize,
 ) -> List {
-    let channels = std::num::wrapping_add_u32(facts.inputs, facts.outputs);
-    let w = std::num::wrapping_sub_u32(facts.words, channels);
-    let machine = start(code, memory, w, facts.inputs, facts.outputs, slice);
-    answered(lending(list, code.len(), list.words), machine, numbers)
+    let begun = show::start_program(code, memory, facts, slice);
+    started(lending(list, code.len(), list.words), begun, numbers)
 }
 
-// Writes the refusal of a table.
+// A list after the refusal of a table.
 fn refused(list: List, number: u32, place: usize, numbers: usize) -> List {
     let machine = list.machine;
-    io::write_all(1, b"refused ");
-    io::print_decimal(1, number as u64);
-    show::print(b" at ", place as u64);
+    lines::print(b"refused ", number as u64);
+    lines::print_hex(b" at ", place as u64);
     answered(list, machine, numbers)
 }
 
@@ -357,7 +198,6 @@ fn read(
     slice: u32,
     numbers: usize,
 ) -> List {
-    begin_answer(list);
     match table::read(table) {
         model::Reading::Accepted(facts) => compile(
             list,
@@ -374,18 +214,16 @@ fn read(
 
 // Call 3: a table.
 fn call_table(numbers: &[u64], list: List, code: &mut [u8], memory: &mut [u32]) -> List {
-    let mut table = [0u8; 4096];
-    let place = list.next;
-    let from = std::num::wrapping_add_usize(place, 3);
-    let count = row(numbers, from, at(numbers, place, 2), &mut table);
-    let slice = word(numbers, place, 1);
-    let end = least(count as u64, 4096);
+    let mut table = [0; lines::NUMBERS];
+    let bytes = lines::front(lines::rest(numbers, 3), lines::at(numbers, 2));
+    let count = lines::to_bytes(bytes, &mut table);
+    begin_answer(list);
     read(
         list,
-        &table[0..end],
+        &table[0..count],
         code,
         memory,
-        slice,
+        lines::word(numbers, 1),
         std::num::wrapping_add_usize(count, 3),
     )
 }
@@ -393,7 +231,7 @@ fn call_table(numbers: &[u64], list: List, code: &mut [u8], memory: &mut [u32]) 
 // A call that is lent memory.
 fn call_lent(numbers: &[u64], list: List, code: &mut [u8], memory: &mut [u32]) -> List {
     let bytes = list.bytes;
-    if at(numbers, list.next, 0) == 3 {
+    if lines::at(numbers, 0) == 3 {
         return call_table(numbers, list, code, memory);
     }
     if bytes > code.len() {
@@ -402,10 +240,10 @@ fn call_lent(numbers: &[u64], list: List, code: &mut [u8], memory: &mut [u32]) -
     call_machine(numbers, list, &code[0..bytes], memory)
 }
 
-// One call. A number that is no call ends the list.
+// One call, whose number is the first. A number that is no call ends the list.
 fn call(numbers: &[u64], list: List, code: &mut [u8], memory: &mut [u32]) -> List {
     let words = list.words;
-    let kind = at(numbers, list.next, 0);
+    let kind = lines::at(numbers, 0);
     if kind == 0 {
         return load_code(numbers, list, code);
     }
@@ -418,49 +256,12 @@ fn call(numbers: &[u64], list: List, code: &mut [u8], memory: &mut [u32]) -> Lis
     call_lent(numbers, list, code, &mut memory[0..words])
 }
 
-// A sum with a word more.
-fn added(total: u64, word: u32) -> u64 {
-    (total % 4294967296 * 31 + word as u64) % 4294967296
-}
-
-// A sum over words, in which each has its weight.
-fn sum(words: &[u32]) -> u64 {
-    let mut total = 0;
-    let mut i = 0;
-    while i < words.len() {
-        total = added(total, words[i]);
-        i += 1;
-    }
-    total
-}
-
-// Writes what a list left of the machine.
-fn print_machine(machine: model::Machine) {
-    let cpu = machine.cpu;
-    let offers = machine.offers;
-    let held = machine.held;
-    let fault = machine.fault;
-    io::write_all(1, b" / ");
-    show::print_cpu(cpu);
-    io::write_all(1, b" /");
-    show::print_offers(&held, &offers);
-    io::write_all(1, b" / ");
-    show::print_kept(fault);
-}
-
-// The machine that a refused start gives.
-fn no_machine() -> model::Machine {
-    let begun = machine::start(&[], &mut [], 0, 0, 0, 0);
-    let machine = begun.machine;
-    machine
-}
-
 // A list before its first call.
 fn begin() -> List {
     List {
-        machine: no_machine(),
+        machine: machine::blank(),
         bytes: 0,
-        words: 4200,
+        words: WORDS,
         next: 0,
         first: true,
     }
@@ -471,50 +272,33 @@ fn make_calls(numbers: &[u64], code: &mut [u8], memory: &mut [u32]) -> model::Ma
     let mut list = begin();
     let mut turns = numbers.len();
     while turns > 0 && list.next < numbers.len() {
-        list = call(numbers, list, code, memory);
+        list = call(lines::rest(numbers, list.next as u64), list, code, memory);
         turns -= 1;
     }
     let machine = list.machine;
     machine
 }
 
-// Answers a list.
+// Answers a line's list, if it has one.
 fn answer(numbers: &[u64]) {
-    let mut code = some_code();
-    let mut memory = some_memory();
+    let mut code = [0x99; BYTES];
+    let mut memory = [0; WORDS];
     if numbers.len() == 0 {
         return;
     }
-    fill(&mut memory);
+    show::fill(&mut memory);
     let machine = make_calls(numbers, &mut code, &mut memory);
-    print_machine(machine);
-    show::print(b" / ", sum(&memory));
-    io::write_all(1, b"\n");
-}
-
-// Answers a line, if it is there.
-fn answer_line(line: lines::Line, numbers: &[u64])
-    requires { ⌜ line .count ≤ length (now numbers) ⌝ }
-{
-    let count = line.count;
-    if line.there {
-        answer(&numbers[0..count]);
-    }
-}
-
-// Answers the text's lines. Nothing says that the input ends, so the loop counts its turns down, from a number that no run uses up.
-fn answer_text(characters: &mut [u8], numbers: &mut [u64]) {
-    let mut line = lines::begin();
-    let mut turns = u64::MAX;
-    while turns > 0 && line.there {
-        line = lines::next_line(characters, line, 16, numbers);
-        answer_line(line, numbers);
-        turns -= 1;
-    }
+    show::print_machine(machine, false);
+    lines::print_hex(b" / ", show::sum(&memory));
+    lines::write(b"\n");
 }
 
 fn main() {
-    let mut characters = io::large_buffer();
-    let mut numbers = [0u64; 4096];
-    answer_text(&mut characters, &mut numbers);
+    let mut characters = [0; lines::CHARACTERS];
+    let mut numbers = [0; lines::NUMBERS];
+    let mut line = lines::begin(16);
+    while line.left > 0 {
+        line = lines::next_line(line, &mut characters, &mut numbers);
+        answer(lines::row(line, &numbers));
+    }
 }

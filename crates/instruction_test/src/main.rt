@@ -2,44 +2,25 @@
 use instruction::codes;
 ghost use Prim.Native.Nat.{_≤_};
 
-// Writes a byte behind a space.
-fn print_byte(byte: u8) {
-    io::write_all(1, b" ");
-    io::print_hex(1, byte as u64, 2);
-}
-
-// Writes some bytes.
-fn print_bytes(bytes: &[u8]) {
-    let mut i = 0;
-    while i < bytes.len() {
-        print_byte(bytes[i]);
-        i += 1;
-    }
-}
-
 // Writes a function, an operand and the place after the instruction.
 fn print_instruction(function: u8, operand: u32, next: usize) {
-    io::print_hex(1, function as u64, 1);
-    io::write_all(1, b" ");
-    io::print_hex(1, operand as u64, 8);
-    io::write_all(1, b" to ");
-    io::print_decimal(1, next as u64);
+    lines::print_hex(b"", function as u64);
+    lines::print_word(b" ", operand as u64);
+    lines::print(b" to ", next as u64);
 }
 
 // Writes what decoding from a place answers.
 fn print_decoded(code: &[u8], from: usize) {
-    io::write_all(1, b" -> ");
+    lines::write(b" -> ");
     match instruction::decode(code, from) {
         instruction::Decoded::Instruction(function, operand, next) => print_instruction(
             function,
             operand,
             next,
         ),
-        instruction::Decoded::Nothing => {
-            io::write_all(1, b"nothing");
-        }
+        instruction::Decoded::Nothing => lines::write(b"nothing"),
     }
-    io::write_all(1, b"\n");
+    lines::write(b"\n");
 }
 
 // An instruction at the place 2, with so many prefixes.
@@ -48,9 +29,9 @@ fn print_coded(function: u8, count: u32, operand: u32)
 {
     let mut code = [0xeeu8; 16];
     instruction::put_instruction(&mut code, 2, count, function, operand);
-    io::print_hex(1, operand as u64, 8);
+    lines::print_word(b"", operand as u64);
     let end = 3 + count as usize;
-    print_bytes(&code[2..end]);
+    lines::print_bytes(b" ", &code[2..end]);
     print_decoded(&code, 2);
 }
 
@@ -150,27 +131,20 @@ fn operations() {
 
 // Each direct function, with the operand 5.
 fn direct() {
-    let functions: [u8; 9] = [
-        codes::J,
-        codes::LDLP,
-        codes::LDC,
-        codes::LDL,
-        codes::CJ,
-        codes::AJW,
-        codes::EQC,
-        codes::STL,
-        codes::OPR,
-    ];
-    let mut i = 0;
-    while i < 9 {
-        print_coded(functions[i], 0, 5);
-        i += 1;
-    }
+    print_coded(codes::J, 0, 5);
+    print_coded(codes::LDLP, 0, 5);
+    print_coded(codes::LDC, 0, 5);
+    print_coded(codes::LDL, 0, 5);
+    print_coded(codes::CJ, 0, 5);
+    print_coded(codes::AJW, 0, 5);
+    print_coded(codes::EQC, 0, 5);
+    print_coded(codes::STL, 0, 5);
+    print_coded(codes::OPR, 0, 5);
 }
 
 // Writes code and what decoding from a place answers.
 fn print_code(code: &[u8], from: usize) {
-    print_bytes(code);
+    lines::print_bytes(b" ", code);
     print_decoded(code, from);
 }
 
@@ -201,8 +175,8 @@ fn outside() {
     print_code(&code, 0);
     instruction::put_instruction(&mut code, 4294967295, 3, codes::LDC, 0x754);
     print_code(&code, 0);
-    io::print_hex(1, word::plus(4294967294, 5) as u64, 8);
-    io::write_all(1, b"\n");
+    lines::print_word(b"", word::plus(4294967294, 5) as u64);
+    lines::write(b"\n");
 }
 
 fn main() {

@@ -2,15 +2,15 @@
 //
 // Lent are the first bytes of some code and the first words of a memory of 4,100 words, all of them 7 before. An answer is document 01's
 // number, 11 with the size needed, or `started` with what the machine keeps of the start. The whole memory follows, as runs of equal words.
-ghost use mathlib.Core.Path.{_≡_};
+use lines::print;
 ghost use Prim.Native.Nat.{_<_, _≤_};
 ghost use lib.ListN.{length};
 
-// Writes a number behind its name.
-fn print(name: &[u8], number: u64) {
-    io::write_all(1, name);
-    io::print_decimal(1, number);
-}
+// The code's room: a byte longer than a start takes.
+const BYTES: usize = model::limits::CODE + 1;
+
+// The memory's words: more than a start needs.
+const WORDS: usize = model::limits::MEMORY + 4;
 
 // The place from which on words differ from the one at a place, or the end.
 fn same_until(memory: &[u32], from: usize) -> usize
@@ -81,21 +81,7 @@ fn print_case(case: Case) {
     print(b" ", case.inputs as u64);
     print(b" ", case.outputs as u64);
     print(b" ", case.slice as u64);
-    io::write_all(1, b": ");
-}
-
-// Code, a byte longer than a start takes.
-fn some_code() -> [u8; 16385]
-    ensures { λ r. ⌜ 16385 ≡ length r ⌝ }
-{
-    [0; 16385]
-}
-
-// A memory, longer than a start needs.
-fn some_memory() -> [u32; 4100]
-    ensures { λ r. ⌜ 4100 ≡ length r ⌝ }
-{
-    [7; 4100]
+    lines::write(b": ");
 }
 
 // Starts a machine over the first bytes and the first words, and writes the answer.
@@ -130,12 +116,12 @@ fn start(code: usize, memory: usize, w: u32, inputs: u32, outputs: u32, slice: u
         outputs: outputs,
         slice: slice,
     };
-    let bytes = some_code();
-    let mut words = some_memory();
+    let bytes = [0; BYTES];
+    let mut words = [7; WORDS];
     print_case(case);
     answer(&bytes, &mut words, case);
     print_runs(&words);
-    io::write_all(1, b"\n");
+    lines::write(b"\n");
 }
 
 // The slice: 1 to 65,535.

@@ -9,86 +9,66 @@
 //
 // A line of the output has the answer (11 with the size needed), the registers and the setup in the order of the input, the held offers
 // as input=value, the kept fault, and as address=value the words lent that are no longer what they were. Numbers are hexadecimal.
-ghost use Prim.Native.Nat.{_≤_};
-ghost use mathlib.Core.Path.{_≡_};
-ghost use lib.ListN.{length};
 
-// A number of a case, or 0 where the line has no more.
-fn at(numbers: &[u64], i: usize) -> u64 {
-    if i < numbers.len() {
-        return numbers[i];
-    }
-    0
-}
+// The most words that a case is lent.
+const WORDS: usize = 4200;
 
-// A number's low word.
-fn low(number: u64) -> u32 {
-    (number % 4294967296) as u32
-}
-
-// A number of a case that is a word.
-fn word(numbers: &[u64], i: usize) -> u32 {
-    low(at(numbers, i))
-}
-
-// A number of a case that is a flag.
-fn flag(numbers: &[u64], i: usize) -> bool {
-    at(numbers, i) != 0
-}
+// The most bytes of its code.
+const BYTES: usize = 512;
 
 // The registers of a case.
 fn cpu(numbers: &[u64]) -> model::Cpu {
     model::Cpu {
-        front: word(numbers, 0),
-        back: word(numbers, 1),
-        operand: word(numbers, 2),
-        a: word(numbers, 3),
-        b: word(numbers, 4),
-        c: word(numbers, 5),
-        workspace: word(numbers, 6),
-        count: word(numbers, 7),
-        place: word(numbers, 8),
-        running: flag(numbers, 9),
-        queued: flag(numbers, 10),
+        front: lines::word(numbers, 0),
+        back: lines::word(numbers, 1),
+        operand: lines::word(numbers, 2),
+        a: lines::word(numbers, 3),
+        b: lines::word(numbers, 4),
+        c: lines::word(numbers, 5),
+        workspace: lines::word(numbers, 6),
+        count: lines::word(numbers, 7),
+        place: lines::word(numbers, 8),
+        running: lines::flag(numbers, 9),
+        queued: lines::flag(numbers, 10),
     }
 }
 
 // What a start would have fixed.
 fn setup(numbers: &[u64]) -> model::Setup {
     model::Setup {
-        code: word(numbers, 11),
-        base: word(numbers, 12),
-        inputs: word(numbers, 13),
-        outputs: word(numbers, 14),
-        slice: word(numbers, 15),
+        code: lines::word(numbers, 11),
+        base: lines::word(numbers, 12),
+        inputs: lines::word(numbers, 13),
+        outputs: lines::word(numbers, 14),
+        slice: lines::word(numbers, 15),
     }
 }
 
 // The offers of a case.
 fn offers(numbers: &[u64]) -> [u32; 8] {
     [
-        word(numbers, 16),
-        word(numbers, 17),
-        word(numbers, 18),
-        word(numbers, 19),
-        word(numbers, 20),
-        word(numbers, 21),
-        word(numbers, 22),
-        word(numbers, 23),
+        lines::word(numbers, 16),
+        lines::word(numbers, 17),
+        lines::word(numbers, 18),
+        lines::word(numbers, 19),
+        lines::word(numbers, 20),
+        lines::word(numbers, 21),
+        lines::word(numbers, 22),
+        lines::word(numbers, 23),
     ]
 }
 
 // Which offers are held.
 fn held(numbers: &[u64]) -> [bool; 8] {
     [
-        flag(numbers, 24),
-        flag(numbers, 25),
-        flag(numbers, 26),
-        flag(numbers, 27),
-        flag(numbers, 28),
-        flag(numbers, 29),
-        flag(numbers, 30),
-        flag(numbers, 31),
+        lines::flag(numbers, 24),
+        lines::flag(numbers, 25),
+        lines::flag(numbers, 26),
+        lines::flag(numbers, 27),
+        lines::flag(numbers, 28),
+        lines::flag(numbers, 29),
+        lines::flag(numbers, 30),
+        lines::flag(numbers, 31),
     ]
 }
 
@@ -111,32 +91,7 @@ fn machine(numbers: &[u64]) -> model::Machine {
         setup: setup(numbers),
         offers: offers(numbers),
         held: held(numbers),
-        fault: kept(at(numbers, 32), word(numbers, 33)),
-    }
-}
-
-// Room for a case's code.
-fn some_code() -> [u8; 512]
-    ensures { λ r. ⌜ 512 ≡ length r ⌝ }
-{
-    [0; 512]
-}
-
-// Room for a case's memory.
-fn some_memory() -> [u32; 4200]
-    ensures { λ r. ⌜ 4200 ≡ length r ⌝ }
-{
-    [0; 4200]
-}
-
-// What words hold if a case does not name them.
-fn fill(words: &mut [u32]) {
-    let mut value = 0x7700;
-    let mut i = 0;
-    while i < words.len() {
-        words[i] = value;
-        value = std::num::wrapping_add_u32(value, 1);
-        i += 1;
+        fault: kept(lines::at(numbers, 32), lines::word(numbers, 33)),
     }
 }
 
@@ -151,7 +106,7 @@ fn store(words: &mut [u32], address: u64, value: u32) {
 // A word that a case names, if the number at a place is its value: addresses and values come in turn.
 fn store_pair(numbers: &[u64], words: &mut [u32], i: usize) {
     if i % 2 == 1 {
-        store(words, at(numbers, i - 1), word(numbers, i));
+        store(words, lines::at(numbers, i - 1), lines::word(numbers, i));
     }
 }
 
@@ -164,35 +119,10 @@ fn load_words(numbers: &[u64], words: &mut [u32]) {
     }
 }
 
-// Writes what the start would have fixed.
-fn print_setup(setup: model::Setup) {
-    show::print(b" / ", setup.code as u64);
-    show::print(b" ", setup.base as u64);
-    show::print(b" ", setup.inputs as u64);
-    show::print(b" ", setup.outputs as u64);
-    show::print(b" ", setup.slice as u64);
-    io::write_all(1, b" /");
-}
-
-// Writes the kept fault, between its marks.
-fn print_fault(fault: model::Kept) {
-    io::write_all(1, b" / ");
-    show::print_kept(fault);
-    io::write_all(1, b" /");
-}
-
-// Writes what a run left of the machine.
-fn print_machine(machine: model::Machine) {
-    let cpu = machine.cpu;
-    let setup = machine.setup;
-    let offers = machine.offers;
-    let held = machine.held;
-    let fault = machine.fault;
-    io::write_all(1, b" / ");
-    show::print_cpu(cpu);
-    print_setup(setup);
-    show::print_offers(&held, &offers);
-    print_fault(fault);
+// The words that a case is lent: those that it names, and what the others hold.
+fn load(named: &[u64], words: &mut [u32]) {
+    show::fill(words);
+    load_words(named, words);
 }
 
 // Writes a word, if it is no longer what it was.
@@ -213,13 +143,11 @@ fn print_changes(before: &[u32], after: &[u32]) {
 
 // Runs a case, and writes its line. `before` and `memory` are the same words.
 fn run(numbers: &[u64], code: &[u8], before: &[u32], memory: &mut [u32]) {
-    let ran = machine::run(machine(numbers), code, memory, at(numbers, 34));
-    let left = ran.machine;
-    let answer = ran.answer;
-    show::print_run(answer);
-    print_machine(left);
+    let left = show::run(machine(numbers), code, memory, lines::at(numbers, 34));
+    show::print_machine(left, true);
+    lines::write(b" /");
     print_changes(before, memory);
-    io::write_all(1, b"\n");
+    lines::write(b"\n");
 }
 
 // Puts the words of a case into both memories, and runs it.
@@ -230,73 +158,50 @@ fn load_and_run(
     before: &mut [u32],
     memory: &mut [u32],
 ) {
-    fill(before);
-    load_words(named, before);
-    fill(memory);
-    load_words(named, memory);
+    load(named, before);
+    load(named, memory);
     run(numbers, code, before, memory);
 }
 
 // Lends a case its code and its memory. The numbers that are code and those that name words are given apart.
 fn lend(numbers: &[u64], codes: &[u64], named: &[u64], words: usize) {
-    let mut code = some_code();
-    let mut before = some_memory();
-    let mut memory = some_memory();
-    let length = codes.len();
-    if length > 512 {
+    let mut code = [0; BYTES];
+    let mut before = [0; WORDS];
+    let mut memory = [0; WORDS];
+    let end = lines::to_bytes(codes, &mut code);
+    if words > WORDS || codes.len() > BYTES {
         return;
     }
-    if words > 4200 {
-        return;
-    }
-    lines::to_bytes(codes, &mut code);
     load_and_run(
         numbers,
-        &code[0..length],
+        &code[0..end],
         named,
         &mut before[0..words],
         &mut memory[0..words],
     );
 }
 
-// Answers a case: finds its code's bytes and the words that it names.
+// Answers a line's case, if it has one: finds its code's bytes and the words that it names.
 fn answer(numbers: &[u64]) {
-    if numbers.len() < 37 {
+    if numbers.len() == 0 {
         return;
     }
-    let words = at(numbers, 35);
-    let length = at(numbers, 36);
-    let rest = &numbers[37..];
-    if length > rest.len() as u64 {
-        return;
-    }
-    let end = length as usize;
-    lend(numbers, &rest[0..end], &rest[end..], words as usize);
-}
-
-// Answers a line, if it is there.
-fn answer_line(line: lines::Line, numbers: &[u64])
-    requires { ⌜ line .count ≤ length (now numbers) ⌝ }
-{
-    let count = line.count;
-    if line.there {
-        answer(&numbers[0..count]);
-    }
-}
-
-// Answers the text's lines. Nothing says that the input ends, so the loop counts its turns down, from a number that no run uses up.
-fn answer_text(characters: &mut [u8], numbers: &mut [u64]) {
-    let mut line = lines::begin();
-    let mut turns = u64::MAX;
-    while turns > 0 && line.there {
-        line = lines::next_line(characters, line, 16, numbers);
-        answer_line(line, numbers);
-        turns -= 1;
-    }
+    let length = lines::at(numbers, 36);
+    let rest = lines::rest(numbers, 37);
+    lend(
+        numbers,
+        lines::front(rest, length),
+        lines::rest(rest, length),
+        lines::at(numbers, 35) as usize,
+    );
 }
 
 fn main() {
-    let mut characters = io::large_buffer();
-    let mut numbers = [0u64; 1024];
-    answer_text(&mut characters, &mut numbers);
+    let mut characters = [0; lines::CHARACTERS];
+    let mut numbers = [0; lines::NUMBERS];
+    let mut line = lines::begin(16);
+    while line.left > 0 {
+        line = lines::next_line(line, &mut characters, &mut numbers);
+        answer(lines::row(line, &numbers));
+    }
 }

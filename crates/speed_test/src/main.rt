@@ -4,43 +4,7 @@
 // Each code is the compiler's for the Occam told above it. A line of the byte string has the instructions of the comment's line; 20, 60 and
 // their like are prefixes.
 
-// Writes a number behind its name.
-fn print(name: &[u8], number: u64) {
-    io::write_all(1, name);
-    io::print_decimal(1, number);
-}
-
-// Writes what was at fault.
-fn print_fault(fault: model::FaultKind) {
-    match fault {
-        model::FaultKind::Function(n) => print(b" function ", n as u64),
-        model::FaultKind::Operation(n) => print(b" operation ", n as u64),
-        model::FaultKind::Count(n) => print(b" count ", n as u64),
-        model::FaultKind::Word(n) => print(b" word ", n as u64),
-        model::FaultKind::Place(n) => print(b" place ", n as u64),
-    }
-}
-
-// Writes how a run stood, with its instructions.
-fn print_outcome(outcome: model::Outcome) {
-    match outcome {
-        model::Outcome::Ended(n) => print(b" ended ", n),
-        model::Outcome::Waiting(n) => print(b" waiting ", n),
-        model::Outcome::Spent(n) => print(b" spent ", n),
-        model::Outcome::Fault(n, k) => {
-            print(b" fault ", n);
-            print_fault(k);
-        }
-    }
-}
-
-// Writes a run's answer.
-fn print_answer(answer: model::RunAnswer) {
-    match answer {
-        model::RunAnswer::Ran(outcome) => print_outcome(outcome),
-        model::RunAnswer::Short(size) => print(b" 11 ", size),
-    }
-}
+use lines::print;
 
 // Writes a word.
 fn print_word(word: u32) {
@@ -59,13 +23,14 @@ fn print_words(memory: &[u32]) {
 // Starts a machine over a code with W = 20 and no outside channels, runs it, and writes the answer and the memory.
 fn measure(name: &[u8], code: &[u8]) {
     let mut memory = [0; 20];
-    let begun = machine::start(code, &mut memory, 20, 0, 0, 32);
-    let ran = machine::run(begun.machine, code, &mut memory, 10000000);
-    let answer = ran.answer;
-    io::write_all(1, name);
-    print_answer(answer);
+    let begun = machine::start(code, &mut memory, 20, 0, 0, model::limits::BENCH_SLICE);
+    let course = show::go_on(show::begin(begun.machine), code, &mut memory, 10000000);
+    lines::write(name);
+    lines::write(b" ");
+    show::print_kind(course.kind);
+    print(b" ", course.total);
     print_words(&memory);
-    io::write_all(1, b"\n");
+    lines::write(b"\n");
 }
 
 // Arithmetic and jumps alone. VAR i, s:

@@ -4,28 +4,23 @@
 // A line of the text is one table in hexadecimal, two digits to a byte; what is no digit stands between bytes. '#' begins a comment
 // up to the end of the line. A line that begins with '#' is no table; any other without a digit is the empty table. A table is
 // answered at its line's end, so the last line has one too.
-ghost use Prim.Native.Nat.{_≤_};
-ghost use mathlib.Core.Path.{_≡_};
-ghost use lib.ListN.{length};
+use lines::print;
+use lines::write;
 
-// Writes a number behind its name.
-fn print(name: &[u8], number: u64) {
-    io::write_all(1, name);
-    io::print_decimal(1, number);
-}
+// A byte that no code has: there is no direct function 9. The lent buffers are of these, as long as the longest code.
+const BLANK: u8 = 0x99;
 
 // Writes that a promise is broken, and which. No run should come here.
 fn wrong(what: &[u8]) {
-    io::write_all(1, b"wrong ");
-    io::write_all(1, what);
-    io::write_all(1, b"\n");
+    write(b"wrong ");
+    write(what);
+    write(b"\n");
 }
 
-// Writes a refusal.
+// Writes a refusal's line.
 fn print_refusal(number: u32, place: usize) {
-    print(b"refused ", number as u64);
-    print(b" at ", place as u64);
-    io::write_all(1, b"\n");
+    lines::print_refusal(number, place);
+    write(b"\n");
 }
 
 // Writes what the reader says of an accepted table.
@@ -34,65 +29,24 @@ fn print_facts(facts: model::Facts) {
     print(b" in ", facts.inputs as u64);
     print(b" out ", facts.outputs as u64);
     print(b" processes ", facts.processes as u64);
-    io::write_all(1, b"\n");
-}
-
-// Writes a byte as two digits.
-fn print_byte(byte: u8) {
-    io::print_hex(1, byte as u64, 2);
-}
-
-// Writes bytes, two digits for each.
-fn print_bytes(bytes: &[u8]) {
-    let mut i = 0;
-    while i < bytes.len() {
-        print_byte(bytes[i]);
-        i += 1;
-    }
+    write(b"\n");
 }
 
 // Writes a table's code.
 fn print_code(code: &[u8]) {
-    io::write_all(1, b"code");
+    write(b"code");
     if code.len() > 0 {
-        io::write_all(1, b" ");
+        write(b" ");
     }
-    print_bytes(code);
-    io::write_all(1, b"\n");
-}
-
-// A buffer as it is lent, as long as the longest code. No code has its byte: there is no direct function 9.
-fn blank() -> [u8; 16384]
-    ensures { λ r. ⌜ 16384 ≡ length r ⌝ }
-{
-    [0x99; 16384]
+    lines::print_bytes(b"", code);
+    write(b"\n");
 }
 
 // Whether all bytes are as they were lent.
 fn is_blank(bytes: &[u8]) -> bool {
-    let mut i = 0;
-    while i < bytes.len() {
-        if bytes[i] != 0x99 {
-            return false;
-        }
-        i += 1;
-    }
-    true
-}
-
-// Whether two rows have the same bytes.
-fn same(left: &[u8], right: &[u8]) -> bool {
-    if left.len() != right.len() {
-        return false;
-    }
-    let mut i = 0;
-    while i < left.len() {
-        if left[i] != right[i] {
-            return false;
-        }
-        i += 1;
-    }
-    true
+    let blank = [BLANK; model::limits::CODE];
+    let length = bytes.len();
+    length <= model::limits::CODE && check::same(bytes, &blank[0..length])
 }
 
 // Whether a table is refused so, and every byte of the lent buffer is kept.
@@ -106,7 +60,7 @@ fn is_refused(table: &[u8], lent: &mut [u8], number: u32, place: usize) -> bool 
 // Whether a table is compiled into that code, and the lent buffer is just long enough for it.
 fn is_compiled(table: &[u8], lent: &mut [u8], code: &[u8]) -> bool {
     match compiler::compile_into(table, lent) {
-        model::Compiled::Code(length) => length == code.len() && same(code, lent),
+        model::Compiled::Code(length) => length == code.len() && check::same(code, lent),
         model::Compiled::Refused(_, _) => false,
     }
 }
@@ -142,7 +96,7 @@ fn answer_code(table: &[u8], buffer: &[u8], length: usize) {
         wrong(b"length");
         return;
     }
-    let mut other = blank();
+    let mut other = [BLANK; model::limits::CODE];
     print_code(&buffer[0..length]);
     if !is_blank(&buffer[length..]) {
         wrong(b"rest");
@@ -164,7 +118,7 @@ fn answer_uncompiled(table: &[u8], buffer: &[u8], number: u32, place: usize) {
 
 // Compiles an accepted table, and writes its code or the refusal.
 fn answer_accepted(table: &[u8]) {
-    let mut buffer = blank();
+    let mut buffer = [BLANK; model::limits::CODE];
     match compiler::compile_into(table, &mut buffer) {
         model::Compiled::Code(length) => answer_code(table, &buffer, length),
         model::Compiled::Refused(number, place) => answer_uncompiled(table, &buffer, number, place),
@@ -173,7 +127,7 @@ fn answer_accepted(table: &[u8]) {
 
 // Writes the reader's refusal, which is the compiler's too.
 fn answer_refused(table: &[u8], number: u32, place: usize) {
-    let mut buffer = blank();
+    let mut buffer = [BLANK; model::limits::CODE];
     print_refusal(number, place);
     if !is_refused(table, &mut buffer, number, place) {
         wrong(b"refusal");
@@ -192,33 +146,20 @@ fn answer(table: &[u8]) {
 }
 
 // Answers a line's table, if it has one: a line that is all comment has none, any other without a number has the empty table.
-fn answer_line(line: lines::Line, numbers: &[u64], table: &mut [u8])
-    requires { ⌜ line .count ≤ length (now numbers) ⌝ }
-{
-    let count = line.count;
-    if !line.there || line.remark {
-        return;
-    }
-    lines::to_bytes(&numbers[0..count], table);
-    if count <= table.len() {
-        answer(&table[0..count]);
-    }
-}
-
-// Answers the text's lines. Nothing says that the input ends, so the loop counts its turns down, from a number that no run uses up.
-fn answer_text(characters: &mut [u8], numbers: &mut [u64], table: &mut [u8]) {
-    let mut line = lines::begin();
-    let mut turns = u64::MAX;
-    while turns > 0 && line.there {
-        line = lines::next_line(characters, line, 2, numbers);
-        answer_line(line, numbers, table);
-        turns -= 1;
+fn answer_line(line: lines::Line, numbers: &[u64]) {
+    let mut table = [0; lines::NUMBERS];
+    let end = lines::to_bytes(numbers, &mut table);
+    if !line.remark {
+        answer(&table[0..end]);
     }
 }
 
 fn main() {
-    let mut characters = io::large_buffer();
-    let mut numbers = [0u64; 32768];
-    let mut table = [0u8; 32768];
-    answer_text(&mut characters, &mut numbers, &mut table);
+    let mut characters = [0; lines::CHARACTERS];
+    let mut numbers = [0; lines::NUMBERS];
+    let mut line = lines::begin(2);
+    while line.left > 0 {
+        line = lines::next_line(line, &mut characters, &mut numbers);
+        answer_line(line, lines::row(line, &numbers));
+    }
 }

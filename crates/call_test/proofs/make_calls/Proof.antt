@@ -5,20 +5,15 @@ use lib.ListN.{length}
 use Rattle.call_test.proofs.make_calls.Statement.{statement}
 use Rattle.call_test.proofs.make_calls.Tie as tie
 
-abbrev Inv-loop : tie.InvT-loop
-Inv-loop numbers code₀ memory₀ list₀ turns₀ code memory list turns = (length code ≡ length code₀) × (length memory ≡ length memory₀)
-
-abbrev μ-loop : tie.MeasureT-loop
-μ-loop numbers code₀ memory₀ list₀ turns₀ code memory list turns = turns
-
 pub make-calls-spec : {M : Type 1} → statement M
 make-calls-spec =
     tie.close
     (tie.spec
-    Inv-loop
-    μ-loop
+    (λ numbers code₀ memory₀ list₀ turns₀ code memory list turns. (length code ≡ length code₀) × (length memory ≡ length memory₀))
+    (λ numbers code₀ memory₀ list₀ turns₀ code memory list turns. turns)
     (λ c κs. search needs)
     (λ c. search needs)
+    (λ c κs. search needs)
     (λ c κs. search needs)
     (λ c. search needs)
     (λ c. search needs)

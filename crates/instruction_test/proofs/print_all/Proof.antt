@@ -5,18 +5,12 @@ use lib.ListN.{length}
 use Rattle.instruction_test.proofs.print_all.Statement.{statement}
 use Rattle.instruction_test.proofs.print_all.Tie as tie
 
-abbrev Inv-loop : tie.InvT-loop
-Inv-loop function distance operands i₀ i = i ≤ length operands
-
-abbrev μ-loop : tie.MeasureT-loop
-μ-loop function distance operands i₀ i = length operands - i
-
 pub print-all-spec : {M : Type 1} → statement M
 print-all-spec =
     tie.close
     (tie.spec
-    Inv-loop
-    μ-loop
+    (λ function distance operands i₀ i. i ≤ length operands)
+    (λ function distance operands i₀ i. length operands - i)
     (λ c. search needs)
     (λ c. search needs)
     (λ c. search needs)

@@ -5,18 +5,12 @@ use lib.ListN.{length}
 use Rattle.machine_test.proofs.print_runs.Statement.{statement}
 use Rattle.machine_test.proofs.print_runs.Tie as tie
 
-abbrev Inv-loop : tie.InvT-loop
-Inv-loop memory i₀ i = i ≤ length memory
-
-abbrev μ-loop : tie.MeasureT-loop
-μ-loop memory i₀ i = length memory - i
-
 pub print-runs-spec : {M : Type 1} → statement M
 print-runs-spec =
     tie.close
     (tie.spec
-    Inv-loop
-    μ-loop
+    (λ memory i₀ i. i ≤ length memory)
+    (λ memory i₀ i. length memory - i)
     (λ c. search needs)
     (λ c κs. search needs)
     (λ c. search needs)

@@ -5,18 +5,12 @@ use lib.ListN.{length}
 use Rattle.machine_test.proofs.same_until.Statement.{statement}
 use Rattle.machine_test.proofs.same_until.Tie as tie
 
-abbrev Inv-loop : tie.InvT-loop
-Inv-loop memory from i₀ i = (from < i) × (i ≤ length memory)
-
-abbrev μ-loop : tie.MeasureT-loop
-μ-loop memory from i₀ i = length memory - i
-
 pub same-until-spec : {M : Type 1} → statement M
 same-until-spec =
     tie.close
     (tie.spec
-    Inv-loop
-    μ-loop
+    (λ memory from i₀ i. (from < i) × (i ≤ length memory))
+    (λ memory from i₀ i. length memory - i)
     (λ c. search needs)
     (λ c. search needs)
     (λ c. search needs)

@@ -5,18 +5,12 @@ use lib.ListN.{length}
 use Rattle.program_test.proofs.is_kept.Statement.{statement}
 use Rattle.program_test.proofs.is_kept.Tie as tie
 
-abbrev Inv-loop : tie.InvT-loop
-Inv-loop words i₀ i = i ≤ length words
-
-abbrev μ-loop : tie.MeasureT-loop
-μ-loop words i₀ i = length words - i
-
 pub is-kept-spec : {M : Type 1} → statement M
 is-kept-spec =
     tie.close
     (tie.spec
-    Inv-loop
-    μ-loop
+    (λ words i₀ i. i ≤ length words)
+    (λ words i₀ i. length words - i)
     (λ c. search needs)
     (λ c. search needs)
     (λ c. search needs)

@@ -5,18 +5,12 @@ use lib.ListN.{length}
 use Rattle.program_test.proofs.run_by_steps.Statement.{statement}
 use Rattle.program_test.proofs.run_by_steps.Tie as tie
 
-abbrev Inv-loop : tie.InvT-loop
-Inv-loop code memory₀ course₀ turns₀ memory course turns = length memory ≡ length memory₀
-
-abbrev μ-loop : tie.MeasureT-loop
-μ-loop code memory₀ course₀ turns₀ memory course turns = turns
-
 pub run-by-steps-spec : {M : Type 1} → statement M
 run-by-steps-spec =
     tie.close
     (tie.spec
-    Inv-loop
-    μ-loop
+    (λ code memory₀ course₀ turns₀ memory course turns. length memory ≡ length memory₀)
+    (λ code memory₀ course₀ turns₀ memory course turns. turns)
     (λ c κs. search needs)
     (λ c. search needs)
     (λ c κs. search needs)

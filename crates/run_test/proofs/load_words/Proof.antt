@@ -6,18 +6,12 @@ use lib.ListN.{length}
 use Rattle.run_test.proofs.load_words.Statement.{statement}
 use Rattle.run_test.proofs.load_words.Tie as tie
 
-abbrev Inv-loop : tie.InvT-loop
-Inv-loop numbers words₀ i₀ words i = (i ≤ length numbers) × (length words ≡ length words₀)
-
-abbrev μ-loop : tie.MeasureT-loop
-μ-loop numbers words₀ i₀ words i = length numbers - i
-
 pub load-words-spec : {M : Type 1} → statement M
 load-words-spec =
     tie.close
     (tie.spec
-    Inv-loop
-    μ-loop
+    (λ numbers words₀ i₀ words i. (i ≤ length numbers) × (length words ≡ length words₀))
+    (λ numbers words₀ i₀ words i. length numbers - i)
     (λ c. search needs)
     (λ c κs. search needs)
     (λ c. search needs)

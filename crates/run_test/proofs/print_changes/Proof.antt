@@ -5,18 +5,12 @@ use lib.ListN.{length}
 use Rattle.run_test.proofs.print_changes.Statement.{statement}
 use Rattle.run_test.proofs.print_changes.Tie as tie
 
-abbrev Inv-loop : tie.InvT-loop
-Inv-loop before after i₀ i = i ≤ length before
-
-abbrev μ-loop : tie.MeasureT-loop
-μ-loop before after i₀ i = length before - i
-
 pub print-changes-spec : {M : Type 1} → statement M
 print-changes-spec =
     tie.close
     (tie.spec
-    Inv-loop
-    μ-loop
+    (λ before after i₀ i. i ≤ length before)
+    (λ before after i₀ i. length before - i)
     (λ c. search needs)
     (λ c. search needs)
     (λ c. search needs)

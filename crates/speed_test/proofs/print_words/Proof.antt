@@ -5,18 +5,12 @@ use lib.ListN.{length}
 use Rattle.speed_test.proofs.print_words.Statement.{statement}
 use Rattle.speed_test.proofs.print_words.Tie as tie
 
-abbrev Inv-loop : tie.InvT-loop
-Inv-loop memory i₀ i = i ≤ length memory
-
-abbrev μ-loop : tie.MeasureT-loop
-μ-loop memory i₀ i = length memory - i
-
 pub print-words-spec : {M : Type 1} → statement M
 print-words-spec =
     tie.close
     (tie.spec
-    Inv-loop
-    μ-loop
+    (λ memory i₀ i. i ≤ length memory)
+    (λ memory i₀ i. length memory - i)
     (λ c. search needs)
     (λ c. search needs)
     (λ c. search needs)
