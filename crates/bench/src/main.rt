@@ -2,21 +2,12 @@
 //
 // What fails outside is said on standard error, in one line. A program of this language has no exit status, so no more can be told: a
 // caller that has to know looks at standard error.
-ghost use mathlib.Core.Path.{_≡_};
-ghost use lib.ListN.{length};
 ghost use Rattle.bench.specs.Inputs.{Within};
 
 // What reading found: so many bytes at the front of the room, or a read that failed.
 enum Input {
     Bytes(usize),
     Failed,
-}
-
-// Room for the longest table and one byte more, so that a longer input is refused and not cut off.
-fn table_room() -> [u8; 16385]
-    ensures { λ r. ⌜ 16385 ≡ length r ⌝ }
-{
-    [0; 16385]
 }
 
 // Reads until the input ends or the room is full. A read may bring only a part, as from a pipe.
@@ -44,8 +35,9 @@ fn say(line: &[u8]) {
     io::write_all(libc::STDERR_FILENO, line);
 }
 
+// Lends room for the longest table and one byte more, so that a longer input is refused and not cut off.
 fn main() {
-    let mut table = table_room();
+    let mut table = [0; model::limits::TABLE + 1];
     match read_table(&mut table) {
         Input::Bytes(n) => {
             if !console::print_report(&table[..n]) {

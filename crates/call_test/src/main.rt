@@ -15,7 +15,6 @@
 // place, 11 with the size needed; 12 is `fault` and what was at fault, in a run behind the instructions executed. Then come the registers
 // in the order of model::Cpu, the held offers as input=value, the kept fault, and a sum over the memory's 4,200 words. Numbers are
 // hexadecimal, but for those of refusals.
-ghost use Prim.Native.Nat.{_≤_};
 
 // The code's room: longer than any code and than a start takes.
 const BYTES: usize = model::limits::CODE + 256;
@@ -30,16 +29,6 @@ struct List {
     words: usize,
     next: usize,
     first: bool,
-}
-
-// The lesser of a number and a length.
-fn least(number: u64, length: usize) -> usize
-    ensures { λ r. ⌜ r ≤ length ⌝ }
-{
-    if number < length as u64 {
-        return number as usize;
-    }
-    length
 }
 
 // Begins an answer: one after the first stands behind a comma.
@@ -92,8 +81,8 @@ fn load_code(numbers: &[u64], list: List, code: &mut [u8]) -> List {
 
 // Call 1: what is lent.
 fn lend(numbers: &[u64], list: List) -> List {
-    let bytes = least(lines::at(numbers, 1), BYTES);
-    let words = least(lines::at(numbers, 2), WORDS);
+    let bytes = lines::least(lines::at(numbers, 1), BYTES);
+    let words = lines::least(lines::at(numbers, 2), WORDS);
     onward(lending(list, bytes, words), 3)
 }
 

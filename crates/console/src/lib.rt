@@ -1,21 +1,5 @@
 // The report of a table, written to standard output: for the bench program and for tests of it.
-ghost use mathlib.Core.Path.{_≡_};
 ghost use Prim.Native.Nat.{_≤_};
-ghost use lib.ListN.{length};
-
-// Room for the longest code.
-fn code_room() -> [u8; 16384]
-    ensures { λ r. ⌜ 16384 ≡ length r ⌝ }
-{
-    [0; 16384]
-}
-
-// Room for the largest memory.
-fn memory_room() -> [u32; 4096]
-    ensures { λ r. ⌜ 4096 ≡ length r ⌝ }
-{
-    [0; 4096]
-}
 
 // A piece has 64 bytes.
 fn shown(length: usize) -> usize
@@ -53,8 +37,8 @@ fn print(start: report::Report, code: &[u8], memory: &mut [u32]) -> bool {
 // Writes what the bench program prints for a table, and answers whether all of it was written; after a write that fails nothing more is.
 // What is written are the pieces that `report` promises; a contract cannot speak of what a call of the system wrote, so there is none here.
 pub fn print_report(table: &[u8]) -> bool {
-    let mut code = code_room();
-    let mut memory = memory_room();
+    let mut code = [0; model::limits::CODE];
+    let mut memory = [0; model::limits::MEMORY];
     let opened = report::open(table, &mut code, &mut memory);
     print(opened, &code, &mut memory)
 }

@@ -6,6 +6,7 @@ mod writing;
 pub use numbers::at;
 pub use numbers::flag;
 pub use numbers::front;
+pub use numbers::least;
 pub use numbers::rest;
 pub use numbers::to_bytes;
 pub use numbers::word;

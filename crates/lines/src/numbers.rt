@@ -22,8 +22,8 @@ pub fn flag(numbers: &[u64], place: usize) -> bool {
     at(numbers, place) != 0
 }
 
-// The lesser of two numbers.
-fn least(a: u64, b: usize) -> usize
+// The lesser of a number and a length.
+pub fn least(a: u64, b: usize) -> usize
     ensures { λ r. ⌜ r ≤ b ⌝ }
 {
     if a < b as u64 {

@@ -3,8 +3,9 @@
 // Lent are the first bytes of some code and the first words of a memory of 4,100 words, all of them 7 before. An answer is document 01's
 // number, 11 with the size needed, or `started` with what the machine keeps of the start. The whole memory follows, as runs of equal words.
 use lines::print;
-ghost use Prim.Native.Nat.{_<_, _≤_};
+ghost use Prim.Native.Nat.{_+_, _<_, _≤_};
 ghost use lib.ListN.{length};
+ghost use Rattle.model.specs.Limits.{codeLimit, wordLimit};
 
 // The code's room: a byte longer than a start takes.
 const BYTES: usize = model::limits::CODE + 1;
@@ -106,7 +107,7 @@ fn answer(bytes: &[u8], words: &mut [u32], case: Case)
 
 // Writes a start's line.
 fn start(code: usize, memory: usize, w: u32, inputs: u32, outputs: u32, slice: u32)
-    requires { ⌜ (code ≤ 16385) × (memory ≤ 4100) ⌝ }
+    requires { ⌜ (code ≤ codeLimit + 1) × (memory ≤ wordLimit + 4) ⌝ }
 {
     let case = Case {
         code: code,

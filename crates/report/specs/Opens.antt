@@ -5,6 +5,7 @@ use mathlib.Core.Bool.{cond}
 use mathlib.Core.List.{List, _++_}
 use lib.ListN.{length, take, drop}
 use lib.Dec.{ltb}
+use Rattle.model.specs.Limits.{codeLimit, wordLimit}
 use Rattle.model.specs.Reader.{Read, program}
 use Rattle.model.specs.Accept.{answerOf}
 use Rattle.model.specs.Code.{Compilation, compiled, refused, compile, bufferAfter}
@@ -61,18 +62,23 @@ pub record Opened : Type 0 where
   pub code : List ℕ
   pub memory : List ℕ
 
+-- the code buffer, the first bytes of which were lent to the compiler
+abbrev pub filled : Compilation → List ℕ → List ℕ
+filled x code = bufferAfter x (take codeLimit code) ++ drop codeLimit code
+
 -- a compiled table is started
 abbrev pub openedBy : Compilation → (code memory : List ℕ) → Opened
 openedBy (compiled p bytes) code l =
     let b = loaded (program p) bytes l in
-    record { report = b .report; code = bufferAfter (compiled p bytes) (take 16384 code) ++ drop 16384 code; memory = b .memory }
+    record { report = b .report; code = filled (compiled p bytes) code; memory = b .memory }
 openedBy (refused n r) code l = record { report = refusing n r; code = code; memory = l }
 
--- the first 16,384 bytes are the compiler's buffer; shorter buffers get 11, code tested before memory
+-- the compiler's buffer is as long as the longest code; shorter buffers get 11, code tested before memory
 unfoldable pub openOf : (table code memory : List ℕ) → Opened
 openOf table code l =
-    cond (ltb (length code) 16384) (record { report = refusing 11 16384; code = code; memory = l })
-    (cond (ltb (length l) 4096) (record { report = refusing 11 4096; code = code; memory = l }) (openedBy (compile table 16384) code l))
+    cond (ltb (length code) codeLimit) (record { report = refusing 11 codeLimit; code = code; memory = l })
+    (cond (ltb (length l) wordLimit) (record { report = refusing 11 wordLimit; code = code; memory = l })
+    (openedBy (compile table codeLimit) code l))
 
 -- a report and both buffers are as defined
 pub record Opens (o : Opened) (r : Report) (c l : List ℕ) : Type 0 where

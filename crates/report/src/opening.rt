@@ -4,6 +4,7 @@ use crate::stage::Stage;
 ghost use mathlib.Core.Path.{_≡_};
 ghost use Prim.Native.Nat.{_+_, _≤_};
 ghost use lib.ListN.{length, take};
+ghost use Rattle.model.specs.Limits.{codeLimit, wordLimit};
 ghost use Rattle.model.specs.Accept.{accept};
 ghost use Rattle.model.specs.Code.{compile, compiledAnswer};
 ghost use Rattle.model.specs.Bench.{bench};
@@ -12,7 +13,7 @@ ghost use Rattle.report.specs.Texts.{textOf};
 ghost use Rattle.report.specs.Opens.{refusing as refusingFor, Begins, begunBy, loaded, Opens, openOf};
 
 // Two rounds more than there are instructions, as in the definition (specs/Bench.antt `bench`).
-const ROUNDS: u32 = 65538;
+const ROUNDS: u32 = model::limits::BENCH_BUDGET as u32 + 2;
 
 // A report of a refusal.
 fn refusing(number: u32, place: usize) -> Report
@@ -59,8 +60,8 @@ fn begin(facts: model::Facts, code: &[u8], memory: &mut [u32]) -> Report
 
 // A compiled table is started.
 fn load(table: &[u8], code: &[u8], size: usize, memory: &mut [u32]) -> Report
-    requires { ⌜ (size ≤ length (now code)) × (4096 ≤ length (now memory)) ⌝ }
-    requires { ⌜ compiledAnswer (compile (now table) 16384) ≡ Code size ⌝ }
+    requires { ⌜ (size ≤ length (now code)) × (wordLimit ≤ length (now memory)) ⌝ }
+    requires { ⌜ compiledAnswer (compile (now table) codeLimit) ≡ Code size ⌝ }
     ensures { λ r.
         ⌜ Begins (loaded (accept (now (table .entry))) (take size (now (code .entry))) (now (memory .entry))) r (now (memory .exit)) ⌝ }
 {

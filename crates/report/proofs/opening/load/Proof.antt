@@ -3,6 +3,7 @@ use borrow.Author.Needs.{needs}
 use native.Mathlib.Omega.{arith}
 use mathlib.Core.Path.{refl, sym, _∙_}
 use lib.Seq.{length-take-le}
+use Rattle.model.specs.Limits.{codeLimit}
 use Rattle.model.specs.Code.{compile}
 use Rattle.report.proofs.Starts.{facts-fit}
 use Rattle.report.proofs.opening.load.Statement.{statement}
@@ -20,7 +21,7 @@ begin-requires c κs =
     let read = c .before .before .before .before .before .read in
     let facts = c .before .before .before .facts in
     let a = args in
-    let f = facts-fit (a .table .now) _ (compile (a .table .now) 16384) refl (pre .1) (sym (read .ensures .0) ∙ facts .given .1) in
+    let f = facts-fit (a .table .now) _ (compile (a .table .now) codeLimit) refl (pre .1) (sym (read .ensures .0) ∙ facts .given .1) in
     (f .0, omega (arith, f .1, pre .0 .1))
 
 returns : tie.Need-returns

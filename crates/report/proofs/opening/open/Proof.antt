@@ -6,6 +6,7 @@ use mathlib.Core.Path.{_≡_, refl, sym, ap, _∙_}
 use mathlib.Core.List.{_++_}
 use lib.ListN.{length, take, drop}
 use lib.Seq.{length-take-le}
+use Rattle.model.specs.Limits.{codeLimit}
 use Rattle.model.specs.Code.{compile}
 use Rattle.report.proofs.Starts.{told, open-short, open-small, opens-coded, opens-refused, size-fits}
 use Rattle.report.proofs.opening.open.Statement.{statement}
@@ -28,7 +29,7 @@ returns-2 c =
 slice-aggregate-compile-into : tie.Need-slice-aggregate-compile-into
 slice-aggregate-compile-into c =
     let args = c .before .before .before .before .before .before .args in
-    sym (length-take-le 16384 (args .code .now) (c .before .before .if1 .left))
+    sym (length-take-le codeLimit (args .code .now) (c .before .before .if1 .left))
 
 load-requires : tie.Need-load-requires
 load-requires c κs =
@@ -39,12 +40,12 @@ load-requires c κs =
     let compile-into = c .before .before .before .before .before .before .before .compile-into in
     let size = c .before .before .before .size in
     let a = args in
-    let t = length-take-le 16384 (a .code .now) (if1 .left) in
+    let t = length-take-le codeLimit (a .code .now) (if1 .left) in
     let q = sym (compile-into .ensures .0) ∙ size .given .1 in
     let b = compile-into .ensures .1 .0 in
-    let d = ap (λ l. l ++ drop 16384 (a .code .now)) (rw t at b) in
+    let d = ap (λ l. l ++ drop codeLimit (a .code .now)) (rw t at b) in
     let s = rw t at q in
-    ((size-fits (take 16384 (a .code .now)) (drop 16384 (a .code .now)) (compile (a .table .now) 16384) s d, if2 .left), s)
+    ((size-fits (take codeLimit (a .code .now)) (drop codeLimit (a .code .now)) (compile (a .table .now) codeLimit) s d, if2 .left), s)
 
 returns-3 : tie.Need-returns-3
 returns-3 c =
@@ -55,11 +56,11 @@ returns-3 c =
     let compile-into = c .before .before .before .before .before .before .before .before .before .before .compile-into in
     let size = c .before .before .before .before .before .before .size in
     let a = args in
-    let t = length-take-le 16384 (a .code .now) (if1 .left) in
+    let t = length-take-le codeLimit (a .code .now) (if1 .left) in
     let q = sym (compile-into .ensures .0) ∙ size .given .1 in
     let b = compile-into .ensures .1 .0 in
     let o = opens-coded (a .table .now) (a .code .now) (a .memory .now) (if1 .left) (if2 .left) (rw t at q)
-    (ap (λ l. l ++ drop 16384 (a .code .now)) (rw t at b)) (c .before .before .load .ensures) in
+    (ap (λ l. l ++ drop codeLimit (a .code .now)) (rw t at b)) (c .before .before .load .ensures) in
     (o, λ h k. told _ _ _ h k o)
 
 returns-4 : tie.Need-returns-4
@@ -70,11 +71,11 @@ returns-4 c =
     let if2 = c .before .before .before .before .before .before .before .before .if2 in
     let compile-into = c .before .before .before .before .before .before .compile-into in
     let a = args in
-    let t = length-take-le 16384 (a .code .now) (if1 .left) in
+    let t = length-take-le codeLimit (a .code .now) (if1 .left) in
     let q = sym (compile-into .ensures .0) ∙ c .before .before .number .given .1 in
     let b = compile-into .ensures .1 .0 in
     let o = opens-refused (a .table .now) (a .code .now) (a .memory .now) (if1 .left) (if2 .left) (rw t at q)
-    (ap (λ l. l ++ drop 16384 (a .code .now)) (rw t at b)) in
+    (ap (λ l. l ++ drop codeLimit (a .code .now)) (rw t at b)) in
     let e = c .refusing3 .ensures in
     (rw e o, λ h k. rw e (told _ _ _ h k o))
 
