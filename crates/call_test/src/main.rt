@@ -282,6 +282,7 @@ fn answer(numbers: &[u64]) {
     lines::write(b"\n");
 }
 
+// Answers the lines of standard input.
 fn main() {
     let mut characters = [0; lines::CHARACTERS];
     let mut numbers = [0; lines::NUMBERS];

@@ -10,6 +10,9 @@
 // A line of the output has the answer (11 with the size needed), the registers and the setup in the order of the input, the held offers
 // as input=value, the kept fault, and as address=value the words lent that are no longer what they were. Numbers are hexadecimal.
 
+// The numbers that say a machine. Behind them come the budget, the words lent and the code bytes lent.
+const MACHINE: usize = 34;
+
 // The most words that a case is lent.
 const WORDS: usize = 4200;
 
@@ -36,39 +39,39 @@ fn cpu(numbers: &[u64]) -> model::Cpu {
 // What a start would have fixed.
 fn setup(numbers: &[u64]) -> model::Setup {
     model::Setup {
-        code: lines::word(numbers, 11),
-        base: lines::word(numbers, 12),
-        inputs: lines::word(numbers, 13),
-        outputs: lines::word(numbers, 14),
-        slice: lines::word(numbers, 15),
+        code: lines::word(numbers, 0),
+        base: lines::word(numbers, 1),
+        inputs: lines::word(numbers, 2),
+        outputs: lines::word(numbers, 3),
+        slice: lines::word(numbers, 4),
     }
 }
 
 // The offers of a case.
 fn offers(numbers: &[u64]) -> [u32; 8] {
     [
-        lines::word(numbers, 16),
-        lines::word(numbers, 17),
-        lines::word(numbers, 18),
-        lines::word(numbers, 19),
-        lines::word(numbers, 20),
-        lines::word(numbers, 21),
-        lines::word(numbers, 22),
-        lines::word(numbers, 23),
+        lines::word(numbers, 0),
+        lines::word(numbers, 1),
+        lines::word(numbers, 2),
+        lines::word(numbers, 3),
+        lines::word(numbers, 4),
+        lines::word(numbers, 5),
+        lines::word(numbers, 6),
+        lines::word(numbers, 7),
     ]
 }
 
 // Which offers are held.
 fn held(numbers: &[u64]) -> [bool; 8] {
     [
-        lines::flag(numbers, 24),
-        lines::flag(numbers, 25),
-        lines::flag(numbers, 26),
-        lines::flag(numbers, 27),
-        lines::flag(numbers, 28),
-        lines::flag(numbers, 29),
-        lines::flag(numbers, 30),
-        lines::flag(numbers, 31),
+        lines::flag(numbers, 0),
+        lines::flag(numbers, 1),
+        lines::flag(numbers, 2),
+        lines::flag(numbers, 3),
+        lines::flag(numbers, 4),
+        lines::flag(numbers, 5),
+        lines::flag(numbers, 6),
+        lines::flag(numbers, 7),
     ]
 }
 
@@ -88,9 +91,9 @@ fn kept(kind: u64, number: u32) -> model::Kept {
 fn machine(numbers: &[u64]) -> model::Machine {
     model::Machine {
         cpu: cpu(numbers),
-        setup: setup(numbers),
-        offers: offers(numbers),
-        held: held(numbers),
+        setup: setup(lines::rest(numbers, 11)),
+        offers: offers(lines::rest(numbers, 16)),
+        held: held(lines::rest(numbers, 24)),
         fault: kept(lines::at(numbers, 32), lines::word(numbers, 33)),
     }
 }
@@ -143,7 +146,7 @@ fn print_changes(before: &[u32], after: &[u32]) {
 
 // Runs a case, and writes its line. `before` and `memory` are the same words.
 fn run(numbers: &[u64], code: &[u8], before: &[u32], memory: &mut [u32]) {
-    let left = show::run(machine(numbers), code, memory, lines::at(numbers, 34));
+    let left = show::run(machine(numbers), code, memory, lines::at(numbers, MACHINE));
     show::print_machine(left, true);
     lines::write(b" /");
     print_changes(before, memory);
@@ -186,16 +189,18 @@ fn answer(numbers: &[u64]) {
     if numbers.len() == 0 {
         return;
     }
-    let length = lines::at(numbers, 36);
-    let rest = lines::rest(numbers, 37);
+    let words = lines::at(numbers, MACHINE + 1) as usize;
+    let length = lines::at(numbers, MACHINE + 2);
+    let rest = lines::rest(numbers, MACHINE as u64 + 3);
     lend(
         numbers,
         lines::front(rest, length),
         lines::rest(rest, length),
-        lines::at(numbers, 35) as usize,
+        words,
     );
 }
 
+// Answers the lines of standard input.
 fn main() {
     let mut characters = [0; lines::CHARACTERS];
     let mut numbers = [0; lines::NUMBERS];

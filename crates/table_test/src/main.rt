@@ -154,6 +154,7 @@ fn answer_line(line: lines::Line, numbers: &[u64]) {
     }
 }
 
+// Answers the lines of standard input.
 fn main() {
     let mut characters = [0; lines::CHARACTERS];
     let mut numbers = [0; lines::NUMBERS];
