@@ -7,27 +7,12 @@ use crate::memory::undo;
 use crate::process::join;
 use crate::process::land;
 use crate::process::resume;
-ghost use mathlib.Core.Path.{_≡_};
-ghost use mathlib.Core.Bool.{false};
 ghost use Prim.Native.Nat.{_≤_};
 ghost use lib.ListN.{length};
-ghost use Rattle.model.specs.Machine.{join as joinOf};
-ghost use Rattle.processor.specs.Seen.{Works, Goes};
+ghost use Rattle.processor.specs.Seen.{Goes};
 ghost use Rattle.processor.specs.Pieces.{wakeJoin, wakeWaiting, notifyWake};
 
-// A free processor takes the process, and none is queued.
-fn join_free(memory: &[u32], size: u64, cpu: model::Cpu, w: u32) -> Step
-    requires { ⌜ (size ≤ length (now memory)) × (cpu .running ≡ false) ⌝ }
-    ensures { λ r. ⌜ Works size (joinOf w) cpu (now (memory .entry)) r (now (memory .entry)) ⌝ }
-{
-    let mut r = cpu;
-    r.front = w;
-    r.back = w;
-    r.queued = false;
-    resume(memory, size, r, w)
-}
-
-// The process joins the queue, or a free processor takes it and goes to its place.
+// The process joins the queue, or a free processor takes it, with none queued, and goes to its place.
 pub fn wake(memory: &mut [u32], size: u64, cpu: model::Cpu, code: u32, w: u32) -> Step
     requires { ⌜ size ≤ length (now memory) ⌝ }
     ensures { λ r. ⌜ Goes size code (wakeJoin w) cpu (now (memory .entry)) r (now (memory .exit)) ⌝ }
@@ -35,8 +20,12 @@ pub fn wake(memory: &mut [u32], size: u64, cpu: model::Cpu, code: u32, w: u32) -
     if cpu.running {
         return join(memory, size, cpu, w);
     }
-    match join_free(memory, size, cpu, w) {
-        Step::Done(r) => land(r, code),
+    let mut r = cpu;
+    r.front = w;
+    r.back = w;
+    r.queued = false;
+    match resume(memory, size, r, w) {
+        Step::Done(q) => land(q, code),
         Step::Fault(k) => Step::Fault(k),
     }
 }

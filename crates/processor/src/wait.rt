@@ -12,7 +12,7 @@ ghost use Prim.Native.Nat.{_≤_};
 ghost use lib.ListN.{length};
 ghost use Rattle.model.specs.Execute.{isAltState};
 ghost use Rattle.processor.specs.Seen.{Goes};
-ghost use Rattle.processor.specs.Pieces.{wakeRelease, notifyRelease, tellRelease, pokeTell, poke2Tell};
+ghost use Rattle.processor.specs.Pieces.{wakeRelease, tellRelease, pokeTell, poke2Tell};
 
 // An ALT was made Ready: its process is woken if it was Waiting, and the processor is free.
 fn wake_release(
@@ -45,29 +45,7 @@ pub fn alt_state(state: u32) -> bool
     state == model::constants::READY
 }
 
-// A process in an ALT is told: its state becomes Ready, it is woken if it was Waiting, and the processor is free.
-fn notify_release(
-    memory: &mut [u32],
-    size: u64,
-    cpu: model::Cpu,
-    code: u32,
-    p: u32,
-    state: u32,
-) -> Step
-    requires { ⌜ (size ≤ length (now memory)) × (cpu .running ≡ true) ⌝ }
-    ensures { λ r. ⌜ Goes size code (notifyRelease p state) cpu (now (memory .entry)) r (now (memory .exit)) ⌝ }
-{
-    let a = state_word(p);
-    match swap(memory, size, a, model::constants::READY) {
-        Peeked::Value(old) => {
-            let step = wake_release(memory, size, cpu, code, p, state);
-            undo(memory, a, old, step)
-        }
-        Peeked::Fault(k) => Step::Fault(k),
-    }
-}
-
-// The processor is free; a process in an ALT, whose state is given, is told before.
+// The processor is free; before, a process in an ALT, whose state is given, is told: it becomes Ready, and is woken if it was Waiting.
 fn tell_release(
     memory: &mut [u32],
     size: u64,
@@ -80,7 +58,14 @@ fn tell_release(
     ensures { λ r. ⌜ Goes size code (tellRelease p state) cpu (now (memory .entry)) r (now (memory .exit)) ⌝ }
 {
     if alt_state(state) {
-        return notify_release(memory, size, cpu, code, p, state);
+        let a = state_word(p);
+        return match swap(memory, size, a, model::constants::READY) {
+            Peeked::Value(old) => {
+                let step = wake_release(memory, size, cpu, code, p, state);
+                undo(memory, a, old, step)
+            }
+            Peeked::Fault(k) => Step::Fault(k),
+        };
     }
     release(memory, size, cpu, code, 0)
 }

@@ -1,7 +1,7 @@
 -- `processor::outside::wake` meets its contract. Assumes nothing.
 use borrow.Author.Needs.{needs}
 use mathlib.Core.Path.{_∙_}
-use Rattle.processor.proofs.Laws.{like, faulty, wakes-running, wakes-free}
+use Rattle.processor.proofs.Laws.{like, faulty, join-free, wakes-running, wakes-free}
 use Rattle.processor.proofs.outside.wake.Statement.{statement}
 use Rattle.processor.proofs.outside.wake.Tie as tie
 
@@ -12,16 +12,23 @@ returns c u h g =
 
 returns-2 : tie.Need-returns-2
 returns-2 c u h g =
+    let args = c .before .before .before .before .before .before .before .before .args in
     let if1 = c .before .before .before .before .before .before .if1 in
-    let join-free = c .before .before .before .before .join-free in
+    let resume = c .before .before .before .before .resume in
     like (c .land .ensures u g _)
-    (λ x. wakes-free x u _ _ _ (if1 .left) ∙ rw (join-free .ensures u h .said x, c .before .before .r .given .1))
+    (λ x.
+    wakes-free x u (args .cpu) _ _ (if1 .left)
+    ∙ rw (join-free x u (args .cpu) _ _ (if1 .left), resume .ensures u h .said x, c .before .before .q .given .1))
 
 returns-3 : tie.Need-returns-3
 returns-3 c u h g =
+    let args = c .before .before .before .before .before .before .before .args in
     let if1 = c .before .before .before .before .before .if1 in
-    let join-free = c .before .before .before .join-free in
-    faulty (λ x. wakes-free x u _ _ _ (if1 .left) ∙ rw (join-free .ensures u h .said x, c .before .k .given .1))
+    let resume = c .before .before .before .resume in
+    faulty
+    (λ x.
+    wakes-free x u (args .cpu) _ _ (if1 .left)
+    ∙ rw (join-free x u (args .cpu) _ _ (if1 .left), resume .ensures u h .said x, c .before .k .given .1))
 
 pub wake-spec : {M : Type 1} → statement M
 wake-spec =
