@@ -89,50 +89,78 @@ setup s = done (s .machine .setup) s
 abbrev pub communicate : ℕ → ℕ → Act (Unit {0})
 communicate c v s = done tt (record { machine = s .machine; memory = s .memory; talk = s .talk ++ record { channel = c; value = v } ∷ [] })
 
--- registers with some of them changed
-abbrev cpu : (a b c operand place workspace count front back : ℕ) (running queued : Bool) → Cpu
-cpu a b c o p w n f k r q =
+-- the processor's registers in parts. The queue: its front and back, and whether it is not empty
+pub record Queue : Type 0 where
+  pub front : ℕ
+  pub back : ℕ
+  pub queued : Bool
+
+-- the registers of a process: the stack A, B, C, the gathered operand, the place of the next byte, W, and the count towards the slice
+pub record Registers : Type 0 where
+  pub a : ℕ
+  pub b : ℕ
+  pub c : ℕ
+  pub operand : ℕ
+  pub place : ℕ
+  pub workspace : ℕ
+  pub count : ℕ
+
+-- all of them, with whether a process has the processor
+abbrev cpu : Registers → Queue → (running : Bool) → Cpu
+cpu p q t =
     record {
-      a = a;
-      b = b;
-      c = c;
-      operand = o;
-      place = p;
-      workspace = w;
-      count = n;
-      front = f;
-      back = k;
-      running = r;
-      queued = q;
+      a = p .a;
+      b = p .b;
+      c = p .c;
+      operand = p .operand;
+      place = p .place;
+      workspace = p .workspace;
+      count = p .count;
+      front = q .front;
+      back = q .back;
+      running = t;
+      queued = q .queued;
     }
+
+abbrev pub queueOf : Cpu → Queue
+queueOf r = record { front = r .front; back = r .back; queued = r .queued }
+
+abbrev pub registersOf : Cpu → Registers
+registersOf r =
+    record { a = r .a; b = r .b; c = r .c; operand = r .operand; place = r .place; workspace = r .workspace; count = r .count }
+
+-- with other registers of the process
+abbrev process : (a b c operand place workspace count : ℕ) → Cpu → Cpu
+process a b c o p w n r =
+    cpu (record { a = a; b = b; c = c; operand = o; place = p; workspace = w; count = n }) (queueOf r) (r .running)
 
 -- the stack A, B, C
 abbrev pub stack : (a b c : ℕ) → Cpu → Cpu
-stack a b c r = cpu a b c (r .operand) (r .place) (r .workspace) (r .count) (r .front) (r .back) (r .running) (r .queued)
+stack a b c r = process a b c (r .operand) (r .place) (r .workspace) (r .count) r
 
 -- the gathered operand
 abbrev pub gathering : (operand : ℕ) → Cpu → Cpu
-gathering o r = cpu (r .a) (r .b) (r .c) o (r .place) (r .workspace) (r .count) (r .front) (r .back) (r .running) (r .queued)
+gathering o r = process (r .a) (r .b) (r .c) o (r .place) (r .workspace) (r .count) r
 
 -- the place of the next byte
 abbrev pub goto : (place : ℕ) → Cpu → Cpu
-goto p r = cpu (r .a) (r .b) (r .c) (r .operand) p (r .workspace) (r .count) (r .front) (r .back) (r .running) (r .queued)
+goto p r = process (r .a) (r .b) (r .c) (r .operand) p (r .workspace) (r .count) r
 
 -- the workspace pointer W
 abbrev pub work : (workspace : ℕ) → Cpu → Cpu
-work w r = cpu (r .a) (r .b) (r .c) (r .operand) (r .place) w (r .count) (r .front) (r .back) (r .running) (r .queued)
+work w r = process (r .a) (r .b) (r .c) (r .operand) (r .place) w (r .count) r
 
 -- the count towards the slice
 abbrev pub counting : (count : ℕ) → Cpu → Cpu
-counting n r = cpu (r .a) (r .b) (r .c) (r .operand) (r .place) (r .workspace) n (r .front) (r .back) (r .running) (r .queued)
+counting n r = process (r .a) (r .b) (r .c) (r .operand) (r .place) (r .workspace) n r
 
 -- the queue's front and back, and whether it is not empty
 abbrev pub queueing : (front back : ℕ) (queued : Bool) → Cpu → Cpu
-queueing f k q r = cpu (r .a) (r .b) (r .c) (r .operand) (r .place) (r .workspace) (r .count) f k (r .running) q
+queueing f k q r = cpu (registersOf r) (record { front = f; back = k; queued = q }) (r .running)
 
 -- whether a process has the processor
 abbrev pub running : Bool → Cpu → Cpu
-running t r = cpu (r .a) (r .b) (r .c) (r .operand) (r .place) (r .workspace) (r .count) (r .front) (r .back) t (r .queued)
+running t r = cpu (registersOf r) (queueOf r) t
 
 -- the machine's memory is the first W + channels words; later words are never touched
 abbrev pub memorySize : Setup → ℕ
