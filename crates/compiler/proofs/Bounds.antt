@@ -3,14 +3,16 @@ use Prim.Native.Nat.{ℕ, zero, suc, _+_, _*_, _≤_, _<_}
 use native.Mathlib.Omega.{arith}
 use mathlib.Core.List.{List, [], _∷_}
 use lib.ListN.{length}
-use Rattle.model.specs.Syntax.{Site, Operator, PLUS, MINUS, TIMES, GT, EQ, AND, OR, XOR, Expr, Stmt, Stmts, noStmt, stmt, Pairs, Guard}
-use Rattle.model.specs.Syntax.{Guards}
+use Rattle.model.specs.Syntax.{Site, Expr, Stmt, Stmts, noStmt, stmt, Pairs, Guard, Guards}
+use Rattle.model.specs.declared.kinds.Operator.{Operator}
+use Rattle.model.specs.declared.kinds.Operator.the-variants.{Plus as PLUS, Minus as MINUS, Times as TIMES, Gt as GT, Eq as EQ, And as AND}
+use Rattle.model.specs.declared.kinds.Operator.the-variants.{Or as OR, Xor as XOR}
 use Rattle.model.specs.Reader.{Scope}
 use Rattle.model.specs.Counts.{Order, leftFirst, rightFirst, rightStored, order, temporaries}
 use Rattle.model.specs.Instruction.{Instruction, plain, distance}
 use Rattle.model.specs.Code.{prefixesOf, bytesIn}
-use Rattle.model.specs.Scheme.{operatorSize, sidesSize, exprSize, wrapSize, wholeSize, howMany, size, sizeAll, sizePar, sizeEnds}
-use Rattle.model.specs.Scheme.{sizePairs, sizeEnable, sizeDisable, sizeBranches, enableSize, disableSize, inputSize}
+use Rattle.model.specs.Scheme.{operatorSize, sidesSize, exprSize, wrapSize, wholeSize, howMany, size, sizeAll, sizePar, sizeEnds, sizePairs}
+use Rattle.model.specs.Scheme.{sizeEnable, sizeDisable, sizeBranches, enableSize, disableSize, inputSize}
 use Rattle.model.proofs.Coding.RoundTrip.{fewest-fits}
 use Rattle.compiler.proofs.Spelled.{ExprAt, constantAt, variableAt, notAt, binaryAt, StmtAt, skipAt, stopAt, assignAt, inputAt}
 use Rattle.compiler.proofs.Spelled.{outputAt, varAt, chanAt, seqAt, parAt, ifAt, whileAt, altAt, StmtsAt, noStmtAt, stmtsAt, PairsAt}

@@ -23,11 +23,13 @@ use Rattle.model.proofs.Coding.Sizes.{code-length, enable-length, disable-lengt
 use Rattle.emitter.specs.Emits.{at, operationInto}
 use Rattle.emitter.specs.Extents.{extentIn}
 use Rattle.emitter.specs.Simples.{inInto, inputInto}
-use Rattle.compiler.specs.Alts.{stmtInto, innerAt, guardInto, guarded, behindGuard, enableInto, enabling, disableInto, choiceInto}
-use Rattle.compiler.specs.Alts.{choicesInto}
+use Rattle.compiler.specs.Alts.{guardInto, guarded, behindGuard, enableInto, enabling, disableInto, choiceInto, choicesInto}
+use Rattle.model.specs.declared.kinds.StmtKind.the-variants.{Alt}
+use Rattle.model.specs.declared.kinds.GuardKind.the-variants.{Input as InputGuard, Skip as SkipGuard}
+use Rattle.numbers.specs.Kinds.{stmtKind, guardKind, countIn}
+use Rattle.compiler.specs.Kinds.{stmtInto, innerAt}
 use Rattle.compiler.specs.declared.alt.Guard.{Guard}
-use Rattle.compiler.proofs.Spelled.{NumeralAt, OneAt, ExprAt, CountAt, StmtAt, inputGuardAt, skipGuardAt, GuardsAt, noGuardAt}
-use Rattle.compiler.proofs.Spelled.{guardsAt}
+use Rattle.compiler.proofs.Spelled.{KindAt, OneAt, ExprAt, CountAt, StmtAt, inputGuardAt, skipGuardAt, GuardsAt, noGuardAt, guardsAt}
 use Rattle.compiler.proofs.Planned.{next-is, Plans}
 use Rattle.compiler.proofs.Fills.{bytes-append, fill-then, fill-before, fill-swap, Room, room-left, emits-fills, emits-at}
 use Rattle.compiler.proofs.Fills.{distance-fills, Stands, stands-first, stands-next, stands-both, stands-last, gap-fills}
@@ -67,12 +69,13 @@ module _ (word : Site → ℕ) (workspace : ℕ → ℕ) (off : ℕ → ℕ) (s 
     abbrev waiting : (w : ℕ) → Expr → Site → List Instruction
     waiting w e c = guardCode word w e ++ plain ldlp (local word w c) ∷ operation rev ∷ []
 
-    waiting-fills : {i n m p : ℕ} {e : Expr} {c : Site} (w h : ℕ) (o : List ℕ) → NumeralAt s i 0 n → ExprAt s (sc .variables) d n e m
+    waiting-fills : {i n m p : ℕ} {e : Expr} {c : Site} (w h : ℕ) (o : List ℕ) → KindAt s guardKind i InputGuard n → ExprAt s (sc .variables) d n e m
         → OneAt s (sc .channels) m c p → Begins d vs cs w i m h o true (waiting w e c)
     unfolding guardInto functionCode operationCode operationInto
     waiting-fills {e = e} {c = c} w h o k x ch r =
         rw (
           k .value,
+          k .is,
           whole-code word off s altWords (omega arith) (scope .variables) planned w x h o (room-left h (guardCode word w e) _ r),
           ch .there .value,
           local-is word off s (scope .channels) w ch,
@@ -80,10 +83,10 @@ module _ (word : Site → ℕ) (workspace : ℕ → ℕ) (off : ℕ → ℕ) (s 
         )
         refl
 
-    skipping-fills : {i n m : ℕ} {e : Expr} (w h : ℕ) (o : List ℕ) → NumeralAt s i 1 n → ExprAt s (sc .variables) d n e m
+    skipping-fills : {i n m : ℕ} {e : Expr} (w h : ℕ) (o : List ℕ) → KindAt s guardKind i SkipGuard n → ExprAt s (sc .variables) d n e m
         → Begins d vs cs w i m h o false (guardCode word w e)
     unfolding guardInto
-    skipping-fills w h o k x r = rw (k .value, whole-code word off s altWords (omega arith) (scope .variables) planned w x h o r) refl
+    skipping-fills w h o k x r = rw (k .value, k .is, whole-code word off s altWords (omega arith) (scope .variables) planned w x h o r) refl
 
     enable-waits : (w : ℕ) (e : Expr) (c x : Site) (y : Stmt) (gs : Guards)
         → codeEnable word w (guard (inputGuard e c x) y gs) ≡ waiting w e c ++ operation enbc ∷ [] ++ codeEnable word w gs
@@ -287,9 +290,9 @@ module _ (word : Site → ℕ) (workspace : ℕ → ℕ) (off : ℕ → ℕ) (s 
         (skipping-fills scope (w - 1) dis o k t) (λ o. refl) a
         (λ dis h o p r l. choices-fill choice after over base dis h o g (laid .1) (omega arith) (omega arith) user p r l)
 
-    pub alt-code : {i n m q k : ℕ} {gs : Guards} (j h : ℕ) → NumeralAt s i 11 n → CountAt s 0 32 n k m → GuardsAt s d sc k m gs q
+    pub alt-code : {i n m q k : ℕ} {gs : Guards} (j h : ℕ) → KindAt s stmtKind i Alt n → CountAt s 0 32 n k m → GuardsAt s d sc k m gs q
         → Placed word workspace off s plan w j h (ALT gs) → Written word workspace off s plan (suc d) sc vs cs w j h i q (ALT gs)
-    unfolding stmtInto code need functionCode operationCode operationInto
+    unfolding stmtInto countIn code need functionCode operationCode operationInto
     alt-code {gs = gs} j h t c a p o =
         let choice = j + 2 + sizeEnable gs + 1 + sizeDisable gs in
         let A = plain ajw (minus 1) ∷ operation I.alt ∷ [] in
@@ -319,7 +322,9 @@ module _ (word : Site → ℕ) (workspace : ℕ → ℕ) (off : ℕ → ℕ) (s 
         let end : low (hd + (0 + bytesIn D)) ≡ hz = mod-eq-of-lt (omega (arith, bytes, r)) ∙ omega arith in
         rw (
           t .value,
+          t .is,
           c .there .value,
+          c .fits,
           emits-at off A h o (omega (arith, bytes, front, r)),
           enable-fills scope (w - 1) choice (choice + 1) 0 (h + bytesIn A) (sets o h (encode off A)) a (omega (arith, p .few))
               (omega (arith, bytes, front, r)) (omega (arith, bytes, r)) .enables,

@@ -12,13 +12,15 @@ use Rattle.model.specs.Instruction as I
 use Rattle.model.specs.Instruction.{plain, operation, ldlp, ajw, stl, functionCode, operationCode}
 use Rattle.model.specs.Scheme.{local, wholeCode, inputCode, code}
 use Rattle.model.proofs.Tables.WellFormed.{Laid}
+use Rattle.model.specs.declared.kinds.StmtKind.the-variants.{Skip, Stop, Assign, Input, Output}
+use Rattle.numbers.specs.Kinds.{stmtKind}
 use Rattle.emitter.specs.Emits.{at, operationInto}
 use Rattle.emitter.specs.Exprs.{written}
 use Rattle.emitter.specs.Simples.{inputInto, outputInto, assignInto, inInto, outInto, simpleInto}
 use Rattle.compiler.specs.Stmts.{scoped}
-use Rattle.compiler.specs.Alts.{stmtInto}
+use Rattle.compiler.specs.Kinds.{stmtInto}
 use Rattle.compiler.specs.declared.stmt.Scope.{Scope}
-use Rattle.compiler.proofs.Spelled.{NumeralAt, OneAt, ExprAt, StmtAt}
+use Rattle.compiler.proofs.Spelled.{KindAt, OneAt, ExprAt, StmtAt}
 use Rattle.compiler.proofs.Planned.{Plans}
 use Rattle.compiler.proofs.Fills.{filled, fill-none, Room, room-left, emits-fills, emits-at, Stands}
 use Rattle.compiler.proofs.ExprCode.{Named, local-is, whole-code}
@@ -70,32 +72,34 @@ module _ (word : Site → ℕ) (workspace : ℕ → ℕ) (off : ℕ → ℕ) (s 
 
   module _ {d : ℕ} {sc : M.Scope} {vs cs : List ℕ} (w j h : ℕ) (planned : Plans s plan)
       (names : Scoped word (suc d) sc vs cs) where
-    pub skip-code : {i n : ℕ} → NumeralAt s i 0 n → Placed w j h SKIP → Written (suc d) sc vs cs w j h i n SKIP
+    pub skip-code : {i n : ℕ} → KindAt s stmtKind i Skip n → Placed w j h SKIP → Written (suc d) sc vs cs w j h i n SKIP
     unfolding stmtInto simpleInto code
-    skip-code k p o = rw (k .value) (ap (written _) (sym (fill-none off h o)))
+    skip-code k p o = rw (k .value, k .is) (ap (written _) (sym (fill-none off h o)))
 
-    pub stop-code : {i n : ℕ} → NumeralAt s i 1 n → Placed w j h STOP → Written (suc d) sc vs cs w j h i n STOP
+    pub stop-code : {i n : ℕ} → KindAt s stmtKind i Stop n → Placed w j h STOP → Written (suc d) sc vs cs w j h i n STOP
     unfolding stmtInto simpleInto code
-    stop-code k p o = rw (k .value) (ap (written _) (stopp-fills off h o (p .room)))
+    stop-code k p o = rw (k .value, k .is) (ap (written _) (stopp-fills off h o (p .room)))
 
-    pub assign-code : {i n m q : ℕ} {x : Site} {e : Expr} → NumeralAt s i 2 n → OneAt s (sc .variables) n x m
+    pub assign-code : {i n m q : ℕ} {x : Site} {e : Expr} → KindAt s stmtKind i Assign n → OneAt s (sc .variables) n x m
         → ExprAt s (sc .variables) d m e q → Placed w j h (assign x e) → Written (suc d) sc vs cs w j h i q (assign x e)
     unfolding stmtInto simpleInto assignInto code functionCode
     assign-code {x = x} {e = e} k a c p o =
         rw (
           k .value,
+          k .is,
           a .there .value,
           local-is word off s (names .variables) w a,
           whole-code word off s 0 (omega arith) (names .variables) planned w c h o (room-left h (wholeCode word w e) _ (p .room)),
         )
         (ap (written _) (emits-fills off (plain stl (local word w x) ∷ []) h (wholeCode word w e) o (p .room)))
 
-    pub input-code : {i n m q : ℕ} {c x : Site} → NumeralAt s i 3 n → OneAt s (sc .channels) n c m
+    pub input-code : {i n m q : ℕ} {c x : Site} → KindAt s stmtKind i Input n → OneAt s (sc .channels) n c m
         → OneAt s (sc .variables) m x q → Placed w j h (input c x) → Written (suc d) sc vs cs w j h i q (input c x)
     unfolding stmtInto simpleInto inInto inputInto code functionCode operationCode operationInto
     input-code {c = c} {x = x} k a b p o =
         rw (
           k .value,
+          k .is,
           a .there .value,
           b .there .value,
           local-is word off s (names .channels) w a,
@@ -103,12 +107,13 @@ module _ (word : Site → ℕ) (workspace : ℕ → ℕ) (off : ℕ → ℕ) (s 
         )
         (ap (written _) (emits-at off (inputCode word w c x) h o (p .room)))
 
-    pub output-code : {i n m q : ℕ} {c : Site} {e : Expr} → NumeralAt s i 4 n → OneAt s (sc .channels) n c m
+    pub output-code : {i n m q : ℕ} {c : Site} {e : Expr} → KindAt s stmtKind i Output n → OneAt s (sc .channels) n c m
         → ExprAt s (sc .variables) d m e q → Placed w j h (output c e) → Written (suc d) sc vs cs w j h i q (output c e)
     unfolding stmtInto simpleInto outInto outputInto code functionCode operationCode operationInto
     output-code {c = c} {e = e} k a b p o =
         rw (
           k .value,
+          k .is,
           a .there .value,
           local-is word off s (names .channels) w a,
           whole-code word off s 0 (omega arith) (names .variables) planned w b h o (room-left h (wholeCode word w e) _ (p .room)),

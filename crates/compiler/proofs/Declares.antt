@@ -23,9 +23,13 @@ use Rattle.model.proofs.Coding.Sizes.{initialise-length}
 use Rattle.table.proofs.SameSimple.{numbered-at, lookup-append, length-numbered}
 use Rattle.emitter.specs.Emits.{Code, at, plainInto, operationInto, declaredWords}
 use Rattle.emitter.specs.Exprs.{written, codeOf}
+use Rattle.model.specs.declared.kinds.StmtKind.the-variants.{Var, Chan}
+use Rattle.numbers.specs.Kinds.{stmtKind}
+use Rattle.numbers.specs.declared.kinds.Declared.{Declared}
+use Rattle.numbers.specs.declared.kinds.Declared.the-variants.{Variables, Channels}
 use Rattle.compiler.specs.Stmts.{firstInto, initialInto}
-use Rattle.compiler.specs.Alts.{stmtInto}
-use Rattle.compiler.proofs.Spelled.{NumeralAt, CountAt, StmtAt, skipAt, stopAt, assignAt, inputAt, outputAt, varAt, chanAt, seqAt}
+use Rattle.compiler.specs.Kinds.{stmtInto}
+use Rattle.compiler.proofs.Spelled.{KindAt, CountAt, StmtAt, skipAt, stopAt, assignAt, inputAt, outputAt, varAt, chanAt, seqAt}
 use Rattle.compiler.proofs.Spelled.{parAt, ifAt, whileAt, altAt}
 use Rattle.compiler.proofs.Fills.{bytes-append, filled, fill-then, Room, room-left, room-right, emits, emits-fills, emits-at, Stands}
 use Rattle.compiler.proofs.Fills.{stands-both}
@@ -100,12 +104,12 @@ module _ (off : ℕ → ℕ) where
         | no m ↦ let e : j ≡ suc t = omega arith in rw e (omega arith)
       ]
 
-  initial-fills : (kind : ℕ) (first : Instruction) → ((c : Code) → firstInto kind c ≡ emits off (first ∷ []) c)
+  initial-fills : (what : Declared) (first : Instruction) → ((c : Code) → firstInto what c ≡ emits off (first ∷ []) c)
       → (left j t h : ℕ) (xs : List Instruction) (o : List ℕ) → left + j ≡ t → t < 2 ^ 32 → Room h (xs ++ initialise first t)
-      → initialInto left kind j (filled off h (xs ++ initialise first j) o) ≡ filled off h (xs ++ initialise first t) o
+      → initialInto left what j (filled off h (xs ++ initialise first j) o) ≡ filled off h (xs ++ initialise first t) o
   unfolding initialInto initialise functionCode
-  initial-fills kind first is zero j t h xs o e l m = let q : j ≡ t = omega arith in rw q
-  initial-fills kind first is (suc left) j t h xs o e l m =
+  initial-fills what first is zero j t h xs o e l m = let q : j ≡ t = omega arith in rw q
+  initial-fills what first is (suc left) j t h xs o e l m =
       let next : low (j + 1) ≡ suc j = mod-eq-of-lt (omega arith) ∙ omega arith in
       let I = initialise first j in
       let more = xs ++ I ++ first ∷ [] in
@@ -125,7 +129,7 @@ module _ (off : ℕ → ℕ) where
         emits-fills off (plain stl j ∷ []) h more o room,
         all,
       )
-      (initial-fills kind first is left (suc j) t h xs o (omega arith) l m)
+      (initial-fills what first is left (suc j) t h xs o (omega arith) l m)
 
 module _ (word : Site → ℕ) (workspace : ℕ → ℕ) (off : ℕ → ℕ) (s plan : List ℕ)
     (declared-is : (p j : ℕ) → word (declared p j) ≡ workspace p + j) where
@@ -149,14 +153,14 @@ module _ (word : Site → ℕ) (workspace : ℕ → ℕ) (off : ℕ → ℕ) (s 
   declaration first n body = plain ajw (minus n) ∷ initialise first n ++ body ++ plain ajw n ∷ []
 
   module _ {d : ℕ} {sc : M.Scope} {vs cs : List ℕ} (w j h : ℕ) (inner : Compiles word workspace off s plan d) where
-    declaration-code : (kind : ℕ) (first : Instruction) → ((c : Code) → firstInto kind c ≡ emits off (first ∷ []) c)
+    declaration-code : (what : Declared) (first : Instruction) → ((c : Code) → firstInto what c ≡ emits off (first ∷ []) c)
         → {m q : ℕ} {b : Stmt} (n : ℕ) → n ≤ 32 → StmtAt s d sc m b q → Scoped word d sc vs cs → Laid workspace (w - n) b → w ≤ 4096
         → n + need b ≤ 4096 → let X = declaration first n (code word (w - n) (j + 1 + (n + n)) b) in
         Stands off j h X → Room h X → (o : List ℕ)
-        → let r = stmtInto d (scopeOf (w - n) sc) vs cs plan s m (initialInto n kind 0 (plainInto 0xb0 (minus n) (at h o))) in
+        → let r = stmtInto d (scopeOf (w - n) sc) vs cs plan s m (initialInto n what 0 (plainInto 0xb0 (minus n) (at h o))) in
         written (r .next) (plainInto 0xb0 n (codeOf r)) ≡ written q (filled off h X o)
     unfolding functionCode initialise
-    declaration-code kind first is {q = q} {b = b} n l a scope laid fits few p room o =
+    declaration-code what first is {q = q} {b = b} n l a scope laid fits few p room o =
         let F = plain ajw (minus n) ∷ [] in
         let I = initialise first n in
         let B = code word (w - n) (j + 1 + (n + n)) b in
@@ -166,7 +170,7 @@ module _ (word : Site → ℕ) (workspace : ℕ → ℕ) (off : ℕ → ℕ) (s 
         let there = rw index at (stands-both off (F ++ I) (stands-both off (F ++ I ++ B) p .0) .1) in
         rw (
           emits-at off F h o (room-left h F I begin),
-          initial-fills off kind first is n 0 n h F o (omega arith) (omega arith) begin,
+          initial-fills off what first is n 0 n h F o (omega arith) (omega arith) begin,
           inner .compiles (w - n) (j + 1 + (n + n)) (h + bytesIn (F ++ I)) a scope
               (record { laid = laid; low = omega arith; few = omega arith; stands = there; room = room-right h (F ++ I) B head })
               (sets o h (encode off (F ++ I))),
@@ -176,12 +180,12 @@ module _ (word : Site → ℕ) (workspace : ℕ → ℕ) (off : ℕ → ℕ) (s 
 
   module _ {d : ℕ} {sc : M.Scope} {vs cs : List ℕ} (w j h : ℕ) (scope : Scoped word (suc d) sc vs cs)
       (inner : Compiles word workspace off s plan d) where
-    pub var-code : {i n m q k : ℕ} {b : Stmt} → NumeralAt s i 5 n → CountAt s 1 32 n k m → StmtAt s d (withVariables i k sc) m b q
+    pub var-code : {i n m q k : ℕ} {b : Stmt} → KindAt s stmtKind i Var n → CountAt s 1 32 n k m → StmtAt s d (withVariables i k sc) m b q
         → Placed word workspace off s plan w j h (VAR i k b) → Written word workspace off s plan (suc d) sc vs cs w j h i q (VAR i k b)
     unfolding stmtInto code firstInto functionCode operationCode operationInto need
     var-code {i} {k = k} t c a p o =
-        rw (t .value, c .there .value, names-counted i k (w - k) (c .most) (scope .variables))
-        (declaration-code w j h inner 5 (plain ldc 0) (λ c. refl) k (c .most) a
+        rw (t .value, t .is, c .there .value, names-counted i k (w - k) (c .most) (scope .variables))
+        (declaration-code w j h inner Variables (plain ldc 0) (λ c. refl) k (c .most) a
         (record {
           variables = named-more i k (w - k) (c .most) (scope .variables) (λ y. declared-is i y ∙ ap (λ x. x + y) (p .laid .0))
               (omega (arith, p .low, c .most)) (some-depth a);
@@ -189,12 +193,12 @@ module _ (word : Site → ℕ) (workspace : ℕ → ℕ) (off : ℕ → ℕ) (s 
         })
         (p .laid .1) (p .low) (p .few) (p .stands) (p .room) o)
 
-    pub chan-code : {i n m q k : ℕ} {b : Stmt} → NumeralAt s i 6 n → CountAt s 1 32 n k m → StmtAt s d (withChannels i k sc) m b q
+    pub chan-code : {i n m q k : ℕ} {b : Stmt} → KindAt s stmtKind i Chan n → CountAt s 1 32 n k m → StmtAt s d (withChannels i k sc) m b q
         → Placed word workspace off s plan w j h (CHAN i k b) → Written word workspace off s plan (suc d) sc vs cs w j h i q (CHAN i k b)
     unfolding stmtInto code firstInto functionCode operationCode operationInto need
     chan-code {i} {k = k} t c a p o =
-        rw (t .value, c .there .value, names-counted i k (w - k) (c .most) (scope .channels))
-        (declaration-code w j h inner 6 (operation mint) (λ c. refl) k (c .most) a
+        rw (t .value, t .is, c .there .value, names-counted i k (w - k) (c .most) (scope .channels))
+        (declaration-code w j h inner Channels (operation mint) (λ c. refl) k (c .most) a
         (record {
           variables = inner-names (scope .variables);
           channels = named-more i k (w - k) (c .most) (scope .channels) (λ y. declared-is i y ∙ ap (λ x. x + y) (p .laid .0))

@@ -11,18 +11,20 @@ use lib.Seq.{sets}
 use lib.Dec.{ltb, eqb}
 use borrow.Author.Tests.{lt-ltb, ne-eqb}
 use Rattle.model.specs.Word.{low, minus}
-use Rattle.model.specs.Syntax.{Site, Operator, Expr}
+use Rattle.model.specs.Syntax.{Site, Expr}
+use Rattle.model.specs.declared.kinds.Operator.{Operator}
+use Rattle.model.specs.declared.kinds.Operator.the-variants.{Plus as PLUS, Minus as MINUS, Times as TIMES, Gt as GT, Eq as EQ, And as AND}
+use Rattle.model.specs.declared.kinds.Operator.the-variants.{Or as OR, Xor as XOR}
 use Rattle.model.specs.Counts.{Order, leftFirst, rightFirst, rightStored, orderOf, order, sidesHold, registers, temporaries}
-use Rattle.model.specs.Reader.{operators}
 use Rattle.model.specs.Instruction as I
 use Rattle.model.specs.Instruction.{Instruction, plain, operation, ldc, ldl, stl, ajw, eqc, rev, functionCode, operationCode}
 use Rattle.model.specs.Prefix.{fewest}
 use Rattle.model.specs.Code.{prefixesOf, bytesIn, encode}
 use Rattle.model.specs.Scheme.{operatorCode, sidesCode, wrapped, local, exprCode}
 use Rattle.model.proofs.Cases.{by-bool}
-use Rattle.table.proofs.SameItems.{each}
+use Rattle.table.proofs.SameItems.{operator-is}
 use Rattle.emitter.specs.Emits.{Code, at, localOf}
-use Rattle.emitter.specs.Exprs.{Wrote, written, codeOf, operationFor, operatorInto, leafInto, orderNumber, betweenInto, behindInto}
+use Rattle.emitter.specs.Exprs.{Wrote, written, codeOf, operatorInto, constantInto, variableInto, orderNumber, betweenInto, behindInto}
 use Rattle.emitter.specs.Exprs.{exprInto, lowering, adjustInto, wholeInto}
 use Rattle.compiler.proofs.Spelled.{OneAt, ExprAt, constantAt, variableAt, notAt, binaryAt}
 use Rattle.compiler.proofs.Planned.{Plans, holds-few}
@@ -125,34 +127,18 @@ module _ (word : Site → ℕ) (off : ℕ → ℕ) (s : List ℕ) where
   unfolding bytesIn prefixesOf
   plain-bytes f n = omega arith
 
-  operator-fills : (op : Operator) (v h : ℕ) (o : List ℕ) → getElem? operators v ≡ some op → h + bytesIn (operatorCode op) < 2 ^ 32
-      → operatorInto v (at h o) ≡ filled off h (operatorCode op) o
-  unfolding operatorInto operatorCode operationFor operationCode functionCode bytesIn prefixesOf
-  operator-fills op v h o e =
-      each (λ v op. h + bytesIn (operatorCode op) < 2 ^ 32 → operatorInto v (at h o) ≡ filled off h (operatorCode op) o) operators v (
-        λ l. operation-fills off I.sum _ h o refl (omega arith),
-        (
-          λ l. operation-fills off I.diff _ h o refl (omega arith),
-          (
-            λ l. operation-fills off I.prod _ h o refl (omega arith),
-            (
-              λ l. operation-fills off I.gt _ h o refl (omega arith),
-              (
-                λ l. rw (operation-fills off I.diff 4 h o refl (omega arith))
-                    (then-plain off eqc 0xc0 0 h (operation I.diff ∷ []) o refl l),
-                (
-                  λ l. operation-fills off I.and _ h o refl (omega arith),
-                  (
-                    λ l. operation-fills off I.or _ h o refl (omega arith),
-                    (λ l. operation-fills off I.xor _ h o refl (omega arith), tt),
-                  ),
-                ),
-              ),
-            ),
-          ),
-        ),
-      )
-      e
+  operator-fills : (op : Operator) (h : ℕ) (o : List ℕ) → h + bytesIn (operatorCode op) < 2 ^ 32
+      → operatorInto op (at h o) ≡ filled off h (operatorCode op) o
+  unfolding operatorInto operatorCode operationCode functionCode bytesIn prefixesOf
+  operator-fills PLUS h o l = operation-fills off I.sum _ h o refl (omega arith)
+  operator-fills MINUS h o l = operation-fills off I.diff _ h o refl (omega arith)
+  operator-fills TIMES h o l = operation-fills off I.prod _ h o refl (omega arith)
+  operator-fills GT h o l = operation-fills off I.gt _ h o refl (omega arith)
+  operator-fills EQ h o l =
+      rw (operation-fills off I.diff 4 h o refl (omega arith)) (then-plain off eqc 0xc0 0 h (operation I.diff ∷ []) o refl l)
+  operator-fills AND h o l = operation-fills off I.and _ h o refl (omega arith)
+  operator-fills OR h o l = operation-fills off I.or _ h o refl (omega arith)
+  operator-fills XOR h o l = operation-fills off I.xor _ h o refl (omega arith)
 
   pub local-is : {k : ℕ} {vs : List Site} {ws : List ℕ} → Named word k vs ws → (w : ℕ) {i n : ℕ} {x : Site} (a : OneAt s vs i x n)
       → localOf ws (a .index) w ≡ local word w x
@@ -163,13 +149,13 @@ module _ (word : Site → ℕ) (off : ℕ → ℕ) (s : List ℕ) where
   module _ {k : ℕ} {vs : List Site} {ws plan : List ℕ} (names : Named word k vs ws) (planned : Plans s plan) (w : ℕ) where
     expr-code : {d i n : ℕ} {e : Expr} → ExprAt s vs d i e n → d ≤ 32 → (g : ℕ) → g + temporaries e ≤ 4096
         → Writes off (λ c. exprInto d w ws plan s g i c) n (exprCode word w g e)
-    unfolding exprInto exprCode leafInto functionCode temporaries
+    unfolding exprInto exprCode constantInto variableInto functionCode temporaries
     expr-code (constantAt v k t) deep g few h o r =
-        rw (k .value, t .value) (ap (written _) (plain-fills off ldc 0x40 v h o refl (rw plain-bytes at r)))
+        rw (k .value, k .is, t .value) (ap (written _) (plain-fills off ldc 0x40 v h o refl (rw plain-bytes at r)))
     expr-code (variableAt k x) deep g few h o r =
-        rw (k .value, x .there .value, local-is names w x) (ap (written _) (plain-fills off ldl 0x70 _ h o refl (rw plain-bytes at r)))
+        rw (k .value, k .is, x .there .value, local-is names w x) (ap (written _) (plain-fills off ldl 0x70 _ h o refl (rw plain-bytes at r)))
     expr-code (notAt {e = e} k a) deep g few h o r =
-        rw (k .value, expr-code a (omega arith) g few h o (room-left h _ _ r))
+        rw (k .value, k .is, expr-code a (omega arith) g few h o (room-left h _ _ r))
         (ap (written _) (then-plain off eqc 0xc0 0 h (exprCode word w g e) o refl r))
     expr-code (binaryAt {d = d} {m = m} {p = p} {q = q} {op = op} {l = le} {r = re} k v a c) deep g few h o r =
         let S = sidesCode (order le re) g (λ k. exprCode word w k le) (exprCode word w g re) in
@@ -177,7 +163,9 @@ module _ (word : Site → ℕ) (off : ℕ → ℕ) (s : List ℕ) where
         let y = planned .tells c (omega arith) in
         rw (
           k .value,
+          k .is,
           v .there .value,
+          operator-is (v .index) (v .listed),
           x .next,
           x .needs,
           y .next,
@@ -186,7 +174,7 @@ module _ (word : Site → ℕ) (off : ℕ → ℕ) (s : List ℕ) where
           sides-fill off (λ g i c. exprInto d w ws plan s g i c) (order le re) m p q g (temporaries le) (temporaries re)
               (λ k. exprCode word w k le) (exprCode word w g re) few (λ k l. expr-code a (omega arith) k l)
               (λ l. expr-code c (omega arith) g l) h o (room-left h S (operatorCode op) r),
-          operator-fills op (v .index) (h + bytesIn S) (sets o h (encode off S)) (v .listed) (room-right h S _ r),
+          operator-fills op (h + bytesIn S) (sets o h (encode off S)) (room-right h S _ r),
         )
         (ap (written _) (fill-then off h S (operatorCode op) o))
 

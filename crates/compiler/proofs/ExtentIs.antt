@@ -3,26 +3,23 @@
 use Prim.Native.Nat.{ℕ, suc, _+_, _≤_, _<_, max}
 use native.Mathlib.Omega.{arith}
 use native.Mathlib.Nat.{mod-eq-of-lt}
-use mathlib.Core.Path.{_≡_, ap, _∙_}
-use mathlib.Core.Logic.{_≢_}
+use mathlib.Core.Path.{_≡_, refl, ap, _∙_}
+use mathlib.Core.Bool.{Bool, true, false}
 use mathlib.Core.List.{List}
-use borrow.Author.Tests.{lt-ltb, le-ltb, ne-eqb}
 use Rattle.model.specs.Word.{low}
 use Rattle.model.specs.Syntax.{Site, Expr, Stmt, Stmts, Pairs, Guard, condition, Guards}
 use Rattle.model.specs.Reader.{Scope}
 use Rattle.model.specs.Counts.{temporaries, guardWords, need, mostNeed, sumNeed, pairNeed, guardNeed}
 use Rattle.numbers.specs.Items.{valueAt}
-use Rattle.emitter.specs.Extents.{extended, extentIn, simpleExtent, guardExtent, headExtent, partsOf, partsExtent, insideExtent, stmtExtent}
-use Rattle.compiler.proofs.Spelled.{ExprAt, StmtAt, skipAt, stopAt, assignAt, inputAt}
-use Rattle.compiler.proofs.Spelled.{outputAt, varAt, chanAt, seqAt, parAt, ifAt, whileAt, altAt, StmtsAt, noStmtAt, stmtsAt}
-use Rattle.compiler.proofs.Spelled.{PairsAt, noPairAt, pairAt, GuardAt, inputGuardAt, skipGuardAt, GuardsAt, noGuardAt, guardsAt}
+use Rattle.numbers.specs.Kinds.{countIn}
+use Rattle.numbers.specs.declared.kinds.Head.{Head}
+use Rattle.numbers.specs.declared.kinds.Head.the-variants.{Nothing, Condition, Guard as GuardHead}
+use Rattle.emitter.specs.Extents.{extended, extentIn, simpleExtent, guardExtent, headExtent, partsExtent, declaredExtent, stmtExtent}
+use Rattle.compiler.proofs.Spelled.{ExprAt, StmtAt, skipAt, stopAt, assignAt, inputAt, outputAt, varAt, chanAt, seqAt, parAt, ifAt}
+use Rattle.compiler.proofs.Spelled.{whileAt, altAt, StmtsAt, noStmtAt, stmtsAt, PairsAt, noPairAt, pairAt, GuardAt, inputGuardAt}
+use Rattle.compiler.proofs.Spelled.{skipGuardAt, GuardsAt, noGuardAt, guardsAt}
 use Rattle.compiler.proofs.Bounds.{stmt-bound}
 use Rattle.compiler.proofs.Planned.{next-is, expr-ends, PlansFrom}
-
--- a statement has all its parts
-all-parts : (kind : ℕ) {k : ℕ} → kind ≤ 11 → k ≤ 32 → partsOf kind k ≡ k
-unfolding partsOf
-all-parts kind {k} l m = rw (le-ltb 11 kind l, le-ltb 32 k m)
 
 module _ (s plan : List ℕ) where
   -- k names around a body
@@ -34,119 +31,118 @@ module _ (s plan : List ℕ) where
 
   -- one part in front of others: PAR has the sum of branches
   sum-turn : (k i n z m x y : ℕ) → extentIn plan i ≡ extended n x → m + (x + y) ≤ 4096
-      → partsExtent k 8 plan s n (m + x) ≡ extended z (m + x + y) → partsExtent (suc k) 8 plan s i m ≡ extended z (m + (x + y))
+      → partsExtent k Nothing true plan s n (m + x) ≡ extended z (m + x + y)
+      → partsExtent (suc k) Nothing true plan s i m ≡ extended z (m + (x + y))
   unfolding partsExtent headExtent
   sum-turn k i n z m x y e l f =
       let sum : low (max m 0 + x) ≡ m + x = mod-eq-of-lt (omega arith) ∙ omega arith in
       rw (e, sum, f) (ap (extended z) (omega arith))
 
   -- SEQ, IF, WHILE and ALT have the most of what each part's head and its statement ask for
-  most-turn : (kind k i j n z m h x y : ℕ) → kind ≢ 8 → headExtent kind plan s i ≡ extended j h → extentIn plan j ≡ extended n x
-      → ((m : ℕ) → partsExtent k kind plan s n m ≡ extended z (max m y))
-      → partsExtent (suc k) kind plan s i m ≡ extended z (max m (max h (max x y)))
+  most-turn : (e : Head) (k i j n z m h x y : ℕ) → headExtent e plan s i ≡ extended j h → extentIn plan j ≡ extended n x
+      → ((m : ℕ) → partsExtent k e false plan s n m ≡ extended z (max m y))
+      → partsExtent (suc k) e false plan s i m ≡ extended z (max m (max h (max x y)))
   unfolding partsExtent
-  most-turn kind k i j n z m h x y other e f g = rw (e, f, ne-eqb kind 8 other, g) (ap (extended z) (omega arith))
+  most-turn e k i j n z m h x y p f g = rw (p, f, g) (ap (extended z) (omega arith))
 
-  parts-over : (kind i m : ℕ) → partsExtent 0 kind plan s i m ≡ extended i (max m 0)
+  parts-over : (e : Head) (b : Bool) (i m : ℕ) → partsExtent 0 e b plan s i m ≡ extended i (max m 0)
   unfolding partsExtent
-  parts-over kind i m = ap (extended i) (omega arith)
+  parts-over e b i m = ap (extended i) (omega arith)
 
-  -- what stands before the statement of a part: nothing in SEQ and PAR, a condition in IF and WHILE, a guard in ALT
-  no-head : (kind i : ℕ) → kind < 9 → headExtent kind plan s i ≡ extended i 0
+  -- what stands before the statement of a part: nothing, a condition or a guard
+  no-head : (i : ℕ) → headExtent Nothing plan s i ≡ extended i 0
   unfolding headExtent
-  no-head kind i l = rw (lt-ltb kind 9 l)
+  no-head i = refl
 
 module _ (s plan : List ℕ) {lo : ℕ} (planned : PlansFrom s lo plan) where
-  condition-head : {vs : List Site} {d i n : ℕ} {e : Expr} (kind : ℕ) → 9 ≤ kind → kind < 11 → ExprAt s vs d i e n → d ≤ 32 → lo ≤ i
-      → headExtent kind plan s i ≡ extended n (temporaries e + 2)
+  condition-head : {vs : List Site} {d i n : ℕ} {e : Expr} → ExprAt s vs d i e n → d ≤ 32 → lo ≤ i
+      → headExtent Condition plan s i ≡ extended n (temporaries e + 2)
   unfolding headExtent
-  condition-head kind l m a deep later =
-      let t = planned .tells a deep later in
-      rw (le-ltb kind 9 l, lt-ltb kind 11 m, t .next, t .holds)
+  condition-head a deep later = let t = planned .tells a deep later in rw (t .next, t .holds)
 
   guard-head : {w : Scope} {d i n : ℕ} {g : Guard} → GuardAt s d w i g n → d ≤ 32 → lo ≤ i
-      → (headExtent 11 plan s i ≡ extended n (guardWords (temporaries (condition g)))) × (i < n)
+      → (headExtent GuardHead plan s i ≡ extended n (guardWords (temporaries (condition g)))) × (i < n)
   unfolding headExtent guardExtent
   guard-head (inputGuardAt k a c x) deep later =
       let t = planned .tells a deep (omega (arith, k .ahead)) in (
-        rw (k .value, t .next, t .holds, next-is s (c .there), next-is s (x .there)),
+        rw (k .value, k .is, t .next, t .holds, next-is s (c .there), next-is s (x .there)),
         omega (arith, k .ahead, expr-ends s a .0, c .there .ahead, x .there .ahead),
       )
   guard-head (skipGuardAt k a) deep later =
       let t = planned .tells a deep (omega (arith, k .ahead)) in
-      (rw (k .value, t .next, t .holds), omega (arith, k .ahead, expr-ends s a .0))
+      (rw (k .value, k .is, t .next, t .holds), omega (arith, k .ahead, expr-ends s a .0))
 
   -- the parts of a statement, behind some that need m words
   seq-is : {w : Scope} {d k i n : ℕ} {ss : Stmts} (m : ℕ) → StmtsAt s d w k i ss n → d ≤ 32 → mostNeed ss ≤ 4096 → lo ≤ i
-      → partsExtent k 7 plan s i m ≡ extended n (max m (mostNeed ss))
+      → partsExtent k Nothing false plan s i m ≡ extended n (max m (mostNeed ss))
   unfolding mostNeed
-  seq-is {i = i} m noStmtAt deep l later = parts-over s plan 7 i m
+  seq-is {i = i} m noStmtAt deep l later = parts-over s plan Nothing false i m
   seq-is m (stmtsAt {k = k} {at = i} {n = n} {m = z} {b = b} {ss = ss} a c) deep l later =
-      most-turn s plan 7 k i i n z m 0 (need b) (mostNeed ss) (omega arith) (no-head s plan 7 i (omega arith))
+      most-turn s plan Nothing k i i n z m 0 (need b) (mostNeed ss) (no-head s plan i)
       (planned .measures a deep (omega arith) later) (λ m. seq-is m c deep (omega arith) (omega (arith, stmt-bound s a)))
       ∙ ap (extended z) (omega arith)
 
   par-is : {w : Scope} {d k i n : ℕ} {ss : Stmts} (m : ℕ) → StmtsAt s d w k i ss n → d ≤ 32 → m + sumNeed ss ≤ 4096 → lo ≤ i
-      → partsExtent k 8 plan s i m ≡ extended n (m + sumNeed ss)
+      → partsExtent k Nothing true plan s i m ≡ extended n (m + sumNeed ss)
   unfolding sumNeed
-  par-is {i = i} m noStmtAt deep l later = parts-over s plan 8 i m ∙ ap (extended i) (omega arith)
+  par-is {i = i} m noStmtAt deep l later = parts-over s plan Nothing true i m ∙ ap (extended i) (omega arith)
   par-is m (stmtsAt {k = k} {at = i} {n = n} {m = z} {b = b} {ss = ss} a c) deep l later =
       sum-turn s plan k i n z m (need b) (sumNeed ss) (planned .measures a deep (omega arith) later) l
       (par-is (m + need b) c deep (omega arith) (omega (arith, stmt-bound s a)))
 
   pairs-is : {w : Scope} {d k i n : ℕ} {ps : Pairs} (m : ℕ) → PairsAt s d w k i ps n → d ≤ 32 → pairNeed ps ≤ 4096 → lo ≤ i
-      → partsExtent k 9 plan s i m ≡ extended n (max m (pairNeed ps))
+      → partsExtent k Condition false plan s i m ≡ extended n (max m (pairNeed ps))
   unfolding pairNeed
-  pairs-is {i = i} m noPairAt deep l later = parts-over s plan 9 i m
+  pairs-is {i = i} m noPairAt deep l later = parts-over s plan Condition false i m
   pairs-is m (pairAt {k = k} {at = i} {n = j} {m = n} {p = z} {e = e} {b = b} {ps = ps} c a g) deep l later =
       let behind = expr-ends s c .0 in
-      most-turn s plan 9 k i j n z m (temporaries e + 2) (need b) (pairNeed ps) (omega arith)
-      (condition-head 9 (omega arith) (omega arith) c deep later) (planned .measures a deep (omega arith) (omega arith))
+      most-turn s plan Condition k i j n z m (temporaries e + 2) (need b) (pairNeed ps)
+      (condition-head c deep later) (planned .measures a deep (omega arith) (omega arith))
       (λ m. pairs-is m g deep (omega arith) (omega (arith, stmt-bound s a)))
 
   guards-is : {w : Scope} {d k i n : ℕ} {gs : Guards} (m : ℕ) → GuardsAt s d w k i gs n → d ≤ 32 → guardNeed gs ≤ 4096 → lo ≤ i
-      → partsExtent k 11 plan s i m ≡ extended n (max m (guardNeed gs))
+      → partsExtent k GuardHead false plan s i m ≡ extended n (max m (guardNeed gs))
   unfolding guardNeed
-  guards-is {i = i} m noGuardAt deep l later = parts-over s plan 11 i m
+  guards-is {i = i} m noGuardAt deep l later = parts-over s plan GuardHead false i m
   guards-is m (guardsAt {k = k} {at = i} {n = j} {m = n} {p = z} {g = g} {b = b} {gs = gs} c a h) deep l later =
       let (head, behind) = guard-head c deep later in
-      most-turn s plan 11 k i j n z m (guardWords (temporaries (condition g))) (need b) (guardNeed gs) (omega arith) head
+      most-turn s plan GuardHead k i j n z m (guardWords (temporaries (condition g))) (need b) (guardNeed gs) head
       (planned .measures a deep (omega arith) (omega arith)) (λ m. guards-is m h deep (omega arith) (omega (arith, stmt-bound s a)))
 
 -- a statement, by a plan that tells of all that begins behind its first byte
 pub extent-is : (s plan : List ℕ) {w : Scope} {d i n : ℕ} {b : Stmt} → PlansFrom s (suc i) plan → StmtAt s d w i b n → d ≤ 32
     → need b ≤ 4096 → stmtExtent plan s (valueAt s i) ≡ extended n (need b)
-unfolding stmtExtent simpleExtent insideExtent need
-extent-is s plan p (skipAt k) deep l = rw (k .value)
-extent-is s plan p (stopAt k) deep l = rw (k .value)
+unfolding stmtExtent countIn simpleExtent declaredExtent need
+extent-is s plan p (skipAt k) deep l = rw (k .value, k .is)
+extent-is s plan p (stopAt k) deep l = rw (k .value, k .is)
 extent-is s plan p (assignAt k x e) deep l =
     let t = p .tells e (omega arith) (omega (arith, k .ahead, x .there .ahead)) in
-    rw (k .value, next-is s (x .there), t .next, t .holds)
-extent-is s plan p (inputAt k c x) deep l = rw (k .value, next-is s (c .there), next-is s (x .there))
+    rw (k .value, k .is, next-is s (x .there), t .next, t .holds)
+extent-is s plan p (inputAt k c x) deep l = rw (k .value, k .is, next-is s (c .there), next-is s (x .there))
 extent-is s plan p (outputAt k c e) deep l =
     let t = p .tells e (omega arith) (omega (arith, k .ahead, c .there .ahead)) in
-    rw (k .value, next-is s (c .there), t .next, t .holds)
+    rw (k .value, k .is, next-is s (c .there), t .next, t .holds)
 extent-is s plan p (varAt k c a) deep l =
-    rw (k .value, c .there .value)
+    rw (k .value, k .is, c .there .value)
     (names-turn s plan _ _ _ _ (p .measures a (omega arith) (omega arith) (omega (arith, k .ahead, c .there .ahead))) l)
 extent-is s plan p (chanAt k c a) deep l =
-    rw (k .value, c .there .value)
+    rw (k .value, k .is, c .there .value)
     (names-turn s plan _ _ _ _ (p .measures a (omega arith) (omega arith) (omega (arith, k .ahead, c .there .ahead))) l)
 extent-is s plan p (seqAt k c a) deep l =
-    rw (k .value, c .there .value, all-parts 7 (omega arith) (c .most))
+    rw (k .value, k .is, c .there .value, c .fits)
     (seq-is s plan p 2 a (omega arith) (omega arith) (omega (arith, k .ahead, c .there .ahead)))
-extent-is s plan p (parAt {k = count} k c a) deep l =
-    rw (k .value, c .there .value, all-parts 8 {k = count} (omega arith) (omega (arith, c .most)))
+extent-is s plan p (parAt k c a) deep l =
+    rw (k .value, k .is, c .there .value, c .fits)
     (par-is s plan p 2 a (omega arith) l (omega (arith, k .ahead, c .there .ahead)))
 extent-is s plan p (ifAt k c a) deep l =
-    rw (k .value, c .there .value, all-parts 9 (omega arith) (c .most))
+    rw (k .value, k .is, c .there .value, c .fits)
     (pairs-is s plan p 2 a (omega arith) (omega arith) (omega (arith, k .ahead, c .there .ahead)))
 extent-is s plan p (whileAt {n = n} {m = m} {p = z} {e = e} {b = b} k c a) deep l =
-    rw (k .value)
-    (most-turn s plan 10 0 n m z z 2 (temporaries e + 2) (need b) 0 (omega arith)
-    (condition-head s plan p 10 (omega arith) (omega arith) c (omega arith) (k .ahead))
-    (p .measures a (omega arith) (omega arith) (omega (arith, k .ahead, expr-ends s c .0))) (λ m. parts-over s plan 10 z m)
+    rw (k .value, k .is)
+    (most-turn s plan Condition 0 n m z z 2 (temporaries e + 2) (need b) 0
+    (condition-head s plan p c (omega arith) (k .ahead))
+    (p .measures a (omega arith) (omega arith) (omega (arith, k .ahead, expr-ends s c .0))) (λ m. parts-over s plan Condition false z m)
     ∙ ap (extended z) (omega arith))
 extent-is s plan p (altAt k c a) deep l =
-    rw (k .value, c .there .value, all-parts 11 (omega arith) (c .most))
+    rw (k .value, k .is, c .there .value, c .fits)
     (guards-is s plan p 4 a (omega arith) (omega arith) (omega (arith, k .ahead, c .there .ahead)))

@@ -19,8 +19,10 @@ use Rattle.model.proofs.Coding.Sizes.{whole-length, code-length, pairs-length}
 use Rattle.emitter.specs.Emits.{Code, at, distanceInto}
 use Rattle.emitter.specs.Exprs.{Wrote, written, wholeInto}
 use Rattle.compiler.specs.Stmts.{seqInto, ifInto}
-use Rattle.compiler.specs.Alts.{stmtInto}
-use Rattle.compiler.proofs.Spelled.{NumeralAt, ExprAt, CountAt, StmtAt, StmtsAt, noStmtAt, stmtsAt, PairsAt, noPairAt, pairAt}
+use Rattle.model.specs.declared.kinds.StmtKind.the-variants.{Seq, If, While}
+use Rattle.numbers.specs.Kinds.{stmtKind, countIn}
+use Rattle.compiler.specs.Kinds.{stmtInto}
+use Rattle.compiler.proofs.Spelled.{KindAt, ExprAt, CountAt, StmtAt, StmtsAt, noStmtAt, stmtsAt, PairsAt, noPairAt, pairAt}
 use Rattle.compiler.proofs.Planned.{Plans}
 use Rattle.compiler.proofs.Fills.{bytes-append, filled, fill-then, fill-none, Room, room-left, room-right, distance-fills, Stands}
 use Rattle.compiler.proofs.Fills.{stands-first, stands-next, stands-both, stands-last, gap-fills}
@@ -46,11 +48,11 @@ module _ (word : Site → ℕ) (workspace : ℕ → ℕ) (off : ℕ → ℕ) (s 
         )
         (ap (written _) (fill-then off h B (codeAll word w (j + size b) ss) o))
 
-    pub seq-code : {i n m q k : ℕ} {ss : Stmts} (j h : ℕ) → NumeralAt s i 7 n → CountAt s 0 32 n k m → StmtsAt s d sc k m ss q
+    pub seq-code : {i n m q k : ℕ} {ss : Stmts} (j h : ℕ) → KindAt s stmtKind i Seq n → CountAt s 0 32 n k m → StmtsAt s d sc k m ss q
         → Placed word workspace off s plan w j h (SEQ ss) → Written word workspace off s plan (suc d) sc vs cs w j h i q (SEQ ss)
-    unfolding stmtInto code need
+    unfolding stmtInto countIn code need
     seq-code j h t c a p o =
-        rw (t .value, c .there .value) (seq-parts j h a (p .laid) (omega (arith, p .few)) (p .stands) (p .room) o)
+        rw (t .value, t .is, c .there .value, c .fits) (seq-parts j h a (p .laid) (omega (arith, p .few)) (p .stands) (p .room) o)
 
     -- a tested body: condition, CJ behind the J, body, J; then the rest. The J reaches a place that the rest's end gives
     abbrev testedInto : (reached : ℕ → ℕ) (rest : ℕ → Code → Wrote) (at : ℕ) → Code → Wrote
@@ -130,12 +132,12 @@ module _ (word : Site → ℕ) (workspace : ℕ → ℕ) (off : ℕ → ℕ) (s 
         )
         refl
 
-    pub while-code : {i n m q : ℕ} {e : Expr} {b : Stmt} (j h : ℕ) → NumeralAt s i 10 n → ExprAt s (sc .variables) d n e m
+    pub while-code : {i n m q : ℕ} {e : Expr} {b : Stmt} (j h : ℕ) → KindAt s stmtKind i While n → ExprAt s (sc .variables) d n e m
         → StmtAt s d sc m b q → Placed word workspace off s plan w j h (WHILE e b)
         → Written word workspace off s plan (suc d) sc vs cs w j h i q (WHILE e b)
-    unfolding stmtInto code need
+    unfolding stmtInto countIn code need
     while-code j h t c a p o =
-        rw (t .value)
+        rw (t .value, t .is)
         (tested-code (λ x. h) (λ i c. written i c) j j h [] o c a (p .laid) (omega (arith, p .few)) (p .stands) (p .room)
         (λ k o q r. (stands-first off (p .stands), ap (written _) (sym (fill-none off k o)))))
 
@@ -153,8 +155,8 @@ module _ (word : Site → ℕ) (workspace : ℕ → ℕ) (off : ℕ → ℕ) (s 
         (laid .0) (omega arith) p r
         (λ h o p r. (rw end at (stands-last off P p), if-parts next over h (omega (arith, is)) g (laid .1) (omega arith) p r o))
 
-    pub if-code : {i n m q k : ℕ} {ps : Pairs} (j h : ℕ) → NumeralAt s i 9 n → CountAt s 0 32 n k m → PairsAt s d sc k m ps q
+    pub if-code : {i n m q k : ℕ} {ps : Pairs} (j h : ℕ) → KindAt s stmtKind i If n → CountAt s 0 32 n k m → PairsAt s d sc k m ps q
         → Placed word workspace off s plan w j h (IF ps) → Written word workspace off s plan (suc d) sc vs cs w j h i q (IF ps)
-    unfolding stmtInto code need
+    unfolding stmtInto countIn code need
     if-code {ps = ps} j h t c a p o =
-        rw (t .value, c .there .value) (if-parts j (j + sizePairs ps) h refl a (p .laid) (omega (arith, p .few)) (p .stands) (p .room) o)
+        rw (t .value, t .is, c .there .value, c .fits) (if-parts j (j + sizePairs ps) h refl a (p .laid) (omega (arith, p .few)) (p .stands) (p .room) o)

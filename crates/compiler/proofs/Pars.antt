@@ -21,8 +21,10 @@ use Rattle.model.proofs.Coding.Sizes.{code-length, starts-length, ends-length}
 use Rattle.emitter.specs.Emits.{at, operationInto}
 use Rattle.emitter.specs.Exprs.{written}
 use Rattle.compiler.specs.Stmts.{startsEnd, startInto, branchesInto, headerInto, parInto}
-use Rattle.compiler.specs.Alts.{stmtInto, innerAt}
-use Rattle.compiler.proofs.Spelled.{NumeralAt, CountAt, StmtAt, StmtsAt, noStmtAt, stmtsAt}
+use Rattle.model.specs.declared.kinds.StmtKind.the-variants.{Par}
+use Rattle.numbers.specs.Kinds.{stmtKind, countIn}
+use Rattle.compiler.specs.Kinds.{stmtInto, innerAt}
+use Rattle.compiler.proofs.Spelled.{KindAt, CountAt, StmtAt, StmtsAt, noStmtAt, stmtsAt}
 use Rattle.compiler.proofs.Planned.{Plans}
 use Rattle.compiler.proofs.Fills.{bytes-append, filled, fill-then, fill-before, fill-none, Room, room-left, room-right, emits-fills}
 use Rattle.compiler.proofs.Fills.{emits-at, distance-fills, Stands, stands-first, stands-next, stands-both, stands-last, gap-fills}
@@ -227,9 +229,9 @@ module _ (word : Site → ℕ) (workspace : ℕ → ℕ) (off : ℕ → ℕ) (s 
     count-is noStmtAt = refl
     count-is (stmtsAt a c) = ap suc (count-is c)
 
-    pub par-code : {i n m q k : ℕ} {ss : Stmts} (j h : ℕ) → NumeralAt s i 8 n → CountAt s 0 16 n k m → StmtsAt s d sc k m ss q
+    pub par-code : {i n m q k : ℕ} {ss : Stmts} (j h : ℕ) → KindAt s stmtKind i Par n → CountAt s 0 16 n k m → StmtsAt s d sc k m ss q
         → Placed word workspace off s plan w j h (PAR i ss) → Written word workspace off s plan (suc d) sc vs cs w j h i q (PAR i ss)
-    unfolding stmtInto code need
-    par-code j h t c noStmtAt p o = rw (t .value, c .there .value) (ap (written _) (sym (fill-none off h o)))
+    unfolding stmtInto countIn code need
+    par-code j h t c noStmtAt p o = rw (t .value, t .is, c .there .value) (ap (written _) (sym (fill-none off h o)))
     par-code j h t c (stmtsAt a g) p o =
-        rw (t .value, c .there .value) (branches-code j h o a g (count-is g) (p .laid) (p .few) (p .stands) (p .room))
+        rw (t .value, t .is, c .there .value, c .fits) (branches-code j h o a g (count-is g) (p .laid) (p .few) (p .stands) (p .room))

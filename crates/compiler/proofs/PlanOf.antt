@@ -14,9 +14,8 @@ use Rattle.numbers.specs.Items.{valueAt}
 use Rattle.emitter.specs.Plans.{planAt, exprEntry}
 use Rattle.emitter.specs.Extents.{extended, extentEntry, statementAt, extentIn, stmtExtent}
 use Rattle.emitter.specs.Makes.{plannedAt, plannedBelow, planOf}
-use Rattle.compiler.proofs.Spelled.{StmtAt, skipAt, stopAt, assignAt, inputAt, outputAt, varAt, chanAt, seqAt, parAt, ifAt}
-use Rattle.compiler.proofs.Spelled.{whileAt, altAt, StmtsAt, noStmtAt, stmtsAt, PairsAt, noPairAt, pairAt, GuardsAt, noGuardAt}
-use Rattle.compiler.proofs.Spelled.{guardsAt}
+use Rattle.compiler.proofs.Spelled.{StmtAt, skipAt, stopAt, assignAt, inputAt, outputAt, varAt, chanAt, seqAt, parAt, ifAt, whileAt}
+use Rattle.compiler.proofs.Spelled.{altAt, StmtsAt, noStmtAt, stmtsAt, PairsAt, noPairAt, pairAt, GuardsAt, noGuardAt, guardsAt}
 use Rattle.compiler.proofs.Bounds.{stmt-bound}
 use Rattle.compiler.proofs.Planned.{expr-ends, PlansFrom, entry-is, Plans}
 use Rattle.compiler.proofs.ExtentIs.{extent-is}

@@ -60,16 +60,16 @@ module _ (s : List ℕ) where
         → Tells (exprEntry plan s (valueAt s i)) n e
     unfolding exprEntry sidesEntry registers temporaries
     entry-is plan p (constantAt v k t) l =
-        rw (k .value, next-is t) (entry-tells _ (constant v) (omega (arith, t .inside)) (omega arith))
+        rw (k .value, k .is, next-is t) (entry-tells _ (constant v) (omega (arith, t .inside)) (omega arith))
     entry-is plan p (variableAt {x = x} k a) l =
-        rw (k .value, next-is (a .there)) (entry-tells _ (variable x) (omega (arith, a .there .inside)) (omega arith))
+        rw (k .value, k .is, next-is (a .there)) (entry-tells _ (variable x) (omega (arith, a .there .inside)) (omega arith))
     entry-is plan p (notAt k a) l =
         let t = p .tells a (omega arith) (k .ahead) in
-        rw (k .value) (record { next = t .next; needs = t .needs; holds = t .holds })
+        rw (k .value, k .is) (record { next = t .next; needs = t .needs; holds = t .holds })
     entry-is plan p (binaryAt {op = op} {l = l} {r = r} k v a c) m =
         let x = p .tells a (omega arith) (omega (arith, k .ahead, v .there .ahead)) in
         let y = p .tells c (omega arith) (omega (arith, k .ahead, v .there .ahead, expr-ends a .0)) in
-        rw (k .value, next-is (v .there), x .next, x .needs, x .holds, y .next, y .needs, y .holds)
+        rw (k .value, k .is, next-is (v .there), x .next, x .needs, x .holds, y .next, y .needs, y .holds)
         (entry-tells _ (binary op l r) (omega (arith, expr-ends c .1))
         (omega (arith, sides-hold (order l r) (temporaries l) (temporaries r), holds-few a, holds-few c)))
 

@@ -32,7 +32,7 @@ use Rattle.emitter.specs.Emits.{at, declaredWords}
 use Rattle.emitter.specs.Makes.{planOf}
 use Rattle.emitter.specs.Exprs.{written}
 use Rattle.compiler.specs.Stmts.{scoped}
-use Rattle.compiler.specs.Alts.{stmtInto}
+use Rattle.compiler.specs.Kinds.{stmtInto}
 use Rattle.compiler.specs.Codes.{tableInto}
 use Rattle.compiler.proofs.Spelled.{CountAt, StmtAt, Gives, parses, and-then, count, stmt-spelled}
 use Rattle.compiler.proofs.Fills.{bytes-append, filled, Room, Stands, ends, stands}

@@ -1,13 +1,21 @@
 -- The definitions of statements' code, unrolled once, each by what the calls that make it have written.
-use Prim.Native.Nat.{ℕ, zero, suc, _+_, _-_, _<_, _≤_}
+use Prim.Native.Nat.{ℕ, zero, suc, _+_, _-_}
 use native.Mathlib.Omega.{arith}
-use borrow.Author.Tests.{lt-ltb, le-ltb, eq-eqb, ne-eqb}
-use mathlib.Core.Bool.{true, false, cond}
+use borrow.Author.Tests.{eq-eqb, ne-eqb}
+use mathlib.Core.Bool.{true, false}
 use mathlib.Core.List.{List}
 use mathlib.Core.Path.{_≡_, refl, sym, _∙_}
-use lib.Dec.{ltb}
 use Rattle.model.specs.Word.{low, minus}
+use Rattle.model.specs.declared.kinds.StmtKind.{StmtKind}
 use Rattle.numbers.specs.Items.{valueAt}
+use Rattle.numbers.specs.Kinds.{stmtKind, shapeOf, countIn, byShape}
+use Rattle.numbers.specs.declared.kinds.Declared.{Declared}
+use Rattle.numbers.specs.declared.kinds.Declared.the-variants.{Variables, Channels}
+use Rattle.numbers.specs.declared.kinds.Head.{Head}
+use Rattle.numbers.specs.declared.kinds.Head.the-variants.{Nothing, Condition, Guard as Guarding}
+use Rattle.numbers.specs.declared.kinds.Shape.{Shape}
+use Rattle.numbers.specs.declared.kinds.Count.{Count}
+use Rattle.numbers.specs.declared.kinds.Count.the-variants.{UpTo, Fixed}
 use Rattle.numbers.specs.declared.Value.{Value}
 use Rattle.emitter.specs.Emits.{Code, at, plainInto, distanceInto, operationInto, declaredWords}
 use Rattle.emitter.specs.Exprs.{Wrote, written, codeOf, wholeInto}
@@ -15,55 +23,47 @@ use Rattle.emitter.specs.Extents.{extentIn}
 use Rattle.emitter.specs.Simples.{inInto, simpleInto}
 use Rattle.emitter.specs.declared.extent.Extent.{Extent}
 use Rattle.compiler.specs.Stmts.{scoped, initialInto, startsEnd, startInto, headerInto, seqInto, ifInto, branchesInto}
-use Rattle.compiler.specs.Alts.{Guarded, guardInto, Enabling, enableInto, disableInto, choicesInto, stmtInto, bodyAt, declarationAt}
-use Rattle.compiler.specs.Alts.{seqAt, ifAt, whileAt, branchAt, branchesAt, parAt, choiceAt, choicesAt, altAt, insideAt}
+use Rattle.compiler.specs.Alts.{Guarded, guardInto, Enabling, enableInto, disableInto, choicesInto}
+use Rattle.compiler.specs.Kinds.{stmtInto, bodyAt, declarationAt, seqAt, ifAt, whileAt, branchAt, branchesAt, parAt, choiceAt}
+use Rattle.compiler.specs.Kinds.{choicesAt, altAt, partsAt, insideAt}
 use Rattle.compiler.specs.declared.stmt.Scope.{Scope}
 use Rattle.compiler.specs.declared.alt.Guard.{Guard}
 
--- a statement: no depth left; a simple one; one with statements inside
+-- a statement: no depth left; else by its kind
 pub stmt-none : (d : ℕ) (sc : Scope) (vs cs plan s : List ℕ) (i : ℕ) (c : Code) → d ≡ 0 → written i c ≡ stmtInto d sc vs cs plan s i c
 unfolding stmtInto
 stmt-none d sc vs cs plan s i c e = rw e
 
-abbrev byKind : (d : ℕ) (sc : Scope) (vs cs plan s : List ℕ) → Code → Value → Wrote
-byKind d sc vs cs plan s c k =
-    cond (ltb (k .value) 5) (simpleInto (k .value) (d - 1) (sc .w) vs cs plan s (k .next) c)
-    (insideAt (k .value) (d - 1) sc vs cs plan s (k .next) c)
-
 stmt-turn : (d : ℕ) (sc : Scope) (vs cs plan s : List ℕ) (i : ℕ) (c : Code) → (d ≡ 0 → ⊥)
-    → stmtInto d sc vs cs plan s i c ≡ byKind d sc vs cs plan s c (valueAt s i)
+    → stmtInto d sc vs cs plan s i c ≡ (let v = valueAt s i in insideAt (stmtKind (v .value)) (d - 1) sc vs cs plan s (v .next) c)
 unfolding stmtInto insideAt
 stmt-turn zero sc vs cs plan s i c p = absurd (p refl)
 stmt-turn (suc d) sc vs cs plan s i c p = let e : suc d - 1 ≡ d = omega arith in rw e
 
 module _ (d : ℕ) (sc : Scope) (vs cs plan s : List ℕ) where
-  pub stmt-simple : (i : ℕ) (c : Code) {k : Value} {r : Wrote} → (d ≡ 0 → ⊥) → k ≡ valueAt s i
-      → k .value < 5 → r ≡ simpleInto (k .value) (d - 1) (sc .w) vs cs plan s (k .next) c → r ≡ stmtInto d sc vs cs plan s i c
-  stmt-simple i c {k} p q t e = e ∙ sym (stmt-turn d sc vs cs plan s i c p ∙ simp (← q, lt-ltb (k .value) 5 t))
-
-  pub stmt-inside : (i : ℕ) (c : Code) {k : Value} {r : Wrote} → (d ≡ 0 → ⊥) → k ≡ valueAt s i
-      → 5 ≤ k .value → r ≡ insideAt (k .value) (d - 1) sc vs cs plan s (k .next) c → r ≡ stmtInto d sc vs cs plan s i c
-  stmt-inside i c {k} p q t e = e ∙ sym (stmt-turn d sc vs cs plan s i c p ∙ simp (← q, le-ltb (k .value) 5 t))
+  pub stmt-inside : (i : ℕ) (c : Code) {v : Value} {k : StmtKind} {r : Wrote} → (d ≡ 0 → ⊥) → v ≡ valueAt s i
+      → k ≡ stmtKind (v .value) → r ≡ insideAt k (d - 1) sc vs cs plan s (v .next) c → r ≡ stmtInto d sc vs cs plan s i c
+  stmt-inside i c p q g e = e ∙ sym (stmt-turn d sc vs cs plan s i c p ∙ simp (← q, ← g))
 
   -- the body of VAR and of CHAN
-  pub body-variables : (k n i : ℕ) (c : Code) {w v : ℕ} {more : List ℕ} {r : Wrote}
-      → w ≡ sc .w - n → k ≡ 5 → more ≡ declaredWords n (sc .variables) w vs → v ≡ low (sc .variables + n)
-      → r ≡ stmtInto d (scoped w v (sc .channels)) more cs plan s i c → r ≡ bodyAt k n d sc vs cs plan s i c
+  pub body-variables : (x : Declared) (n i : ℕ) (c : Code) {w v : ℕ} {more : List ℕ} {r : Wrote}
+      → w ≡ sc .w - n → x ≡ Variables → more ≡ declaredWords n (sc .variables) w vs → v ≡ low (sc .variables + n)
+      → r ≡ stmtInto d (scoped w v (sc .channels)) more cs plan s i c → r ≡ bodyAt x n d sc vs cs plan s i c
   unfolding bodyAt
-  body-variables k n i c p t m q e = e ∙ rw (m, q, p, eq-eqb k 5 t)
+  body-variables x n i c p t m q e = e ∙ rw (m, q, p, t)
 
-  pub body-channels : (k n i : ℕ) (c : Code) {w v : ℕ} {more : List ℕ} {r : Wrote}
-      → w ≡ sc .w - n → (k ≡ 5 → ⊥) → more ≡ declaredWords n (sc .channels) w cs → v ≡ low (sc .channels + n)
-      → r ≡ stmtInto d (scoped w (sc .variables) v) vs more plan s i c → r ≡ bodyAt k n d sc vs cs plan s i c
+  pub body-channels : (x : Declared) (n i : ℕ) (c : Code) {w v : ℕ} {more : List ℕ} {r : Wrote}
+      → w ≡ sc .w - n → x ≡ Channels → more ≡ declaredWords n (sc .channels) w cs → v ≡ low (sc .channels + n)
+      → r ≡ stmtInto d (scoped w (sc .variables) v) vs more plan s i c → r ≡ bodyAt x n d sc vs cs plan s i c
   unfolding bodyAt
-  body-channels k n i c p t m q e = e ∙ rw (m, q, p, ne-eqb k 5 t)
+  body-channels x n i c p t m q e = e ∙ rw (m, q, p, t)
 
-  pub declaration-is : (k i : ℕ) (c : Code) {n : Value} {m : ℕ} {a st e : Code} {b : Wrote}
-      → n ≡ valueAt s i → m ≡ minus (n .value) → a ≡ plainInto 0xb0 m c → st ≡ initialInto (n .value) k 0 a
-      → b ≡ bodyAt k (n .value) d sc vs cs plan s (n .next) st → e ≡ plainInto 0xb0 (n .value) (codeOf b)
-      → written (b .next) e ≡ declarationAt k d sc vs cs plan s i c
+  pub declaration-is : (x : Declared) (i : ℕ) (c : Code) {n : Value} {m : ℕ} {a st e : Code} {b : Wrote}
+      → n ≡ valueAt s i → m ≡ minus (n .value) → a ≡ plainInto 0xb0 m c → st ≡ initialInto (n .value) x 0 a
+      → b ≡ bodyAt x (n .value) d sc vs cs plan s (n .next) st → e ≡ plainInto 0xb0 (n .value) (codeOf b)
+      → written (b .next) e ≡ declarationAt x d sc vs cs plan s i c
   unfolding declarationAt bodyAt
-  declaration-is k i c pn pm pa pst pb pe = rw (pe, pb, pst, pa, pm, pn)
+  declaration-is x i c pn pm pa pst pb pe = rw (pe, pb, pst, pa, pm, pn)
 
   -- SEQ
   pub seq-none : (n i : ℕ) (c : Code) → n ≡ 0 → written i c ≡ seqAt n d sc vs cs plan s i c
@@ -167,37 +167,31 @@ module _ (d : ℕ) (sc : Scope) (vs cs plan s : List ℕ) where
   unfolding altAt choicesAt
   alt-is n i c pm pa pb pw pe pt po pz pr = pr ∙ rw (pz, po, pt, pe, pw, pb, pa, pm)
 
-  -- what follows the kinds 5 to 11
-  pub inside-declaration : (k i : ℕ) (c : Code) {r : Wrote} → k < 7
-      → r ≡ declarationAt k d sc vs cs plan s i c → r ≡ insideAt k d sc vs cs plan s i c
-  unfolding insideAt declarationAt
-  inside-declaration k i c t e = e ∙ simp (lt-ltb k 7 t)
+  -- the parts of a statement, by what stands before each
+  pub parts-seq : (h : Head) (m : Count) (i : ℕ) (c : Code) {n : Value} {r : Wrote} → n ≡ countIn m s i → h ≡ Nothing
+      → r ≡ seqAt (n .value) d sc vs cs plan s (n .next) c → r ≡ partsAt h m d sc vs cs plan s i c
+  unfolding partsAt seqAt
+  parts-seq h m i c q t e = e ∙ rw (q, t)
 
-  pub inside-while : (k i : ℕ) (c : Code) {r : Wrote} → 7 ≤ k → k ≡ 10
-      → r ≡ whileAt d sc vs cs plan s i c → r ≡ insideAt k d sc vs cs plan s i c
-  unfolding insideAt whileAt
-  inside-while k i c t u e = e ∙ simp (le-ltb k 7 t, eq-eqb k 10 u)
+  pub parts-if : (h : Head) (m : Count) (i : ℕ) (c : Code) {most : ℕ} {n : Value} {r : Wrote} → n ≡ countIn m s i → h ≡ Condition
+      → m ≡ UpTo most → r ≡ ifAt (n .value) d sc vs cs plan s (n .next) c → r ≡ partsAt h m d sc vs cs plan s i c
+  unfolding partsAt ifAt
+  parts-if h m i c q t u e = e ∙ rw (q, t, u)
 
-  pub inside-seq : (k i : ℕ) (c : Code) {n : Value} {r : Wrote} → 7 ≤ k → (k ≡ 10 → ⊥)
-      → n ≡ valueAt s i → k ≡ 7 → r ≡ seqAt (n .value) d sc vs cs plan s (n .next) c → r ≡ insideAt k d sc vs cs plan s i c
-  unfolding insideAt seqAt
-  inside-seq k i c t u q v e = e ∙ rw (q, le-ltb k 7 t, ne-eqb k 10 u, eq-eqb k 7 v)
+  pub parts-while : (h : Head) (m : Count) (i : ℕ) (c : Code) {k : ℕ} {n : Value} {r : Wrote} → n ≡ countIn m s i → h ≡ Condition
+      → m ≡ Fixed k → r ≡ whileAt d sc vs cs plan s (n .next) c → r ≡ partsAt h m d sc vs cs plan s i c
+  unfolding partsAt whileAt
+  parts-while h m i c q t u e = e ∙ rw (q, t, u)
 
-  pub inside-par : (k i : ℕ) (c : Code) {n : Value} {r : Wrote} → 7 ≤ k → (k ≡ 10 → ⊥)
-      → n ≡ valueAt s i → (k ≡ 7 → ⊥) → k ≡ 8 → r ≡ parAt (n .value) d sc vs cs plan s (n .next) c → r ≡ insideAt k d sc vs cs plan s i c
-  unfolding insideAt parAt
-  inside-par k i c t u q v w e = e ∙ rw (q, le-ltb k 7 t, ne-eqb k 10 u, ne-eqb k 7 v, eq-eqb k 8 w)
+  pub parts-alt : (h : Head) (m : Count) (i : ℕ) (c : Code) {n : Value} {r : Wrote} → n ≡ countIn m s i → h ≡ Guarding
+      → r ≡ altAt (n .value) d sc vs cs plan s (n .next) c → r ≡ partsAt h m d sc vs cs plan s i c
+  unfolding partsAt altAt
+  parts-alt h m i c q t e = e ∙ rw (q, t)
 
-  pub inside-if : (k i : ℕ) (c : Code) {n : Value} {r : Wrote} → 7 ≤ k → (k ≡ 10 → ⊥)
-      → n ≡ valueAt s i → (k ≡ 7 → ⊥) → (k ≡ 8 → ⊥) → k ≡ 9 → r ≡ ifAt (n .value) d sc vs cs plan s (n .next) c
-      → r ≡ insideAt k d sc vs cs plan s i c
-  unfolding insideAt ifAt
-  inside-if k i c t u q v w x e =
-      e ∙ rw (q, le-ltb k 7 t, ne-eqb k 10 u, ne-eqb k 7 v, ne-eqb k 8 w, eq-eqb k 9 x)
-
-  pub inside-alt : (k i : ℕ) (c : Code) {n : Value} {r : Wrote} → 7 ≤ k → (k ≡ 10 → ⊥)
-      → n ≡ valueAt s i → (k ≡ 7 → ⊥) → (k ≡ 8 → ⊥) → (k ≡ 9 → ⊥) → r ≡ altAt (n .value) d sc vs cs plan s (n .next) c
-      → r ≡ insideAt k d sc vs cs plan s i c
-  unfolding insideAt altAt
-  inside-alt k i c t u q v w x e =
-      e ∙ rw (q, le-ltb k 7 t, ne-eqb k 10 u, ne-eqb k 7 v, ne-eqb k 8 w, ne-eqb k 9 x)
+  -- what follows a kind, by its shape
+  pub inside-by : (k : StmtKind) (i : ℕ) (c : Code) {x : Shape} → shapeOf k ≡ x
+      → insideAt k d sc vs cs plan s i c
+      ≡ byShape x (λ y. simpleInto y d (sc .w) vs cs plan s i c) (λ y. declarationAt y d sc vs cs plan s i c)
+      (λ m. let n = countIn m s i in parAt (n .value) d sc vs cs plan s (n .next) c) (λ h m. partsAt h m d sc vs cs plan s i c)
+  unfolding insideAt declarationAt parAt partsAt
+  inside-by k i c e = rw e

@@ -1,8 +1,7 @@
--- The code of ALT as the generator writes it, and the statements as a whole (01, "Workspace and code").
+-- The code of ALT as the generator writes it (01, "Workspace and code").
 use Prim.Native.Nat.{ℕ, zero, suc, _+_, _-_}
 use mathlib.Core.Bool.{true, false, cond}
 use mathlib.Core.List.{List}
-use lib.Dec.{ltb, eqb}
 use Rattle.model.specs.Word.{low, less, minus}
 use Rattle.numbers.specs.Items.{valueAt}
 use Rattle.emitter.specs.Emits.{Code, at, plainInto, distanceInto, operationInto, localOf}
@@ -10,12 +9,12 @@ use Rattle.emitter.specs.Exprs.{Wrote, written, codeOf, wholeInto}
 use Rattle.emitter.specs.Plans.{nextOf}
 use Rattle.emitter.specs.Extents.{extentIn}
 use Rattle.model.specs.Scheme.{altWords}
-use Rattle.emitter.specs.Simples.{inInto, simpleInto}
-use Rattle.compiler.specs.Stmts.{Inner, declarationInto, bodyInto, seqInto, ifInto, whileInto, branchInto, branchesInto, parInto}
+use Rattle.emitter.specs.Simples.{inInto}
+use Rattle.compiler.specs.Stmts.{Inner}
 use Rattle.compiler.specs.declared.stmt.Scope.{Scope}
 use Rattle.compiler.specs.declared.alt.Guard.{Guard}
 use Rattle.compiler.specs.declared.alt.Enabled.{Enabled}
-use Rattle.numbers.specs.Kinds.{varKind, seqKind, parKind, ifKind, whileKind, inputGuardKind}
+use Rattle.numbers.specs.Kinds.{guardKind, byGuard}
 
 -- a guard's code so far, and the buffer
 pub record Guarded : Type 0 where
@@ -32,7 +31,7 @@ guardInto d w vs cs p s i c =
     let k = valueAt s i in
     let t = wholeInto d w altWords vs p s (k .next) c in
     let r = operationInto 0 (plainInto 0x10 (localOf cs (valueAt s (t .next) .value) w) (codeOf t)) in
-    cond (eqb (k .value) inputGuardKind) (guarded (record { next = t .next; here = r .here; waits = true }) (r .out))
+    byGuard (guardKind (k .value)) (guarded (record { next = t .next; here = r .here; waits = true }) (r .out))
     (guarded (record { next = t .next; here = t .here; waits = false }) (t .out))
 
 -- the place of a guard's statement
@@ -86,74 +85,3 @@ altInto n d inner sc vs cs p s i c =
     let wt = operationInto 68 (at (e .enabled .here) (e .out)) in
     let end = operationInto 69 (at (low (wt .here + e .enabled .disabling)) (wt .out)) in
     choicesInto n d inner sc vs cs p s i (wt .here) (end .here) end
-
--- what follows the kinds from VAR on, with a generator of the statements inside, which have `depth` left
-abbrev pub insideInto : (kind depth : ℕ) → Inner → Scope → (vs cs plan s : List ℕ) → (at : ℕ) → Code → Wrote
-insideInto k d inner sc vs cs p s i c =
-    let n = valueAt s i in
-    cond (ltb k seqKind) (declarationInto k inner sc vs cs s i c)
-    (cond (eqb k whileKind) (whileInto d (sc .w) vs (inner sc vs cs) p s i c)
-    (cond (eqb k seqKind) (seqInto (n .value) (inner sc vs cs) (n .next) c)
-    (cond (eqb k parKind) (parInto (n .value) inner sc vs cs p (n .next) c)
-    (cond (eqb k ifKind) (ifInto (n .value) d (sc .w) vs (inner sc vs cs) p s (n .next) c)
-    (altInto (n .value) d inner sc vs cs p s (n .next) c)))))
-
--- a statement, by its kind
-unfoldable pub stmtInto : (depth : ℕ) → Scope → (vs cs plan s : List ℕ) → (at : ℕ) → Code → Wrote
-stmtInto zero sc vs cs p s i c = written i c
-stmtInto (suc d) sc vs cs p s i c =
-    let k = valueAt s i in
-    cond (ltb (k .value) varKind) (simpleInto (k .value) d (sc .w) vs cs p s (k .next) c)
-    (insideInto (k .value) d (λ sc vs cs j e. stmtInto d sc vs cs p s j e) sc vs cs p s (k .next) c)
-
--- the generator of the statements inside, which have `depth` left; below, each part of a statement over it
-abbrev pub innerAt : (depth : ℕ) → (plan s : List ℕ) → Inner
-innerAt d p s sc vs cs i c = stmtInto d sc vs cs p s i c
-
--- the body of a VAR or CHAN of n names
-unfoldable pub bodyAt : (kind n depth : ℕ) → Scope → (vs cs plan s : List ℕ) → (at : ℕ) → Code → Wrote
-bodyAt k n d sc vs cs p s i c = bodyInto k n (innerAt d p s) sc vs cs i c
-
--- VAR and CHAN
-unfoldable pub declarationAt : (kind depth : ℕ) → Scope → (vs cs plan s : List ℕ) → (at : ℕ) → Code → Wrote
-declarationAt k d sc vs cs p s i c = declarationInto k (innerAt d p s) sc vs cs s i c
-
--- SEQ: so many parts
-unfoldable pub seqAt : (left depth : ℕ) → Scope → (vs cs plan s : List ℕ) → (at : ℕ) → Code → Wrote
-seqAt n d sc vs cs p s i c = seqInto n (innerAt d p s sc vs cs) i c
-
--- IF: so many pairs
-unfoldable pub ifAt : (left depth : ℕ) → Scope → (vs cs plan s : List ℕ) → (at : ℕ) → Code → Wrote
-ifAt n d sc vs cs p s i c = ifInto n d (sc .w) vs (innerAt d p s sc vs cs) p s i c
-
--- WHILE
-unfoldable pub whileAt : (depth : ℕ) → Scope → (vs cs plan s : List ℕ) → (at : ℕ) → Code → Wrote
-whileAt d sc vs cs p s i c = whileInto d (sc .w) vs (innerAt d p s sc vs cs) p s i c
-
--- a branch of a PAR, d words below
-unfoldable pub branchAt : (d depth : ℕ) → Scope → (vs cs plan s : List ℕ) → (at : ℕ) → Code → Wrote
-branchAt b d sc vs cs p s i c = branchInto b (innerAt d p s) sc vs cs i c
-
--- so many branches of a PAR
-unfoldable pub branchesAt : (left depth : ℕ) → Scope → (vs cs plan s : List ℕ) → (at d start : ℕ) → Code → Wrote
-branchesAt n d sc vs cs p s i b start c = branchesInto n (innerAt d p s) sc vs cs p i b start c
-
--- PAR
-unfoldable pub parAt : (count depth : ℕ) → Scope → (vs cs plan s : List ℕ) → (at : ℕ) → Code → Wrote
-parAt n d sc vs cs p s i c = parInto n (innerAt d p s) sc vs cs p i c
-
--- a branch of an ALT
-unfoldable pub choiceAt : Guard → (depth : ℕ) → Scope → (vs cs plan s : List ℕ) → Code → Wrote
-choiceAt g d sc vs cs p s c = choiceInto g (innerAt d p s) sc vs cs s c
-
--- the disabling and the branches of an ALT
-unfoldable pub choicesAt : (left depth : ℕ) → Scope → (vs cs plan s : List ℕ) → (at disable base : ℕ) → Code → Wrote
-choicesAt n d sc vs cs p s i dis base c = choicesInto n d (innerAt d p s) sc vs cs p s i dis base c
-
--- ALT
-unfoldable pub altAt : (count depth : ℕ) → Scope → (vs cs plan s : List ℕ) → (at : ℕ) → Code → Wrote
-altAt n d sc vs cs p s i c = altInto n d (innerAt d p s) sc vs cs p s i c
-
--- what follows the kinds from VAR on
-unfoldable pub insideAt : (kind depth : ℕ) → Scope → (vs cs plan s : List ℕ) → (at : ℕ) → Code → Wrote
-insideAt k d sc vs cs p s i c = insideInto k d (innerAt d p s) sc vs cs p s i c

@@ -8,7 +8,7 @@ use Rattle.emitter.specs.Emits.{Code, at, declaredWords}
 use Rattle.emitter.specs.Exprs.{codeOf}
 use Rattle.emitter.specs.Plans.{nextOf}
 use Rattle.compiler.specs.Stmts.{scoped}
-use Rattle.compiler.specs.Alts.{stmtInto}
+use Rattle.compiler.specs.Kinds.{stmtInto}
 use Rattle.model.specs.Limits.{depthLimit}
 
 -- the code into a buffer, and its size. 01: W = the need; outside channel k is word W + k

@@ -1,3 +1,4 @@
 pub mod Stmts
 pub mod Alts
+pub mod Kinds
 pub mod Codes

@@ -5,21 +5,22 @@ use mathlib.Core.List.{List}
 use lib.Dec.{eqb}
 use Rattle.model.specs.Word.{low, minus}
 use Rattle.model.specs.Prefix.{fewest}
-use Rattle.numbers.specs.Items.{valueAt}
 use Rattle.emitter.specs.Emits.{Code, at, plainInto, distanceInto, operationInto, declaredWords}
 use Rattle.emitter.specs.Exprs.{Wrote, written, codeOf, wholeInto}
 use Rattle.emitter.specs.Extents.{extentIn}
 use Rattle.compiler.specs.declared.stmt.Scope.{Scope}
-use Rattle.numbers.specs.Kinds.{varKind}
+use Rattle.numbers.specs.Items.{valueAt}
+use Rattle.numbers.specs.Kinds.{byDeclared}
+use Rattle.numbers.specs.declared.kinds.Declared.{Declared}
 
 -- what a declared word starts as. 01: VAR LDC 0, CHAN the same with MINT
-unfoldable pub firstInto : (kind : ℕ) → Code → Code
-firstInto k c = cond (eqb k varKind) (plainInto 0x40 0 c) (operationInto 66 c)
+unfoldable pub firstInto : Declared → Code → Code
+firstInto x c = byDeclared x (plainInto 0x40 0 c) (operationInto 66 c)
 
 -- so many words from the j-th on. 01: then STL j
-unfoldable pub initialInto : (left kind j : ℕ) → Code → Code
-initialInto zero k j c = c
-initialInto (suc n) k j c = initialInto n k (low (j + 1)) (plainInto 0xd0 j (firstInto k c))
+unfoldable pub initialInto : (left : ℕ) → Declared → (j : ℕ) → Code → Code
+initialInto zero x j c = c
+initialInto (suc n) x j c = initialInto n x (low (j + 1)) (plainInto 0xd0 j (firstInto x c))
 
 -- a generator of the statements inside
 abbrev pub Inner : Type 0
@@ -34,17 +35,17 @@ abbrev pub lowered : ℕ → Scope → Scope
 lowered n sc = scoped (sc .w - n) (sc .variables) (sc .channels)
 
 -- the body of a VAR or CHAN of n names
-abbrev pub bodyInto : (kind n : ℕ) → Inner → Scope → (vs cs : List ℕ) → (at : ℕ) → Code → Wrote
-bodyInto k n inner sc vs cs at c =
+abbrev pub bodyInto : Declared → (n : ℕ) → Inner → Scope → (vs cs : List ℕ) → (at : ℕ) → Code → Wrote
+bodyInto x n inner sc vs cs at c =
     let w = sc .w - n in
-    cond (eqb k varKind) (inner (scoped w (low (sc .variables + n)) (sc .channels)) (declaredWords n (sc .variables) w vs) cs at c)
+    byDeclared x (inner (scoped w (low (sc .variables + n)) (sc .channels)) (declaredWords n (sc .variables) w vs) cs at c)
     (inner (scoped w (sc .variables) (low (sc .channels + n))) vs (declaredWords n (sc .channels) w cs) at c)
 
 -- 01, VAR and CHAN: AJW -n, the words, body, AJW n
-abbrev pub declarationInto : (kind : ℕ) → Inner → Scope → (vs cs : List ℕ) → List ℕ → (at : ℕ) → Code → Wrote
-declarationInto k inner sc vs cs s at c =
+abbrev pub declarationInto : Declared → Inner → Scope → (vs cs : List ℕ) → List ℕ → (at : ℕ) → Code → Wrote
+declarationInto x inner sc vs cs s at c =
     let n = valueAt s at in
-    let b = bodyInto k (n .value) inner sc vs cs (n .next) (initialInto (n .value) k 0 (plainInto 0xb0 (minus (n .value)) c)) in
+    let b = bodyInto x (n .value) inner sc vs cs (n .next) (initialInto (n .value) x 0 (plainInto 0xb0 (minus (n .value)) c)) in
     written (b .next) (plainInto 0xb0 (n .value) (codeOf b))
 
 -- SEQ: so many parts

@@ -3,6 +3,7 @@ ghost use mathlib.Core.Path.{_≡_};
 ghost use mathlib.Core.Bool.{cond};
 ghost use Rattle.emitter.specs.Emits.{at as standing};
 ghost use Rattle.compiler.specs.Alts.{guarded, guardInto, behindGuard, enabling, enableInto, disableInto};
+use model::kinds::GuardKind;
 
 // The words of an ALT below its workspace; what its guards store stands below them.
 const ALT_WORDS: u32 = 5;
@@ -38,23 +39,35 @@ pub fn gen_guard(
         ≡ guardInto depth w (now (vars .entry)) (now (chans .entry)) (now (plan .entry)) (now (table .entry)) at
         (standing here (now (out .entry))) ⌝ }
 {
-    let kind = numbers::value_at(table, at);
-    let test = emitter::gen_whole(table, plan, kind.next, depth, w, ALT_WORDS, vars, out, here);
-    if kind.value == numbers::kinds::INPUT_GUARD {
-        let channel = numbers::value_at(table, test.next);
-        let word = emitter::local(chans, channel.value, w);
-        let second = emitter::plain(out, test.here, instruction::codes::LDLP, word);
-        let end = emitter::operation(out, second, instruction::codes::REV);
-        return Guard {
+    let number = numbers::value_at(table, at);
+    let test = emitter::gen_whole(
+        table,
+        plan,
+        number.next,
+        depth,
+        w,
+        ALT_WORDS,
+        vars,
+        out,
+        here,
+    );
+    match numbers::kinds::guard_kind(number.value as u64) {
+        GuardKind::Input => {
+            let channel = numbers::value_at(table, test.next);
+            let word = emitter::local(chans, channel.value, w);
+            let second = emitter::plain(out, test.here, instruction::codes::LDLP, word);
+            let end = emitter::operation(out, second, instruction::codes::REV);
+            Guard {
+                next: test.next,
+                here: end,
+                waits: true,
+            }
+        }
+        GuardKind::Skip => Guard {
             next: test.next,
-            here: end,
-            waits: true,
-        };
-    }
-    Guard {
-        next: test.next,
-        here: test.here,
-        waits: false,
+            here: test.here,
+            waits: false,
+        },
     }
 }
 

@@ -3,11 +3,16 @@ ghost use mathlib.Core.Path.{_≡_};
 ghost use Rattle.emitter.specs.Emits.{at as standing};
 ghost use Rattle.emitter.specs.Exprs.{wrote};
 ghost use Rattle.compiler.specs.Stmts.{firstInto, initialInto, startsEnd, startInto, headerInto};
-ghost use Rattle.compiler.specs.Alts.{stmtInto, bodyAt, declarationAt, seqAt, ifAt};
-ghost use Rattle.compiler.specs.Alts.{whileAt, branchAt, branchesAt, parAt, choiceAt, choicesAt};
-ghost use Rattle.compiler.specs.Alts.{altAt, insideAt};
+ghost use Rattle.compiler.specs.Kinds.{stmtInto, bodyAt, declarationAt, seqAt, ifAt, whileAt, branchAt, branchesAt, parAt, choiceAt};
+ghost use Rattle.compiler.specs.Kinds.{choicesAt, altAt, partsAt, insideAt};
 use crate::alt::Guard;
 use emitter::Done;
+use emitter::gen_simple;
+use model::kinds::StmtKind;
+use numbers::kinds::Count;
+use numbers::kinds::Declared;
+use numbers::kinds::Head;
+use numbers::kinds::Shape;
 
 // The workspace, and how many variables and channels are in scope.
 pub struct Scope {
@@ -17,25 +22,25 @@ pub struct Scope {
 }
 
 // LDC 0 (VAR) or MINT (CHAN).
-fn put_first(out: &mut [u8], here: u32, kind: u32) -> u32
-    ensures { λ r. ⌜ standing r (now (out .exit)) ≡ firstInto kind (standing here (now (out .entry))) ⌝ }
+fn put_first(out: &mut [u8], here: u32, declared: Declared) -> u32
+    ensures { λ r. ⌜ standing r (now (out .exit)) ≡ firstInto declared (standing here (now (out .entry))) ⌝ }
 {
-    if kind == numbers::kinds::VAR {
-        return emitter::plain(out, here, instruction::codes::LDC, 0);
+    match declared {
+        Declared::Variables => emitter::plain(out, here, instruction::codes::LDC, 0),
+        Declared::Channels => emitter::operation(out, here, instruction::codes::MINT),
     }
-    emitter::operation(out, here, instruction::codes::MINT)
 }
 
 // The same and STL j, for so many j.
-fn put_initial(out: &mut [u8], here: u32, kind: u32, j: u32, left: u32) -> u32
-    ensures { λ r. ⌜ standing r (now (out .exit)) ≡ initialInto left kind j (standing here (now (out .entry))) ⌝ }
+fn put_initial(out: &mut [u8], here: u32, declared: Declared, j: u32, left: u32) -> u32
+    ensures { λ r. ⌜ standing r (now (out .exit)) ≡ initialInto left declared j (standing here (now (out .entry))) ⌝ }
 {
     if left == 0 {
         return here;
     }
-    let second = put_first(out, here, kind);
+    let second = put_first(out, here, declared);
     let next = emitter::plain(out, second, instruction::codes::STL, j);
-    put_initial(out, next, kind, word::plus(j, 1), left - 1)
+    put_initial(out, next, declared, word::plus(j, 1), left - 1)
 }
 
 // The body of a VAR or CHAN of n names.
@@ -43,7 +48,7 @@ fn body(
     table: &[u8],
     plan: &[u32; 32768],
     at: usize,
-    kind: u32,
+    declared: Declared,
     n: u32,
     depth: u64,
     scope: Scope,
@@ -54,26 +59,30 @@ fn body(
 ) -> Done
     ensures { λ r.
         ⌜ wrote r (now (out .exit))
-        ≡ bodyAt kind n depth scope (now (vars .entry)) (now (chans .entry)) (now (plan .entry)) (now (table .entry)) at
+        ≡ bodyAt declared n depth scope (now (vars .entry)) (now (chans .entry)) (now (plan .entry)) (now (table .entry)) at
         (standing here (now (out .entry))) ⌝ }
 {
     let w = emitter::below(scope.w, n);
-    if kind == numbers::kinds::VAR {
-        let more = emitter::declared(vars, scope.variables, n, w);
-        let inner = Scope {
-            w: w,
-            variables: word::plus(scope.variables, n),
-            channels: scope.channels,
-        };
-        return statement(table, plan, at, depth, inner, &more, chans, out, here);
+    match declared {
+        Declared::Variables => {
+            let more = emitter::declared(vars, scope.variables, n, w);
+            let inner = Scope {
+                w: w,
+                variables: word::plus(scope.variables, n),
+                channels: scope.channels,
+            };
+            statement(table, plan, at, depth, inner, &more, chans, out, here)
+        }
+        Declared::Channels => {
+            let more = emitter::declared(chans, scope.channels, n, w);
+            let inner = Scope {
+                w: w,
+                variables: scope.variables,
+                channels: word::plus(scope.channels, n),
+            };
+            statement(table, plan, at, depth, inner, vars, &more, out, here)
+        }
     }
-    let more = emitter::declared(chans, scope.channels, n, w);
-    let inner = Scope {
-        w: w,
-        variables: scope.variables,
-        channels: word::plus(scope.channels, n),
-    };
-    statement(table, plan, at, depth, inner, vars, &more, out, here)
 }
 
 // VAR and CHAN: AJW -n, the words, body, AJW n.
@@ -81,7 +90,7 @@ fn declaration(
     table: &[u8],
     plan: &[u32; 32768],
     at: usize,
-    kind: u32,
+    declared: Declared,
     depth: u64,
     scope: Scope,
     vars: &[u32; 1024],
@@ -91,18 +100,19 @@ fn declaration(
 ) -> Done
     ensures { λ r.
         ⌜ wrote r (now (out .exit))
-        ≡ declarationAt kind depth scope (now (vars .entry)) (now (chans .entry)) (now (plan .entry)) (now (table .entry)) at
+        ≡ declarationAt declared depth scope (now (vars .entry)) (now (chans .entry)) (now (plan .entry)) (now (table .entry)) at
         (standing here (now (out .entry))) ⌝ }
 {
     let count = numbers::value_at(table, at);
     let n = count.value;
     let first = emitter::plain(out, here, instruction::codes::AJW, emitter::minus(n));
-    let start = put_initial(out, first, kind, 0, n);
+    let start = put_initial(out, first, declared, 0, n);
+    let next = count.next;
     let body = body(
         table,
         plan,
-        count.next,
-        kind,
+        next,
+        declared,
         n,
         depth,
         scope,
@@ -569,12 +579,44 @@ fn alt(
     )
 }
 
-// What follows the kinds from VAR on; the statements inside have `depth` left.
+// The parts of a statement: pairs with a count are an IF's, a pair without is a WHILE's.
+fn parts(
+    table: &[u8],
+    plan: &[u32; 32768],
+    at: usize,
+    head: Head,
+    count: Count,
+    depth: u64,
+    scope: Scope,
+    vars: &[u32; 1024],
+    chans: &[u32; 1024],
+    out: &mut [u8],
+    here: u32,
+) -> Done
+    ensures { λ r.
+        ⌜ wrote r (now (out .exit))
+        ≡ partsAt head count depth scope (now (vars .entry)) (now (chans .entry)) (now (plan .entry)) (now (table .entry)) at
+        (standing here (now (out .entry))) ⌝ }
+{
+    let number = numbers::kinds::count_at(table, at, count);
+    let next = number.next;
+    let n = number.value;
+    match head {
+        Head::Nothing => seq(table, plan, next, n, depth, scope, vars, chans, out, here),
+        Head::Condition => match count {
+            Count::UpTo(most) => pairs(table, plan, next, n, depth, scope, vars, chans, out, here),
+            Count::Fixed(m) => repetition(table, plan, next, depth, scope, vars, chans, out, here),
+        },
+        Head::Guard => alt(table, plan, next, n, depth, scope, vars, chans, out, here),
+    }
+}
+
+// What follows a kind; the statements inside have `depth` left.
 fn inside(
     table: &[u8],
     plan: &[u32; 32768],
     at: usize,
-    kind: u32,
+    kind: StmtKind,
     depth: u64,
     scope: Scope,
     vars: &[u32; 1024],
@@ -587,25 +629,27 @@ fn inside(
         ≡ insideAt kind depth scope (now (vars .entry)) (now (chans .entry)) (now (plan .entry)) (now (table .entry)) at
         (standing here (now (out .entry))) ⌝ }
 {
-    if kind < numbers::kinds::SEQ {
-        return declaration(table, plan, at, kind, depth, scope, vars, chans, out, here);
+    let w = scope.w;
+    match numbers::kinds::shape_of(kind) {
+        Shape::Simple(x) => gen_simple(table, plan, at, x, depth, w, vars, chans, out, here),
+        Shape::Declares(x) => declaration(table, plan, at, x, depth, scope, vars, chans, out, here),
+        Shape::Branches(m) => {
+            let n = numbers::kinds::count_at(table, at, m);
+            par(
+                table,
+                plan,
+                n.next,
+                n.value,
+                depth,
+                scope,
+                vars,
+                chans,
+                out,
+                here,
+            )
+        }
+        Shape::Parts(h, m) => parts(table, plan, at, h, m, depth, scope, vars, chans, out, here),
     }
-    if kind == numbers::kinds::WHILE {
-        return repetition(table, plan, at, depth, scope, vars, chans, out, here);
-    }
-    let count = numbers::value_at(table, at);
-    let next = count.next;
-    let n = count.value;
-    if kind == numbers::kinds::SEQ {
-        return seq(table, plan, next, n, depth, scope, vars, chans, out, here);
-    }
-    if kind == numbers::kinds::PAR {
-        return par(table, plan, next, n, depth, scope, vars, chans, out, here);
-    }
-    if kind == numbers::kinds::IF {
-        return pairs(table, plan, next, n, depth, scope, vars, chans, out, here);
-    }
-    alt(table, plan, next, n, depth, scope, vars, chans, out, here)
 }
 
 // A statement; the depth left falls at each call.
@@ -631,26 +675,13 @@ pub fn statement(
             here: here,
         };
     }
-    let kind = numbers::value_at(table, at);
-    if kind.value < numbers::kinds::VAR {
-        return emitter::gen_simple(
-            table,
-            plan,
-            kind.next,
-            kind.value,
-            depth - 1,
-            scope.w,
-            vars,
-            chans,
-            out,
-            here,
-        );
-    }
+    let number = numbers::value_at(table, at);
+    let kind = numbers::kinds::stmt_kind(number.value as u64);
     inside(
         table,
         plan,
-        kind.next,
-        kind.value,
+        number.next,
+        kind,
         depth - 1,
         scope,
         vars,

@@ -1,8 +1,7 @@
 -- The code of expressions as the generator writes it, by places of the table (01, "Workspace and code"; 02, order 2).
 use Prim.Native.Nat.{ℕ, zero, suc, _+_, _-_}
 use mathlib.Core.Bool.{cond, _&&_}
-use mathlib.Core.List.{List, [], _∷_}
-use lib.ListN.{getD}
+use mathlib.Core.List.{List}
 use lib.Dec.{ltb, eqb}
 use Rattle.model.specs.Word.{low, minus}
 use Rattle.model.specs.Limits.{registerLimit}
@@ -11,7 +10,10 @@ use Rattle.emitter.specs.Emits.{Code, at, plainInto, operationInto, loca
 use Rattle.emitter.specs.Plans.{nextIn, registersIn, storedIn, planAt}
 use Rattle.emitter.specs.declared.expr.Done.{Done}
 use Rattle.emitter.specs.declared.sides.Sides.{Sides}
-use Rattle.numbers.specs.Kinds.{constantKind, notKind, eqOperator}
+use Rattle.numbers.specs.Kinds.{exprKind, byExpr, operatorOf}
+use Rattle.model.specs.declared.kinds.Operator.{Operator}
+use Rattle.model.specs.declared.kinds.Operator.the-variants.{Plus as PLUS, Minus as MINUS, Times as TIMES, Gt as GT, Eq as EQ, And as AND}
+use Rattle.model.specs.declared.kinds.Operator.the-variants.{Or as OR, Xor as XOR}
 
 -- the place after what was compiled, the place after its code, and the buffer
 pub record Wrote : Type 0 where
@@ -41,21 +43,23 @@ rightFirstOrder = 1
 abbrev pub rightStoredOrder : ℕ
 rightStoredOrder = 2
 
--- the operation of an operator. 01: SUM, DIFF, PROD, GT, AND, OR, XOR; EQ begins with DIFF
-unfoldable pub operationFor : ℕ → ℕ
-operationFor op = getD (82 ∷ 4 ∷ 8 ∷ 9 ∷ 4 ∷ 70 ∷ 75 ∷ []) op 51
-
--- 01: EQ is DIFF, EQC 0
-unfoldable pub operatorInto : ℕ → Code → Code
-operatorInto op c =
-    cond (eqb op eqOperator) (plainInto 0xc0 0 (operationInto (operationFor op) c)) (operationInto (operationFor op) c)
+-- an operator. 01: SUM, DIFF, PROD, GT, AND, OR, XOR; EQ is DIFF, EQC 0
+unfoldable pub operatorInto : Operator → Code → Code
+operatorInto PLUS c = operationInto 82 c
+operatorInto MINUS c = operationInto 4 c
+operatorInto TIMES c = operationInto 8 c
+operatorInto GT c = operationInto 9 c
+operatorInto EQ c = plainInto 0xc0 0 (operationInto 4 c)
+operatorInto AND c = operationInto 70 c
+operatorInto OR c = operationInto 75 c
+operatorInto XOR c = operationInto 51 c
 
 -- 01: LDC a constant, LDL a variable
-unfoldable pub leafInto : (kind w : ℕ) → List ℕ → List ℕ → (at : ℕ) → Code → Wrote
-leafInto k w vs s at c =
-    let v = valueAt s at in
-    cond (eqb k constantKind) (written (v .next) (plainInto 0x40 (v .value) c))
-    (written (v .next) (plainInto 0x70 (localOf vs (v .value) w) c))
+unfoldable pub constantInto : List ℕ → (at : ℕ) → Code → Wrote
+constantInto s at c = let v = valueAt s at in written (v .next) (plainInto 0x40 (v .value) c)
+
+unfoldable pub variableInto : (w : ℕ) → (vs s : List ℕ) → (at : ℕ) → Code → Wrote
+variableInto w vs s at c = let v = valueAt s at in written (v .next) (plainInto 0x70 (localOf vs (v .value) w) c)
 
 -- the order of two sides by their registers, as a number: left first, right first, or right first and stored (02, order 2)
 unfoldable pub orderNumber : (left right : ℕ) → ℕ
@@ -98,20 +102,19 @@ abbrev pub operatedInto : (inner : (held at : ℕ) → Code → Wrote) → (plan
 operatedInto inner p s h at c =
     let o = valueAt s at in
     let r = sidesInto inner p h (o .next) c in
-    written (r .next) (operatorInto (o .value) (codeOf r))
+    written (r .next) (operatorInto (operatorOf (o .value)) (codeOf r))
 
 -- 01: NOT is EQC 0
 abbrev pub notInto : Wrote → Wrote
 notInto r = written (r .next) (plainInto 0xc0 0 (codeOf r))
 
--- an expression by its kind: constant or variable, NOT, operator; h values are held before
+-- an expression by its kind; h values are held before
 unfoldable pub exprInto : (depth w : ℕ) → (vs plan s : List ℕ) → (h at : ℕ) → Code → Wrote
 exprInto zero w vs p s h at c = written at c
 exprInto (suc d) w vs p s h at c =
     let k = valueAt s at in
-    cond (ltb (k .value) notKind) (leafInto (k .value) w vs s (k .next) c)
-    (cond (eqb (k .value) notKind) (notInto (exprInto d w vs p s h (k .next) c))
-    (operatedInto (λ g i e. exprInto d w vs p s g i e) p s h (k .next) c))
+    byExpr (exprKind (k .value)) (constantInto s (k .next) c) (variableInto w vs s (k .next) c) (notInto (exprInto d w vs p s h (k .next) c))
+    (operatedInto (λ g i e. exprInto d w vs p s g i e) p s h (k .next) c)
 
 -- two sides with expressions inside, which have `depth` left
 unfoldable pub sidesAt : (depth w : ℕ) → (vs plan s : List ℕ) → (h at : ℕ) → Code → Wrote

@@ -4,12 +4,12 @@ use Prim.Native.Nat.{ℕ, _+_, _*_, _/_, _%_, _^_, min}
 use mathlib.Core.Bool.{cond}
 use mathlib.Core.List.{List}
 use lib.ListN.{getD}
-use lib.Dec.{ltb, eqb}
+use lib.Dec.{ltb}
 use Rattle.model.specs.Limits.{tableLimit}
 use Rattle.model.specs.Counts.{sidesNeed, orderOf, sidesHold}
 use Rattle.numbers.specs.Items.{valueAt}
 use Rattle.numbers.specs.declared.Value.{Value}
-use Rattle.numbers.specs.Kinds.{notKind}
+use Rattle.numbers.specs.Kinds.{exprKind, byExpr}
 
 -- the place after a number
 abbrev pub nextOf : List ℕ → ℕ → ℕ
@@ -47,5 +47,5 @@ sidesEntry l r =
 unfoldable pub exprEntry : (plan s : List ℕ) → Value → ℕ
 exprEntry p s k =
     let l = planAt p (nextOf s (k .next)) in
-    cond (ltb (k .value) notKind) (entry (nextOf s (k .next)) 1 0)
-    (cond (eqb (k .value) notKind) (planAt p (k .next)) (sidesEntry l (planAt p (nextIn l))))
+    byExpr (exprKind (k .value)) (entry (nextOf s (k .next)) 1 0) (entry (nextOf s (k .next)) 1 0) (planAt p (k .next))
+    (sidesEntry l (planAt p (nextIn l)))

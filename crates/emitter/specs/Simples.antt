@@ -1,13 +1,12 @@
 -- The code of statements without statements inside as the emitter writes it, by places of the table (01, "Workspace and code").
 use Prim.Native.Nat.{ℕ}
-use mathlib.Core.Bool.{cond}
 use mathlib.Core.List.{List}
-use lib.Dec.{eqb}
 use Rattle.model.specs.Word.{minus}
 use Rattle.numbers.specs.Items.{valueAt}
 use Rattle.emitter.specs.Emits.{Code, plainInto, operationInto, localOf}
 use Rattle.emitter.specs.Exprs.{Wrote, written, codeOf, wholeInto}
-use Rattle.numbers.specs.Kinds.{skipKind, stopKind, assignKind, inputKind}
+use Rattle.numbers.specs.declared.kinds.Simple.{Simple}
+use Rattle.numbers.specs.declared.kinds.Simple.the-variants.{Skip, Stop, Assign, Input, Output}
 
 -- 01, input: LDLP variable, LDLP channel, LDC 4, IN
 unfoldable pub inputInto : (channel variable : ℕ) → Code → Code
@@ -38,10 +37,10 @@ outInto d w vs cs p s at c =
     let e = wholeInto d w 0 vs p s (ch .next) c in
     written (e .next) (outputInto (localOf cs (ch .value) w) (codeOf e))
 
--- the kinds before VAR: SKIP has no code. 01: STOP is STOPP
-unfoldable pub simpleInto : (kind depth w : ℕ) → (vs cs plan s : List ℕ) → (at : ℕ) → Code → Wrote
-simpleInto k d w vs cs p s at c =
-    cond (eqb k skipKind) (written at c)
-    (cond (eqb k stopKind) (written at (operationInto 21 c))
-    (cond (eqb k assignKind) (assignInto d w vs p s at c)
-    (cond (eqb k inputKind) (inInto w vs cs s at c) (outInto d w vs cs p s at c))))
+-- what follows the kind of a statement without statements inside: SKIP has no code. 01: STOP is STOPP
+unfoldable pub simpleInto : Simple → (depth w : ℕ) → (vs cs plan s : List ℕ) → (at : ℕ) → Code → Wrote
+simpleInto Skip d w vs cs p s at c = written at c
+simpleInto Stop d w vs cs p s at c = written at (operationInto 21 c)
+simpleInto Assign d w vs cs p s at c = assignInto d w vs p s at c
+simpleInto Input d w vs cs p s at c = inInto w vs cs s at c
+simpleInto Output d w vs cs p s at c = outInto d w vs cs p s at c

@@ -2,8 +2,10 @@
 ghost use mathlib.Core.Path.{_≡_};
 ghost use Rattle.emitter.specs.Emits.{at as standing};
 ghost use Rattle.emitter.specs.Plans.{storedIn, planAt};
-ghost use Rattle.emitter.specs.Exprs.{wrote, operationFor, operatorInto, leafInto, sidesAt, binaryInto, exprInto};
-ghost use Rattle.emitter.specs.Exprs.{lowering, adjustInto, wholeInto};
+ghost use Rattle.emitter.specs.Exprs.{wrote, operatorInto, constantInto, variableInto, sidesAt, binaryInto, exprInto, lowering};
+ghost use Rattle.emitter.specs.Exprs.{adjustInto, wholeInto};
+use model::kinds::ExprKind;
+use model::kinds::Operator;
 
 // The place after what was compiled, and the place after its code.
 pub struct Done {
@@ -11,38 +13,41 @@ pub struct Done {
     pub here: u32,
 }
 
-// The operation of an operator; EQ begins with DIFF.
-fn operation_of(operator: u32) -> u32
-    ensures { λ r. ⌜ r ≡ operationFor operator ⌝ }
-{
-    match operator {
-        numbers::kinds::PLUS => instruction::codes::SUM,
-        numbers::kinds::MINUS => instruction::codes::DIFF,
-        numbers::kinds::TIMES => instruction::codes::PROD,
-        numbers::kinds::GT => instruction::codes::GT,
-        numbers::kinds::EQ => instruction::codes::DIFF,
-        numbers::kinds::AND => instruction::codes::AND,
-        numbers::kinds::OR => instruction::codes::OR,
-        _ => instruction::codes::XOR,
-    }
-}
-
 // An operator; EQ is DIFF, EQC 0.
-fn gen_operator(operator: u32, out: &mut [u8], here: u32) -> u32
+fn gen_operator(operator: Operator, out: &mut [u8], here: u32) -> u32
     ensures { λ r. ⌜ standing r (now (out .exit)) ≡ operatorInto operator (standing here (now (out .entry))) ⌝ }
 {
-    let next = crate::emit::operation(out, here, operation_of(operator));
-    if operator == numbers::kinds::EQ {
-        return crate::emit::plain(out, next, instruction::codes::EQC, 0);
+    match operator {
+        Operator::Plus => crate::emit::operation(out, here, instruction::codes::SUM),
+        Operator::Minus => crate::emit::operation(out, here, instruction::codes::DIFF),
+        Operator::Times => crate::emit::operation(out, here, instruction::codes::PROD),
+        Operator::Gt => crate::emit::operation(out, here, instruction::codes::GT),
+        Operator::Eq => {
+            let next = crate::emit::operation(out, here, instruction::codes::DIFF);
+            crate::emit::plain(out, next, instruction::codes::EQC, 0)
+        }
+        Operator::And => crate::emit::operation(out, here, instruction::codes::AND),
+        Operator::Or => crate::emit::operation(out, here, instruction::codes::OR),
+        Operator::Xor => crate::emit::operation(out, here, instruction::codes::XOR),
     }
-    next
 }
 
-// A constant or a variable.
-fn gen_leaf(
+// A constant.
+fn gen_constant(table: &[u8], at: usize, out: &mut [u8], here: u32) -> Done
+    ensures { λ r. ⌜ wrote r (now (out .exit)) ≡ constantInto (now (table .entry)) at (standing here (now (out .entry))) ⌝ }
+{
+    let constant = numbers::value_at(table, at);
+    let end = crate::emit::plain(out, here, instruction::codes::LDC, constant.value);
+    Done {
+        next: constant.next,
+        here: end,
+    }
+}
+
+// A variable.
+fn gen_variable(
     table: &[u8],
     at: usize,
-    kind: u32,
     w: u32,
     variables: &[u32; 1024],
     out: &mut [u8],
@@ -50,20 +55,13 @@ fn gen_leaf(
 ) -> Done
     ensures { λ r.
         ⌜ wrote r (now (out .exit))
-        ≡ leafInto kind w (now (variables .entry)) (now (table .entry)) at (standing here (now (out .entry))) ⌝ }
+        ≡ variableInto w (now (variables .entry)) (now (table .entry)) at (standing here (now (out .entry))) ⌝ }
 {
-    let leaf = numbers::value_at(table, at);
-    if kind == numbers::kinds::CONSTANT {
-        let end = crate::emit::plain(out, here, instruction::codes::LDC, leaf.value);
-        return Done {
-            next: leaf.next,
-            here: end,
-        };
-    }
-    let word = crate::words::local(variables, leaf.value, w);
+    let name = numbers::value_at(table, at);
+    let word = crate::words::local(variables, name.value, w);
     let end = crate::emit::plain(out, here, instruction::codes::LDL, word);
     Done {
-        next: leaf.next,
+        next: name.next,
         here: end,
     }
 }
@@ -145,7 +143,8 @@ fn gen_binary(
         out,
         here,
     );
-    let end = gen_operator(operator.value, out, sides.here);
+    let which = numbers::kinds::operator_of(operator.value as u64);
+    let end = gen_operator(which, out, sides.here);
     Done {
         next: sides.next,
         here: end,
@@ -175,20 +174,21 @@ fn gen_expr(
             here: here,
         };
     }
-    let kind = numbers::value_at(table, at);
-    let next = kind.next;
-    if kind.value < numbers::kinds::NOT {
-        return gen_leaf(table, next, kind.value, w, variables, out, here);
+    let number = numbers::value_at(table, at);
+    let next = number.next;
+    match numbers::kinds::expr_kind(number.value as u64) {
+        ExprKind::Constant => gen_constant(table, next, out, here),
+        ExprKind::Variable => gen_variable(table, next, w, variables, out, here),
+        ExprKind::Not => {
+            let inner = gen_expr(table, plan, next, depth - 1, w, held, variables, out, here);
+            let end = crate::emit::plain(out, inner.here, instruction::codes::EQC, 0);
+            Done {
+                next: inner.next,
+                here: end,
+            }
+        }
+        ExprKind::Binary => gen_binary(table, plan, next, depth - 1, w, held, variables, out, here),
     }
-    if kind.value == numbers::kinds::NOT {
-        let inner = gen_expr(table, plan, next, depth - 1, w, held, variables, out, here);
-        let end = crate::emit::plain(out, inner.here, instruction::codes::EQC, 0);
-        return Done {
-            next: inner.next,
-            here: end,
-        };
-    }
-    gen_binary(table, plan, next, depth - 1, w, held, variables, out, here)
 }
 
 // By how many words W is lowered for the whole expression at a place: its stored values and so many more; without stored values by none.

@@ -2,11 +2,12 @@
 ghost use mathlib.Core.Path.{_≡_};
 ghost use Rattle.model.specs.Counts.{guardWords};
 ghost use Rattle.emitter.specs.Plans.{storedIn};
-ghost use Rattle.emitter.specs.Extents.{extentEntry, statementAt, extentIn, simpleExtent, guardExtent, headExtent};
-ghost use Rattle.emitter.specs.Extents.{joined as needed, partsOf, partsExtent, insideExtent, stmtExtent};
-
-// The parts that a SEQ, an IF or an ALT may have; a PAR may have fewer.
-const PARTS: u32 = model::limits::PARTS as u32;
+ghost use Rattle.emitter.specs.Extents.{extentEntry, statementAt, extentIn, simpleExtent, guardExtent, headExtent, joined as needed};
+ghost use Rattle.emitter.specs.Extents.{partsExtent, declaredExtent, stmtExtent};
+use model::kinds::GuardKind;
+use numbers::kinds::Head;
+use numbers::kinds::Shape;
+use numbers::kinds::Simple;
 
 pub struct Extent {
     pub next: usize,
@@ -43,33 +44,31 @@ pub fn extent_in(plan: &[u32; 32768], at: usize) -> Extent
     }
 }
 
-// What follows the kinds before VAR.
-fn simple_extent(table: &[u8], plan: &[u32; 32768], at: usize, kind: u32) -> Extent
-    ensures { λ r. ⌜ r ≡ simpleExtent kind (now (plan .entry)) (now (table .entry)) at ⌝ }
+// What follows the kind of a statement without statements inside.
+fn simple_extent(table: &[u8], plan: &[u32; 32768], at: usize, simple: Simple) -> Extent
+    ensures { λ r. ⌜ r ≡ simpleExtent simple (now (plan .entry)) (now (table .entry)) at ⌝ }
 {
-    if kind < numbers::kinds::ASSIGN {
-        return Extent { next: at, need: 2 };
-    }
-    let second = numbers::skip(table, at);
-    if kind == numbers::kinds::INPUT {
-        let third = numbers::skip(table, second);
-        return Extent {
-            next: third,
+    match simple {
+        Simple::Skip => Extent { next: at, need: 2 },
+        Simple::Stop => Extent { next: at, need: 2 },
+        Simple::Assign => {
+            let value = crate::plan::entry_at(plan, numbers::skip(table, at));
+            Extent {
+                next: crate::plan::next_in(value),
+                need: crate::plan::stored_in(value) + 2,
+            }
+        }
+        Simple::Input => Extent {
+            next: numbers::skip(table, numbers::skip(table, at)),
             need: 3,
-        };
-    }
-    let value = crate::plan::entry_at(plan, second);
-    let next = crate::plan::next_in(value);
-    let stored = crate::plan::stored_in(value);
-    if kind == numbers::kinds::ASSIGN {
-        return Extent {
-            next: next,
-            need: stored + 2,
-        };
-    }
-    Extent {
-        next: next,
-        need: crate::plan::larger(4, stored + 3),
+        },
+        Simple::Output => {
+            let value = crate::plan::entry_at(plan, numbers::skip(table, at));
+            Extent {
+                next: crate::plan::next_in(value),
+                need: crate::plan::larger(4, crate::plan::stored_in(value) + 3),
+            }
+        }
     }
 }
 
@@ -88,66 +87,47 @@ fn guard_words(condition: u32) -> u32
 fn guard_extent(table: &[u8], plan: &[u32; 32768], at: usize) -> Extent
     ensures { λ r. ⌜ r ≡ guardExtent (now (plan .entry)) (now (table .entry)) at ⌝ }
 {
-    let kind = numbers::value_at(table, at);
-    let condition = crate::plan::entry_at(plan, kind.next);
-    let channel = crate::plan::next_in(condition);
+    let number = numbers::value_at(table, at);
+    let condition = crate::plan::entry_at(plan, number.next);
+    let behind = crate::plan::next_in(condition);
     let need = guard_words(condition);
-    if kind.value == numbers::kinds::INPUT_GUARD {
-        let variable = numbers::skip(table, channel);
-        let next = numbers::skip(table, variable);
-        return Extent {
-            next: next,
+    match numbers::kinds::guard_kind(number.value as u64) {
+        GuardKind::Input => Extent {
+            next: numbers::skip(table, numbers::skip(table, behind)),
             need: need,
-        };
-    }
-    Extent {
-        next: channel,
-        need: need,
+        },
+        GuardKind::Skip => Extent {
+            next: behind,
+            need: need,
+        },
     }
 }
 
-// The place after what stands before the statement of a part, and the words that it asks for: nothing (SEQ, PAR), a condition (IF, WHILE),
-// a guard (ALT).
-fn head_extent(table: &[u8], plan: &[u32; 32768], at: usize, kind: u32) -> Extent
-    ensures { λ r. ⌜ r ≡ headExtent kind (now (plan .entry)) (now (table .entry)) at ⌝ }
+// The place after what stands before the statement of a part, and the words that it asks for.
+fn head_extent(table: &[u8], plan: &[u32; 32768], at: usize, head: Head) -> Extent
+    ensures { λ r. ⌜ r ≡ headExtent head (now (plan .entry)) (now (table .entry)) at ⌝ }
 {
-    if kind < numbers::kinds::IF {
-        return Extent { next: at, need: 0 };
+    match head {
+        Head::Nothing => Extent { next: at, need: 0 },
+        Head::Condition => {
+            let condition = crate::plan::entry_at(plan, at);
+            Extent {
+                next: crate::plan::next_in(condition),
+                need: crate::plan::stored_in(condition) + 2,
+            }
+        }
+        Head::Guard => guard_extent(table, plan, at),
     }
-    if kind < numbers::kinds::ALT {
-        let condition = crate::plan::entry_at(plan, at);
-        let next = crate::plan::next_in(condition);
-        let stored = crate::plan::stored_in(condition);
-        return Extent {
-            next: next,
-            need: stored + 2,
-        };
-    }
-    guard_extent(table, plan, at)
 }
 
-// What is needed with one more part: in a PAR the sum, else the most.
-fn joined(kind: u32, before: u32, part: u32) -> u32
-    ensures { λ r. ⌜ r ≡ needed kind before part ⌝ }
+// What is needed with one more part: where parts run side by side the sum, else the most.
+fn joined(beside: bool, before: u32, part: u32) -> u32
+    ensures { λ r. ⌜ r ≡ needed beside before part ⌝ }
 {
-    if kind == numbers::kinds::PAR {
+    if beside {
         return word::plus(before, part);
     }
     crate::plan::larger(before, part)
-}
-
-// How many parts a kind from SEQ on has. Where no statement begins, kind and count may be any numbers: one that is too large makes no
-// parts, so that no place of a table costs more than 32 turns.
-fn parts_of(kind: u32, count: u32) -> u32
-    ensures { λ r. ⌜ r ≡ partsOf kind count ⌝ }
-{
-    if numbers::kinds::ALT < kind {
-        return 0;
-    }
-    if PARTS < count {
-        return 0;
-    }
-    count
 }
 
 // So many parts, each by its entry, behind some that need so many words.
@@ -155,20 +135,20 @@ fn parts_extent(
     table: &[u8],
     plan: &[u32; 32768],
     first: usize,
-    kind: u32,
+    head: Head,
+    beside: bool,
     count: u32,
     least: u32,
 ) -> Extent
-    ensures { λ r. ⌜ r ≡ partsExtent count kind (now (plan .entry)) (now (table .entry)) first least ⌝ }
+    ensures { λ r. ⌜ r ≡ partsExtent count head beside (now (plan .entry)) (now (table .entry)) first least ⌝ }
 {
     let mut at = first;
     let mut need = least;
     let mut left = count;
     while 0 < left {
-        let head = head_extent(table, plan, at, kind);
-        let part = extent_in(plan, head.next);
-        let before = crate::plan::larger(need, head.need);
-        need = joined(kind, before, part.need);
+        let before = head_extent(table, plan, at, head);
+        let part = extent_in(plan, before.next);
+        need = joined(beside, crate::plan::larger(need, before.need), part.need);
         at = part.next;
         left -= 1;
     }
@@ -178,35 +158,34 @@ fn parts_extent(
     }
 }
 
-// What follows the kinds from VAR on.
-fn inside_extent(table: &[u8], plan: &[u32; 32768], at: usize, kind: u32) -> Extent
-    ensures { λ r. ⌜ r ≡ insideExtent kind (now (plan .entry)) (now (table .entry)) at ⌝ }
+// The statement of a declaration of so many names.
+fn declared_extent(plan: &[u32; 32768], count: numbers::Value) -> Extent
+    ensures { λ r. ⌜ r ≡ declaredExtent (now (plan .entry)) count ⌝ }
 {
-    if kind == numbers::kinds::WHILE {
-        return parts_extent(table, plan, at, kind, 1, 2);
+    let body = extent_in(plan, count.next);
+    let need = word::plus(count.value, body.need);
+    Extent {
+        next: body.next,
+        need: need,
     }
-    let count = numbers::value_at(table, at);
-    if kind < numbers::kinds::SEQ {
-        let body = extent_in(plan, count.next);
-        let need = word::plus(count.value, body.need);
-        return Extent {
-            next: body.next,
-            need: need,
-        };
-    }
-    let parts = parts_of(kind, count.value);
-    if kind == numbers::kinds::ALT {
-        return parts_extent(table, plan, count.next, kind, parts, 4);
-    }
-    parts_extent(table, plan, count.next, kind, parts, 2)
 }
 
 // The statement that begins with a kind, by a plan that has the later places.
-pub fn stmt_extent(table: &[u8], plan: &[u32; 32768], kind: numbers::Value) -> Extent
-    ensures { λ r. ⌜ r ≡ stmtExtent (now (plan .entry)) (now (table .entry)) kind ⌝ }
+pub fn stmt_extent(table: &[u8], plan: &[u32; 32768], number: numbers::Value) -> Extent
+    ensures { λ r. ⌜ r ≡ stmtExtent (now (plan .entry)) (now (table .entry)) number ⌝ }
 {
-    if kind.value < numbers::kinds::VAR {
-        return simple_extent(table, plan, kind.next, kind.value);
+    let kind = numbers::kinds::stmt_kind(number.value as u64);
+    match numbers::kinds::shape_of(kind) {
+        Shape::Simple(simple) => simple_extent(table, plan, number.next, simple),
+        Shape::Declares(declared) => declared_extent(plan, numbers::value_at(table, number.next)),
+        Shape::Branches(count) => {
+            let n = numbers::kinds::count_at(table, number.next, count);
+            parts_extent(table, plan, n.next, Head::Nothing, true, n.value, 2)
+        }
+        Shape::Parts(head, count) => {
+            let n = numbers::kinds::count_at(table, number.next, count);
+            let least = numbers::kinds::least_words(head);
+            parts_extent(table, plan, n.next, head, false, n.value, least)
+        }
     }
-    inside_extent(table, plan, kind.next, kind.value)
 }

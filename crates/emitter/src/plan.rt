@@ -4,6 +4,7 @@ ghost use mathlib.Core.Path.{_≡_};
 ghost use Prim.Native.Nat.{max};
 ghost use Rattle.model.specs.Counts.{sidesNeed, orderOf, sidesHold};
 ghost use Rattle.emitter.specs.Plans.{entry as entryOf, nextIn, registersIn, storedIn, planAt, sidesEntry, exprEntry};
+use model::kinds::ExprKind;
 
 // The registers that an expression's code may use.
 pub const REGISTERS: u32 = model::limits::REGISTERS as u32;
@@ -91,13 +92,14 @@ fn sides_entry(left: u32, right: u32) -> u32
 pub fn planned(table: &[u8], plan: &[u32; 32768], kind: numbers::Value) -> u32
     ensures { λ r. ⌜ r ≡ exprEntry (now (plan .entry)) (now (table .entry)) kind ⌝ }
 {
-    if kind.value < numbers::kinds::NOT {
-        return entry(numbers::skip(table, kind.next), 1, 0);
+    match numbers::kinds::expr_kind(kind.value as u64) {
+        ExprKind::Constant => entry(numbers::skip(table, kind.next), 1, 0),
+        ExprKind::Variable => entry(numbers::skip(table, kind.next), 1, 0),
+        ExprKind::Not => entry_at(plan, kind.next),
+        ExprKind::Binary => {
+            let left = entry_at(plan, numbers::skip(table, kind.next));
+            let right = entry_at(plan, next_in(left));
+            sides_entry(left, right)
+        }
     }
-    if kind.value == numbers::kinds::NOT {
-        return entry_at(plan, kind.next);
-    }
-    let left = entry_at(plan, numbers::skip(table, kind.next));
-    let right = entry_at(plan, next_in(left));
-    sides_entry(left, right)
 }

@@ -4,6 +4,7 @@ ghost use Rattle.emitter.specs.Emits.{at as standing};
 ghost use Rattle.emitter.specs.Exprs.{wrote};
 ghost use Rattle.emitter.specs.Simples.{inputInto, outputInto, assignInto, inInto, outInto, simpleInto};
 use crate::expr::Done;
+use numbers::kinds::Simple;
 
 // LDLP variable, LDLP channel, LDC 4, IN.
 fn put_input(out: &mut [u8], here: u32, channel: u32, variable: u32) -> u32
@@ -113,12 +114,12 @@ fn gen_output(
     }
 }
 
-// The kinds before VAR.
+// What follows the kind of a statement without statements inside.
 pub fn gen_simple(
     table: &[u8],
     plan: &[u32; 32768],
     at: usize,
-    kind: u32,
+    simple: Simple,
     depth: u64,
     w: u32,
     variables: &[u32; 1024],
@@ -128,27 +129,23 @@ pub fn gen_simple(
 ) -> Done
     ensures { λ r.
         ⌜ wrote r (now (out .exit))
-        ≡ simpleInto kind depth w (now (variables .entry)) (now (channels .entry)) (now (plan .entry)) (now (table .entry)) at
+        ≡ simpleInto simple depth w (now (variables .entry)) (now (channels .entry)) (now (plan .entry)) (now (table .entry)) at
         (standing here (now (out .entry))) ⌝ }
 {
-    if kind == numbers::kinds::SKIP {
-        return Done {
+    match simple {
+        Simple::Skip => Done {
             next: at,
             here: here,
-        };
+        },
+        Simple::Stop => {
+            let end = crate::emit::operation(out, here, instruction::codes::STOPP);
+            Done {
+                next: at,
+                here: end,
+            }
+        }
+        Simple::Assign => gen_assign(table, plan, at, depth, w, variables, out, here),
+        Simple::Input => gen_input(table, at, w, variables, channels, out, here),
+        Simple::Output => gen_output(table, plan, at, depth, w, variables, channels, out, here),
     }
-    if kind == numbers::kinds::STOP {
-        let end = crate::emit::operation(out, here, instruction::codes::STOPP);
-        return Done {
-            next: at,
-            here: end,
-        };
-    }
-    if kind == numbers::kinds::ASSIGN {
-        return gen_assign(table, plan, at, depth, w, variables, out, here);
-    }
-    if kind == numbers::kinds::INPUT {
-        return gen_input(table, at, w, variables, channels, out, here);
-    }
-    gen_output(table, plan, at, depth, w, variables, channels, out, here)
 }

@@ -5,9 +5,9 @@ use mathlib.Core.Bool.{Bool, true}
 use mathlib.Core.List.{List, [], _∷_}
 use mathlib.Core.Option.{none}
 use borrow.Author.Tests.{ne-eqb}
-use Rattle.model.specs.Instruction.{Function, j, ldlp, ldc, ldl, cj, ajw, eqc, stl, opr, Operation, rev, endp, diff, «in», prod, gt}
-use Rattle.model.specs.Instruction.{startp, outword, stopp, ldpi, disc, diss, xor, mint, alt, altwt, altend, and, enbc, enbs, or, sum}
-use Rattle.model.specs.Instruction.{functionCode, functionOf, operationCode, operationOf, operations, coded}
+use Rattle.model.specs.Instruction.{Function, j, ldlp, ldc, ldl, cj, ajw, eqc, stl, opr, Operation, rev, endp, diff, «in», prod, gt, startp}
+use Rattle.model.specs.Instruction.{outword, stopp, ldpi, disc, diss, xor, mint, alt, altwt, altend, and, enbc, enbs, or, sum, functionCode}
+use Rattle.model.specs.Instruction.{functionOf, operationCode, operationOf, operations, coded}
 use Rattle.model.specs.Machine.{Act, fault}
 use Rattle.model.specs.Execute.{reduce, changing, operate, execute}
 use Rattle.model.specs.declared.Cpu.{Cpu}

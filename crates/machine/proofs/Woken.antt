@@ -8,8 +8,7 @@ use lib.Dec.{ltb, leb, eqb}
 use borrow.Author.Tests.{lt-ltb}
 use Rattle.model.specs.Word.{notProcess}
 use Rattle.model.specs.Machine.{World, Act, Result, done, faults, next, _>>_, return, memorySize, poke, testPlace, join, communicate}
-use Rattle.model.specs.Machine.{spaceOf}
-use Rattle.model.specs.Machine.{stateWord}
+use Rattle.model.specs.Machine.{spaceOf, stateWord}
 use Rattle.model.specs.Execute.{received, notify, waiting, ready}
 use Rattle.model.specs.Run.{land}
 use Rattle.model.specs.Outside.{waking}

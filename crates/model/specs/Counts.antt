@@ -3,9 +3,8 @@ use Prim.Native.Nat.{ℕ, zero, suc, _+_, min, max}
 use mathlib.Core.Bool.{cond, _&&_}
 use lib.Dec.{ltb, eqb}
 use Rattle.model.specs.Limits.{registerLimit}
-use Rattle.model.specs.Syntax.{Expr, constant, variable, NOT, binary, Stmt, SKIP, STOP, assign, input, output}
-use Rattle.model.specs.Syntax.{VAR, CHAN, SEQ, PAR, IF, WHILE, ALT, Stmts, noStmt, stmt, Pairs, noPair, pair, condition}
-use Rattle.model.specs.Syntax.{Guards, noGuard, guard}
+use Rattle.model.specs.Syntax.{Expr, constant, variable, NOT, binary, Stmt, SKIP, STOP, assign, input, output, VAR, CHAN, SEQ, PAR}
+use Rattle.model.specs.Syntax.{IF, WHILE, ALT, Stmts, noStmt, stmt, Pairs, noPair, pair, condition, Guards, noGuard, guard}
 
 -- 02, order 2: an operator whose sides need the same number needs one more, otherwise the larger, and never over 3
 unfoldable pub sidesNeed : (left right : ℕ) → ℕ

@@ -9,9 +9,11 @@ use mathlib.Core.List.{List, [], _∷_, _++_ as _⧺_, map}
 use mathlib.Core.Option.{Option, none, some}
 use lib.IntN.{pos, negℤ}
 use Rattle.model.specs.Word.{less, minus, signed, notProcess}
-use Rattle.model.specs.Syntax.{Site, inputOf, declared, PLUS, MINUS, TIMES, GT, AND, XOR, Expr, NOT, constant, variable, binary, Stmt}
-use Rattle.model.specs.Syntax.{SKIP, STOP, assign, input, output, VAR, CHAN, SEQ, PAR, IF, WHILE, ALT, Stmts, noStmt, stmt, noPair}
-use Rattle.model.specs.Syntax.{pair, inputGuard, skipGuard, Guards, noGuard, guard}
+use Rattle.model.specs.Syntax.{Site, inputOf, declared, Expr, NOT, constant, variable, binary, Stmt, SKIP, STOP, assign, input}
+use Rattle.model.specs.Syntax.{output, VAR, CHAN, SEQ, PAR, IF, WHILE, ALT, Stmts, noStmt, stmt, noPair, pair, inputGuard, skipGuard}
+use Rattle.model.specs.Syntax.{Guards, noGuard, guard}
+use Rattle.model.specs.declared.kinds.Operator.the-variants.{Plus as PLUS, Minus as MINUS, Times as TIMES, Gt as GT, And as AND}
+use Rattle.model.specs.declared.kinds.Operator.the-variants.{Xor as XOR}
 use Rattle.model.specs.Reader.{refused}
 use Rattle.model.specs.Counts.{registers, temporaries, processes, need}
 use Rattle.model.specs.Limits.{tableLimit, codeLimit, wordLimit, depthLimit, registerLimit, channelLimit, nameLimit, partLimit}

@@ -10,9 +10,8 @@ use Rattle.model.specs.Word.{low, less, truth, notProcess}
 use Rattle.model.specs.Instruction.{Function, j, ldlp, ldc, ldl, cj, ajw, eqc, stl, opr, Operation, rev, endp, diff, «in», prod, gt}
 use Rattle.model.specs.Instruction.{startp, outword, stopp, ldpi, disc, diss, xor, mint, alt, altwt, altend, and, enbc, enbs, or, sum}
 use Rattle.model.specs.Instruction.{operationOf}
-use Rattle.model.specs.Machine.{Act, return, fault, withOffers, registers, setRegisters, setup, communicate, _>>=_, _>>_}
-use Rattle.model.specs.Machine.{stack, goto, work, peek, poke, testPlace, resumeWord, stateWord, nameOf, spaceOf, release, join}
-use Rattle.model.specs.Machine.{isHeld, done}
+use Rattle.model.specs.Machine.{Act, return, fault, withOffers, registers, setRegisters, setup, communicate, _>>=_, _>>_, stack, goto}
+use Rattle.model.specs.Machine.{work, peek, poke, testPlace, resumeWord, stateWord, nameOf, spaceOf, release, join, isHeld, done}
 use Rattle.model.specs.declared.Cpu.{Cpu}
 use Rattle.model.specs.declared.FaultKind.the-variants.{Operation as BadOperation, Count}
 

@@ -3,8 +3,8 @@ use Prim.Native.Nat.{ℕ, _+_, _-_}
 use mathlib.Core.Bool.{true, false}
 use mathlib.Core.List.{List, [], _∷_, _++_}
 use lib.Dec.{eqb}
-use Rattle.model.specs.Syntax.{Site, inputOf, outputOf, declared, Stmt, SKIP, STOP, assign, input, output, VAR, CHAN, SEQ, PAR}
-use Rattle.model.specs.Syntax.{IF, WHILE, ALT, Stmts, noStmt, stmt, Pairs, noPair, pair, Guards, noGuard, guard, Program}
+use Rattle.model.specs.Syntax.{Site, inputOf, outputOf, declared, Stmt, SKIP, STOP, assign, input, output, VAR, CHAN, SEQ, PAR, IF}
+use Rattle.model.specs.Syntax.{WHILE, ALT, Stmts, noStmt, stmt, Pairs, noPair, pair, Guards, noGuard, guard, Program}
 use Rattle.model.specs.Counts.{need}
 
 -- a VAR or CHAN, by its place, and the W of its body

@@ -8,9 +8,18 @@ use lib.ListN.{length, drop, getElem?}
 use lib.Dec.{leb}
 use Rattle.model.specs.Number.{Number, number}
 use Rattle.model.specs.Limits.{tableLimit, depthLimit, channelLimit, nameLimit, partLimit, branchLimit}
-use Rattle.model.specs.Syntax.{Site, inputOf, outputOf, declared, Operator, PLUS, MINUS, TIMES, GT, EQ, AND, OR, XOR, Expr, constant}
-use Rattle.model.specs.Syntax.{variable, NOT, binary, Stmt, SKIP, STOP, assign, input, output, VAR, CHAN, SEQ, PAR, IF, WHILE}
-use Rattle.model.specs.Syntax.{ALT, noStmt, stmt, Pairs, noPair, pair, Guard, inputGuard, skipGuard, Guards, noGuard, guard, Program}
+use Rattle.model.specs.Syntax.{Site, inputOf, outputOf, declared, Expr, constant, variable, NOT, binary, Stmt, SKIP, STOP, assign}
+use Rattle.model.specs.Syntax.{input, output, VAR, CHAN, SEQ, PAR, IF, WHILE, ALT, noStmt, stmt, Pairs, noPair, pair, Guard}
+use Rattle.model.specs.Syntax.{inputGuard, skipGuard, Guards, noGuard, guard, Program}
+use Rattle.model.specs.declared.kinds.Operator.{Operator}
+use Rattle.model.specs.declared.kinds.Operator.the-variants.{Plus as PLUS, Minus as MINUS, Times as TIMES, Gt as GT, Eq as EQ}
+use Rattle.model.specs.declared.kinds.Operator.the-variants.{And as AND, Or as OR, Xor as XOR}
+use Rattle.model.specs.declared.kinds.ExprKind.{ExprKind}
+use Rattle.model.specs.declared.kinds.ExprKind.the-variants.{Constant, Variable, Not, Binary}
+use Rattle.model.specs.declared.kinds.StmtKind.{StmtKind}
+use Rattle.model.specs.declared.kinds.StmtKind.the-variants.{Skip, Stop, Assign, Input, Output, Var, Chan, Seq, Par, If, While, Alt}
+use Rattle.model.specs.declared.kinds.GuardKind.{GuardKind}
+use Rattle.model.specs.declared.kinds.GuardKind.the-variants.{Input as InputGuard, Skip as SkipGuard}
 
 -- what was read, the place of the next byte and the bytes from there on; or a refusal's number and place
 pub data Parsed (A : Type 0) : Type 0 where
@@ -132,15 +141,12 @@ withVariables p n s = record { variables = s .variables ++ names p n; channels =
 abbrev pub withChannels : ℕ → ℕ → Scope → Scope
 withChannels p n s = record { variables = s .variables; channels = s .channels ++ names p n }
 
--- 01: an expression is 0 and a constant word; 1 and a variable; 2 (NOT) and an expression; or 3, operator, left, right
-pub data ExprKind : Type 0 where
-  isConstant isVariable isNot isBinary : ExprKind
-
--- the kinds of expressions in the order of their numbers, from 0
+-- 01: an expression is 0 and a constant word; 1 and a variable; 2 (NOT) and an expression; or 3, operator, left, right. The kinds in the
+-- order of their numbers, from 0
 abbrev pub exprKinds : List ExprKind
-exprKinds = isConstant ∷ isVariable ∷ isNot ∷ isBinary ∷ []
+exprKinds = Constant ∷ Variable ∷ Not ∷ Binary ∷ []
 
--- the operators in the order of their numbers, from 0
+-- 01: operators 0 PLUS, 1 MINUS, 2 TIMES, 3 GT, 4 EQ, 5 AND, 6 OR, 7 XOR
 abbrev pub operators : List Operator
 operators = PLUS ∷ MINUS ∷ TIMES ∷ GT ∷ EQ ∷ AND ∷ OR ∷ XOR ∷ []
 
@@ -153,10 +159,10 @@ tooDeep = do
 
 -- what follows an expression's kind, with a reader of the expressions inside it
 unfoldable pub exprOf : Scope → Reader Expr → ExprKind → Reader Expr
-exprOf scope inner isConstant = do n ← readNumber; pure (constant n)
-exprOf scope inner isVariable = do x ← readVariable scope; pure (variable x)
-exprOf scope inner isNot = do e ← inner; pure (NOT e)
-exprOf scope inner isBinary = do
+exprOf scope inner Constant = do n ← readNumber; pure (constant n)
+exprOf scope inner Variable = do x ← readVariable scope; pure (variable x)
+exprOf scope inner Not = do e ← inner; pure (NOT e)
+exprOf scope inner Binary = do
   op ← oneOf operators
   left ← inner
   right ← inner
@@ -177,21 +183,13 @@ readMany empty more part (suc n) = do
   rest ← readMany empty more part n
   pure (more a rest)
 
--- the kinds of 01's table
-pub data StmtKind : Type 0 where
-  isSkip isStop isAssign isInput isOutput isVar isChan isSeq isPar isIf isWhile isAlt : StmtKind
-
 -- 0 SKIP, 1 STOP, 2 assign, 3 input, 4 output, 5 VAR, 6 CHAN, 7 SEQ, 8 PAR, 9 IF, 10 WHILE, 11 ALT
 abbrev pub stmtKinds : List StmtKind
-stmtKinds = isSkip ∷ isStop ∷ isAssign ∷ isInput ∷ isOutput ∷ isVar ∷ isChan ∷ isSeq ∷ isPar ∷ isIf ∷ isWhile ∷ isAlt ∷ []
+stmtKinds = Skip ∷ Stop ∷ Assign ∷ Input ∷ Output ∷ Var ∷ Chan ∷ Seq ∷ Par ∷ If ∷ While ∷ Alt ∷ []
 
 -- 01: a guard is 0 (waits for input) or 1 (SKIP guard)
-pub data GuardKind : Type 0 where
-  isInputGuard isSkipGuard : GuardKind
-
--- the kinds of guards in the order of their numbers
 abbrev pub guardKinds : List GuardKind
-guardKinds = isInputGuard ∷ isSkipGuard ∷ []
+guardKinds = InputGuard ∷ SkipGuard ∷ []
 
 -- the readers of the parts inside a statement
 pub record Inner : Type 0 where
@@ -207,8 +205,8 @@ readPair scope inner = do
 
 -- 01: condition, channel, variable (waits for input), or condition (SKIP guard)
 unfoldable pub guardOf : Scope → Reader Expr → GuardKind → Reader Guard
-guardOf scope expr isInputGuard = do e ← expr; c ← readInput scope; x ← readVariable scope; pure (inputGuard e c x)
-guardOf scope expr isSkipGuard = do e ← expr; pure (skipGuard e)
+guardOf scope expr InputGuard = do e ← expr; c ← readInput scope; x ← readVariable scope; pure (inputGuard e c x)
+guardOf scope expr SkipGuard = do e ← expr; pure (skipGuard e)
 
 -- a guard, then its statement. A guard is no level of depth: its number is read at the ALT's level
 unfoldable pub readGuard : Scope → Inner → Reader (Guards → Guards)
@@ -224,18 +222,18 @@ applied f l = f l
 
 -- what follows a statement's kind, for a statement at a place: the column "then" of 01's table
 unfoldable pub stmtOf : (place : ℕ) → Scope → Inner → StmtKind → Reader Stmt
-stmtOf p scope inner isSkip = pure SKIP
-stmtOf p scope inner isStop = pure STOP
-stmtOf p scope inner isAssign = do x ← readVariable scope; e ← inner .expr; pure (assign x e)
-stmtOf p scope inner isInput = do c ← readInput scope; x ← readVariable scope; pure (input c x)
-stmtOf p scope inner isOutput = do c ← readOutput scope; e ← inner .expr; pure (output c e)
-stmtOf p scope inner isVar = do n ← readCount 1 nameLimit; s ← inner .stmt (withVariables p n scope); pure (VAR p n s)
-stmtOf p scope inner isChan = do n ← readCount 1 nameLimit; s ← inner .stmt (withChannels p n scope); pure (CHAN p n s)
-stmtOf p scope inner isSeq = do n ← readCount 0 partLimit; ss ← readMany noStmt stmt (inner .stmt scope) n; pure (SEQ ss)
-stmtOf p scope inner isPar = do n ← readCount 0 branchLimit; ss ← readMany noStmt stmt (inner .stmt scope) n; pure (PAR p ss)
-stmtOf p scope inner isIf = do n ← readCount 0 partLimit; ps ← readMany noPair applied (readPair scope inner) n; pure (IF ps)
-stmtOf p scope inner isWhile = do e ← inner .expr; s ← inner .stmt scope; pure (WHILE e s)
-stmtOf p scope inner isAlt = do n ← readCount 0 partLimit; gs ← readMany noGuard applied (readGuard scope inner) n; pure (ALT gs)
+stmtOf p scope inner Skip = pure SKIP
+stmtOf p scope inner Stop = pure STOP
+stmtOf p scope inner Assign = do x ← readVariable scope; e ← inner .expr; pure (assign x e)
+stmtOf p scope inner Input = do c ← readInput scope; x ← readVariable scope; pure (input c x)
+stmtOf p scope inner Output = do c ← readOutput scope; e ← inner .expr; pure (output c e)
+stmtOf p scope inner Var = do n ← readCount 1 nameLimit; s ← inner .stmt (withVariables p n scope); pure (VAR p n s)
+stmtOf p scope inner Chan = do n ← readCount 1 nameLimit; s ← inner .stmt (withChannels p n scope); pure (CHAN p n s)
+stmtOf p scope inner Seq = do n ← readCount 0 partLimit; ss ← readMany noStmt stmt (inner .stmt scope) n; pure (SEQ ss)
+stmtOf p scope inner Par = do n ← readCount 0 branchLimit; ss ← readMany noStmt stmt (inner .stmt scope) n; pure (PAR p ss)
+stmtOf p scope inner If = do n ← readCount 0 partLimit; ps ← readMany noPair applied (readPair scope inner) n; pure (IF ps)
+stmtOf p scope inner While = do e ← inner .expr; s ← inner .stmt scope; pure (WHILE e s)
+stmtOf p scope inner Alt = do n ← readCount 0 partLimit; gs ← readMany noGuard applied (readGuard scope inner) n; pure (ALT gs)
 
 -- a statement, with the depths left from it on; each statement or expression inside it is one deeper
 unfoldable pub readStmt : ℕ → Scope → Reader Stmt

@@ -10,8 +10,7 @@ use Rattle.model.specs.Limits.{codeLimit, wordLimit, channelLimit, slice
 use Rattle.model.specs.Instruction.{Function, pfixCode, nfixCode, functionOf}
 use Rattle.model.specs.Prefix.{gathered, pfixed, nfixed}
 use Rattle.model.specs.Machine.{machineWith, Talk, World, Result, done, faults, Act, _>>=_, _>>_, return, fault, registers}
-use Rattle.model.specs.Machine.{setRegisters, setup}
-use Rattle.model.specs.Machine.{goto, gathering, counting, testPlace, memorySize}
+use Rattle.model.specs.Machine.{setRegisters, setup, goto, gathering, counting, testPlace, memorySize}
 use Rattle.model.specs.Execute.{execute}
 use Rattle.model.specs.declared.Cpu.{Cpu}
 use Rattle.model.specs.declared.Setup.{Setup}

@@ -2,10 +2,12 @@
 use Prim.Native.Nat.{ℕ, zero, suc, _+_, _-_, _*_}
 use mathlib.Core.List.{List, [], _∷_, _++_}
 use Rattle.model.specs.Word.{less, minus}
-use Rattle.model.specs.Syntax.{Site, Operator, PLUS, MINUS, TIMES, GT, EQ, AND, OR, XOR, Expr, constant, variable, NOT, binary}
-use Rattle.model.specs.Syntax.{Stmt, SKIP, STOP, assign, input, output, VAR, CHAN, SEQ, PAR, IF, WHILE, ALT, Stmts, noStmt, stmt}
-use Rattle.model.specs.Syntax.{Pairs, noPair, pair, Guard, inputGuard, skipGuard, Guards, noGuard}
-use Rattle.model.specs.Syntax.{guard, Program}
+use Rattle.model.specs.Syntax.{Site, Expr, constant, variable, NOT, binary, Stmt, SKIP, STOP, assign, input, output, VAR, CHAN, SEQ}
+use Rattle.model.specs.Syntax.{PAR, IF, WHILE, ALT, Stmts, noStmt, stmt, Pairs, noPair, pair, Guard, inputGuard, skipGuard, Guards}
+use Rattle.model.specs.Syntax.{noGuard, guard, Program}
+use Rattle.model.specs.declared.kinds.Operator.{Operator}
+use Rattle.model.specs.declared.kinds.Operator.the-variants.{Plus as PLUS, Minus as MINUS, Times as TIMES, Gt as GT, Eq as EQ}
+use Rattle.model.specs.declared.kinds.Operator.the-variants.{And as AND, Or as OR, Xor as XOR}
 use Rattle.model.specs.Counts.{Order, leftFirst, rightFirst, rightStored, order, temporaries, need}
 use Rattle.model.specs.Layout.{base, wordOf}
 use Rattle.model.specs.Instruction as I

@@ -1,6 +1,7 @@
 -- Programs as a table has them (01, "The program table"), with each name resolved to its declaration.
 -- Places are bytes of the table.
 use Prim.Native.Nat.{ℕ}
+use Rattle.model.specs.declared.kinds.Operator.{Operator}
 
 -- what a name stands for: an outside input or output channel, each counted from 0, or the j-th name of the VAR or CHAN
 -- whose first byte is at a place
@@ -8,10 +9,6 @@ pub data Site : Type 0 where
   inputOf : ℕ → Site
   outputOf : ℕ → Site
   declared : (place j : ℕ) → Site
-
--- 01: operators 0 PLUS, 1 MINUS, 2 TIMES, 3 GT, 4 EQ, 5 AND, 6 OR, 7 XOR
-pub data Operator : Type 0 where
-  PLUS MINUS TIMES GT EQ AND OR XOR : Operator
 
 -- 01: a constant word, a variable, NOT of an expression, or an operator with left and right
 pub data Expr : Type 0 where

@@ -5,9 +5,9 @@ use mathlib.Core.Bool.{Bool, false, cond, _&&_, _||_}
 use mathlib.Core.List.{List, [], _∷_, _++_}
 use mathlib.Core.Option.{Option, none, some}
 use lib.Dec.{eqb}
-use Rattle.model.specs.Syntax.{Site, inputOf, outputOf, declared, Expr, constant, variable, NOT, binary, Stmt, SKIP}
-use Rattle.model.specs.Syntax.{STOP, assign, input, output, VAR, CHAN, SEQ, PAR, IF, WHILE, ALT, Stmts, noStmt, stmt, Pairs, noPair}
-use Rattle.model.specs.Syntax.{pair, Guard, inputGuard, skipGuard, Guards, noGuard, guard}
+use Rattle.model.specs.Syntax.{Site, inputOf, outputOf, declared, Expr, constant, variable, NOT, binary, Stmt, SKIP, STOP, assign}
+use Rattle.model.specs.Syntax.{input, output, VAR, CHAN, SEQ, PAR, IF, WHILE, ALT, Stmts, noStmt, stmt, Pairs, noPair, pair, Guard}
+use Rattle.model.specs.Syntax.{inputGuard, skipGuard, Guards, noGuard, guard}
 
 -- what a part of the program does to names. Names that it declares itself are among them, and in no other part
 pub record Usage : Type 0 where

@@ -1,6 +1,7 @@
-// The types that the calls of document 01 take and answer, its limits and the words that its machine tells apart. What the calls do is
-// defined in specs/.
+// The types that the calls of document 01 take and answer, the kinds of its table, its limits and the words that its machine tells apart.
+// What the calls do is defined in specs/.
 pub mod constants;
+pub mod kinds;
 pub mod limits;
 
 // Fault (refusal 12): what was at fault, with its number.

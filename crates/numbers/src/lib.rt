@@ -52,11 +52,24 @@ pub fn read_groups(table: &[u8], at: usize, left: u64) -> NumberRead
     }
 }
 
+// The number at a place. Most have one byte, which costs no call.
+pub fn read_number(table: &[u8], at: usize) -> NumberRead
+    ensures { λ r. ⌜ r ≡ groupsAt 5 (now (table .entry)) at ⌝ }
+{
+    if at < table.len() {
+        let b = wide(table[at]);
+        if b < 128 {
+            return NumberRead::Number(b, at + 1);
+        }
+    }
+    read_groups(table, at, 5)
+}
+
 // A kind or a count from lo to hi; else 3 at its byte.
 pub fn read_between(table: &[u8], at: usize, lo: u64, hi: u64) -> Item
     ensures { λ r. ⌜ r ≡ betweenAt lo hi (now (table .entry)) at ⌝ }
 {
-    match read_groups(table, at, 5) {
+    match read_number(table, at) {
         NumberRead::Number(v, next) => {
             if v < lo {
                 return Item::Refused(3, at);
@@ -74,7 +87,7 @@ pub fn read_between(table: &[u8], at: usize, lo: u64, hi: u64) -> Item
 pub fn read_name(table: &[u8], at: usize, count: u64, from: u64, to: u64) -> Item
     ensures { λ r. ⌜ r ≡ nameAt count from to (now (table .entry)) at ⌝ }
 {
-    match read_groups(table, at, 5) {
+    match read_number(table, at) {
         NumberRead::Number(v, next) => {
             if count <= v {
                 return Item::Refused(5, at);
@@ -95,7 +108,7 @@ pub fn read_name(table: &[u8], at: usize, count: u64, from: u64, to: u64) -> Ite
 pub fn read_deep(table: &[u8], at: usize) -> Item
     ensures { λ r. ⌜ r ≡ deepAt (now (table .entry)) at ⌝ }
 {
-    match read_groups(table, at, 5) {
+    match read_number(table, at) {
         NumberRead::Number(v, next) => Item::Refused(4, at),
         NumberRead::Bad => Item::Refused(2, at),
     }
@@ -111,7 +124,7 @@ pub struct Value {
 pub fn value_at(table: &[u8], at: usize) -> Value
     ensures { λ r. ⌜ r ≡ valueAt (now (table .entry)) at ⌝ }
 {
-    match read_groups(table, at, 5) {
+    match read_number(table, at) {
         NumberRead::Number(v, next) => Value {
             value: (v % 4294967296) as u32,
             next: next,

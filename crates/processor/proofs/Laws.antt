@@ -7,8 +7,8 @@ use lib.ListN.{length, getD, set}
 use native.Mathlib.Omega.{arith}
 use lib.Seq.{set-set, set-getD}
 use lib.Dec.{ltb, leb·zero}
-use Rattle.model.specs.Machine.{World, Act, Result, done, faults, next, _>>_, return, setRegisters, running, queueing, spaceOf}
-use Rattle.model.specs.Machine.{memorySize, poke, testPlace, linkWord, resume, takeFront, release, join}
+use Rattle.model.specs.Machine.{World, Act, Result, done, faults, next, _>>_, return, setRegisters, running, queueing, spaceOf, memorySize}
+use Rattle.model.specs.Machine.{poke, testPlace, linkWord, resume, takeFront, release, join}
 use Rattle.model.specs.Word.{low}
 use Rattle.model.specs.Execute.{jump}
 use Rattle.model.specs.Run.{land}

@@ -2,9 +2,8 @@
 use Prim.Native.Nat.{ℕ}
 use mathlib.Core.Bool.{cond}
 use lib.Dec.{eqb}
-use Rattle.model.specs.Machine.{Act, _>>=_, _>>_, registers, setRegisters, goto, work, peek, poke, testPlace, resumeWord, stateWord}
-use Rattle.model.specs.Machine.{nameOf, spaceOf}
-use Rattle.model.specs.Machine.{release, join, return}
+use Rattle.model.specs.Machine.{Act, _>>=_, _>>_, registers, setRegisters, goto, work, peek, poke, testPlace, resumeWord, stateWord, nameOf}
+use Rattle.model.specs.Machine.{spaceOf, release, join, return}
 use Rattle.model.specs.Execute.{isAltState, ready, waiting}
 use Rattle.model.specs.Run.{land}
 use Rattle.model.specs.Outside.{waking}

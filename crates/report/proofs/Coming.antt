@@ -20,8 +20,7 @@ use Rattle.model.specs.declared.TakeAnswer.{TakeAnswer}
 use Rattle.model.specs.declared.TakeAnswer.the-variants.{Taken, Nothing, Short as TakeShort, Fault as TakeFault, NoChannel}
 use Rattle.model.proofs.Cases.{by-bool, of-cond, never}
 use Rattle.model.proofs.Laws.Runs.{run-keeps-beyond, take-keeps-beyond}
-use Rattle.report.specs.Texts.{Turned, at, ranTurn, tookTurn, turnOf, nextOf, roundsOf}
-use Rattle.report.specs.Texts.{textFrom, textOf, roundTurns, turnsLeft}
+use Rattle.report.specs.Texts.{Turned, at, ranTurn, tookTurn, turnOf, nextOf, roundsOf, textFrom, textOf, roundTurns, turnsLeft}
 use Rattle.report.specs.declared.stage.Stage.{Stage}
 use Rattle.report.specs.declared.stage.Stage.the-variants.{Bytes, Words, Head, Code, Running, Taking, Refused, Done}
 use Rattle.report.specs.declared.stage.Report.{Report}

@@ -19,8 +19,7 @@ use Rattle.model.specs.Usage.{Usage, nothing, _⊕_, usage, same, isIn, share, 
 use Rattle.table.specs.Uses.{noNames, metAt, metBelow, clashing}
 use Rattle.table.specs.Sets.{wordOf}
 use Rattle.table.proofs.Words.{word-and, word-has, word-some}
-use Rattle.table.proofs.Marks.{changed, used-there, inputs-of, outputs-of, Marked, own-word}
-use Rattle.table.proofs.Marks.{isIn-append, InScope, or-cases, drop-at}
+use Rattle.table.proofs.Marks.{changed, used-there, inputs-of, outputs-of, Marked, own-word, isIn-append, InScope, or-cases, drop-at}
 
 -- two tests that hold together are one
 together : (a b : Bool) → (a ≡ true → b ≡ true) → (b ≡ true → a ≡ true) → a ≡ b

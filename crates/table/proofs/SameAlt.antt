@@ -2,29 +2,30 @@
 use Prim.Native.Nat.{ℕ, _≤_, _<_, max}
 use native.Mathlib.Omega.{arith}
 use mathlib.Core.Path.{_≡_, refl, sym, _∙_}
-use mathlib.Core.Bool.{cond}
 use mathlib.Core.List.{List}
 use lib.ListN.{drop}
-use lib.Dec.{eqb}
-use Rattle.model.specs.Syntax.{Guard, inputGuard, skipGuard, condition, Guards, noGuard, guard}
+use Rattle.model.specs.Syntax.{inputGuard, skipGuard, condition, Guards, noGuard, guard}
 use Rattle.model.specs.Syntax as M
-use Rattle.model.specs.Reader.{Parsed, onward, pure, Scope, readExpr, Inner, stmtOf, applied, readGuard, guardOf, isAlt, isInputGuard}
-use Rattle.model.specs.Reader.{isSkipGuard}
-use Rattle.model.specs.Reader.{guardKinds, readStmt}
+use Rattle.model.specs.Reader.{Parsed, onward, pure, Scope, readExpr, Inner, stmtOf, applied, readGuard, guardOf, guardKinds, readStmt}
 use Rattle.model.specs.Usage.{_⊕_, reading, usage, firstClash, guardUsage, usageGuards, firstClashGuards}
 use Rattle.model.specs.Counts.{temporaries, guardWords, processes, need, guardNeed, guardProcesses}
-use Rattle.table.specs.Stmts.{asked, wholeAt, takenAt, Fits, stmtAt, headAt, withHead, withStmt}
-use Rattle.table.specs.Stmts.{guardAt, behind, nothing as no-part, partAt, mostFrom, gathered}
-use Rattle.table.specs.Stmts.{takenUses, guardUses, headUses, partUses, stmtUses}
+use Rattle.table.specs.Stmts.{asked, wholeAt, takenAt, Fits, stmtAt, headAt, withHead, withStmt, guardAt, behind, nothing as no-part}
+use Rattle.table.specs.Stmts.{partAt, mostFrom, gathered, takenUses, guardUses, headUses, partUses, stmtUses}
 use Rattle.table.specs.Exprs.{exprUses}
 use Rattle.numbers.specs.declared.Item.the-variants.{Item as Found}
+use Rattle.model.specs.declared.kinds.StmtKind.the-variants.{Alt}
+use Rattle.model.specs.declared.kinds.GuardKind.{GuardKind}
+use Rattle.model.specs.declared.kinds.GuardKind.the-variants.{Input as InputGuard, Skip as SkipGuard}
+use Rattle.numbers.specs.declared.kinds.Head.the-variants.{Guard}
+use Rattle.table.specs.declared.stmt.Role.the-variants.{Guard as ForGuard}
+use Rattle.numbers.specs.Kinds.{guardKind, byGuard}
 use Rattle.table.specs.declared.stmt.Names.{Names}
 use Rattle.table.specs.declared.stmt.StmtRead.{StmtRead}
 use Rattle.table.specs.declared.stmt.StmtRead.the-variants.{Stmt, Refused as NoStmt}
 use Rattle.table.specs.declared.stmt.HeadRead.{HeadRead}
-use Rattle.table.specs.declared.stmt.HeadRead.the-variants.{Head, Refused as NoHead}
+use Rattle.table.specs.declared.stmt.HeadRead.the-variants.{Head as Before, Refused as NoHead}
 use Rattle.table.specs.Scopes.{Scoped}
-use Rattle.table.proofs.SameItems.{Bytes, Same, gives, onwards, one-same, each}
+use Rattle.table.proofs.SameItems.{Bytes, Same, gives, onwards, one-same, guard-kind-is}
 use Rattle.table.proofs.Marks.{Uses, use-both}
 use Rattle.table.proofs.SameExpr.{Numbers}
 use Rattle.table.proofs.SameSimple.{first, Within, RestIs, wider, within-both, taken-onward, taken-uses, within-input}
@@ -54,45 +55,45 @@ behindHead d w s x = withHead NoStmt x (λ n a. withStmt NoStmt (stmtAt d w s n)
 
 -- how a part of an ALT is used
 abbrev guardWay : (d : ℕ) → Names → List ℕ → (at : ℕ) → List ℕ → List ℕ
-guardWay d w s at l = partUses 11 d w (innerUses d w s) s at l
+guardWay d w s at l = partUses Guard d w (innerUses d w s) s at l
 
 -- a guard was read; what it asks for, and how it is used
-record GuardIs (sc : Scope) (place at : ℕ) (way : List ℕ → List ℕ) (g : Guard) (n : ℕ) (x : HeadRead) : Type 0 where
-  is : x ≡ Head n (guardWords (temporaries (condition g)))
+record GuardIs (sc : Scope) (place at : ℕ) (way : List ℕ → List ℕ) (g : M.Guard) (n : ℕ) (x : HeadRead) : Type 0 where
+  is : x ≡ Before n (guardWords (temporaries (condition g)))
   ahead : at < n
   uses : Uses sc (guardUsage g) way
   within : (hi : ℕ) → Within sc place hi (guardUsage g)
 
 module _ (s : List ℕ) (d : ℕ) (w : Names) (sc : Scope) (place : ℕ) (b : Bytes s) (h : Scoped w sc place) (o : Numbers sc) where
   -- what follows a guard's number
-  skip-head : (at n : ℕ) → at < n → betweenAt 0 1 s at ≡ Found 1 n
-      → Same s (GuardIs sc place at (guardUses d w s at)) NoHead (withHead NoHead (wholeAt 11 d (w .variables) s n) (λ m a. Head m a))
-      (guardOf sc (readExpr d sc) isSkipGuard n (drop n s))
+  skip-head : (at v n : ℕ) → at < n → betweenAt 0 1 s at ≡ Found v n → guardKind v ≡ SkipGuard
+      → Same s (GuardIs sc place at (guardUses d w s at)) NoHead (withHead NoHead (wholeAt ForGuard d (w .variables) s n) (λ m a. Before m a))
+      (guardOf sc (readExpr d sc) SkipGuard n (drop n s))
   unfolding guardUses guardOf asked
-  skip-head at n t kind =
-      onwards (λ x. withHead NoHead x (λ m a. Head m a)) (λ e. pure (skipGuard e)) (whole-scoped 11 d w sc s place n b h o)
+  skip-head at v n t item kind =
+      onwards (λ x. withHead NoHead x (λ m a. Before m a)) (λ e. pure (skipGuard e)) (whole-scoped ForGuard d w sc s place n b h o)
       (λ e m y r q.
       let value : Uses sc (reading e) (λ l. exprUses d (w .variables) s n l) = rw (h .variables) (r .uses) in
-      rw (r .is) (gives (skipGuard e) m (Head m (guardWords (temporaries e)))
-      (record { is = refl; ahead = omega (arith, t, r .ahead); uses = rw (kind, q ∙ r .is) value; within = r .within place })))
+      rw (r .is) (gives (skipGuard e) m (Before m (guardWords (temporaries e)))
+      (record { is = refl; ahead = omega (arith, t, r .ahead); uses = rw (item, kind, q ∙ r .is) value; within = r .within place })))
       (λ j p. refl)
 
-  input-head : (at n : ℕ) → at < n → betweenAt 0 1 s at ≡ Found 0 n
+  input-head : (at v n : ℕ) → at < n → betweenAt 0 1 s at ≡ Found v n → guardKind v ≡ InputGuard
       → Same s (GuardIs sc place at (guardUses d w s at)) NoHead
-      (withHead NoHead (wholeAt 11 d (w .variables) s n) (λ m a. takenAt w s m a))
-      (guardOf sc (readExpr d sc) isInputGuard n (drop n s))
+      (withHead NoHead (wholeAt ForGuard d (w .variables) s n) (λ m a. takenAt w s m a))
+      (guardOf sc (readExpr d sc) InputGuard n (drop n s))
   unfolding guardUses guardOf asked
-  input-head at n t kind =
-      onwards (λ x. withHead NoHead x (λ m a. takenAt w s m a)) _ (whole-scoped 11 d w sc s place n b h o)
+  input-head at number n t item kind =
+      onwards (λ x. withHead NoHead x (λ m a. takenAt w s m a)) _ (whole-scoped ForGuard d w sc s place n b h o)
       (λ e m y r q.
       let value : Uses sc (reading e) (λ l. exprUses d (w .variables) s n l) = rw (h .variables) (r .uses) in
       rw (r .is) (
       taken-onward w sc s place m (guardWords (temporaries e)) (λ x. x) (λ ch x. pure (inputGuard e ch x)) b h
-      (λ ch x c v g. gives (inputGuard e ch x) v (Head v (guardWords (temporaries e)))
+      (λ ch x c v g. gives (inputGuard e ch x) v (Before v (guardWords (temporaries e)))
       (record {
         is = refl;
         ahead = omega (arith, t, r .ahead, g .channel .there .ahead, g .target .there .ahead);
-        uses = rw (kind, q ∙ r .is) (use-both {f = exprUses d (w .variables) s n} {g = takenUses w s m} value (taken-uses g o));
+        uses = rw (item, kind, q ∙ r .is) (use-both {f = exprUses d (w .variables) s n} {g = takenUses w s m} value (taken-uses g o));
         within = λ hi. within-both (r .within place hi) (within-input place hi g);
       }))
       (λ j p. refl)))
@@ -100,7 +101,7 @@ module _ (s : List ℕ) (d : ℕ) (w : Names) (sc : Scope) (place : ℕ) (b : By
 
   module _ (inner : Inner) (f : Fits w d) (i : InnerIs s d) (ee : inner .expr ≡ readExpr d sc) (es : inner .stmt ≡ readStmt d) where
     -- a guard, and the statement behind it
-    guard-then : (at : ℕ) → place ≤ at → {x : HeadRead} {r : Parsed Guard} → guardAt d w s at ≡ x
+    guard-then : (at : ℕ) → place ≤ at → {x : HeadRead} {r : Parsed M.Guard} → guardAt d w s at ≡ x
         → Same s (GuardIs sc place at (guardUses d w s at)) NoHead x r
         → Same s (λ a m x. PartIs guarded sc place at (guardWay d w s at) (applied a) m x) NoStmt (behindHead d w s x)
         (onward r (λ g. λ i bytes. onward (inner .stmt sc i bytes) (λ st. pure (guard g st))))
@@ -130,30 +131,35 @@ module _ (s : List ℕ) (d : ℕ) (w : Names) (sc : Scope) (place : ℕ) (b : By
         (λ j p. refl))
 
     guard-part : (at : ℕ) → place ≤ at
-        → Same s (λ a m x. PartIs guarded sc place at (guardWay d w s at) (applied a) m x) NoStmt (partAt 11 d w (λ i. stmtAt d w s i) s at)
-        (readGuard sc inner at (drop at s))
+        → Same s (λ a m x. PartIs guarded sc place at (guardWay d w s at) (applied a) m x) NoStmt
+        (partAt Guard d w (λ i. stmtAt d w s i) s at) (readGuard sc inner at (drop at s))
     unfolding partAt headAt guardAt readGuard
     guard-part at l =
         rw ee (
         onwards
         (λ x. behindHead d w s
-        (withItem NoHead x (λ g n. withHead NoHead (wholeAt 11 d (w .variables) s n) (λ m a. cond (eqb g 0) (takenAt w s m a) (Head m a)))))
+        (withItem NoHead x (λ g n. withHead NoHead (wholeAt ForGuard d (w .variables) s n) (λ m a.
+        byGuard (guardKind g) (takenAt w s m a) (Before m a)))))
         _ (one-same guardKinds 1 s at b refl)
-        (λ kind n y k q. rw (k .found) (
-        guard-then at l (rw (q ∙ k .found) refl)
-        (each (λ v kind. betweenAt 0 1 s at ≡ Found v n → Same s (GuardIs sc place at (guardUses d w s at)) NoHead
-        (withHead NoHead (wholeAt 11 d (w .variables) s n) (λ m a. cond (eqb v 0) (takenAt w s m a) (Head m a)))
-        (guardOf sc (readExpr d sc) kind n (drop n s))) guardKinds (k .value)
-        (input-head at n (k .there .ahead), (skip-head at n (k .there .ahead), tt)) (k .listed) (q ∙ k .found))))
+        (λ kind n y k q.
+        let e = guard-kind-is (k .value) (k .listed) in
+        rw (k .found, e) (guard-then at l (rw (q ∙ k .found, e) refl) (of-kind kind (k .value) n (k .there .ahead) (q ∙ k .found) e)))
         (λ j p. refl))
+      where
+        of-kind : (kind : GuardKind) (v n : ℕ) → at < n → betweenAt 0 1 s at ≡ Found v n → guardKind v ≡ kind
+            → Same s (GuardIs sc place at (guardUses d w s at)) NoHead
+            (withHead NoHead (wholeAt ForGuard d (w .variables) s n) (λ m a. byGuard kind (takenAt w s m a) (Before m a)))
+            (guardOf sc (readExpr d sc) kind n (drop n s))
+        of-kind InputGuard v n = input-head at v n
+        of-kind SkipGuard v n = skip-head at v n
 
 pub alternative-same : (s : List ℕ) (d : ℕ) (w : Names) (sc : Scope) (place at : ℕ) (inner : Inner) → Bytes s → place ≤ at
     → Scoped w sc place
     → Numbers sc → Fits w d → InnerIs s d → inner .expr ≡ readExpr d sc → inner .stmt ≡ readStmt d
-    → Same s (RestIs sc place at (countedWay 11 d w (λ i. stmtAt d w s i) (innerUses d w s) s at)) NoStmt
-    (withItem NoStmt (betweenAt 0 32 s at) (λ c m. gathered 11 (mostFrom c 11 d w (λ i. stmtAt d w s i) s (no-part m))))
-    (stmtOf place sc inner isAlt at (drop at s))
+    → Same s (RestIs sc place at (countedWay Guard d w (λ i. stmtAt d w s i) (innerUses d w s) s at)) NoStmt
+    (withItem NoStmt (betweenAt 0 32 s at) (λ c m. gathered Guard (mostFrom c Guard d w (λ i. stmtAt d w s i) s (no-part m))))
+    (stmtOf place sc inner Alt at (drop at s))
 unfolding stmtOf need processes firstClash usage
 alternative-same s d w sc place at inner b l h o f i ee es =
-    counted-same guarded applied (readGuard sc inner) (λ gs. M.ALT gs) s d w sc (λ i. stmtAt d w s i) (innerUses d w s) 11 place at b l
+    counted-same guarded applied (readGuard sc inner) (λ gs. M.ALT gs) s d w sc (λ i. stmtAt d w s i) (innerUses d w s) Guard place at b l
     (record { counts = λ gs t a c x. rw (a, c, x) refl; same-usage = λ gs. refl }) (guard-part s d w sc place b h o inner f i ee es)

@@ -12,7 +12,10 @@ use borrow.Author.Tests.{le-leb}
 use Rattle.model.specs.Syntax.{Site, declared}
 use Rattle.model.specs.Syntax as M
 use Rattle.model.specs.Reader.{onward, pure, Scope, names, withVariables, withChannels, readCount, canInput, canOutput, readStmt, Inner}
-use Rattle.model.specs.Reader.{stmtOf, isVar, isChan}
+use Rattle.model.specs.Reader.{stmtOf}
+use Rattle.model.specs.declared.kinds.StmtKind.the-variants.{Var, Chan}
+use Rattle.numbers.specs.declared.kinds.Declared.{Declared}
+use Rattle.numbers.specs.declared.kinds.Declared.the-variants.{Variables, Channels}
 use Rattle.model.specs.Usage.{Usage, usage, firstClash}
 use Rattle.model.specs.Counts.{processes, need}
 use Rattle.table.specs.Stmts.{Fits, stmtAt, stmtUses, declaring, moreNames}
@@ -22,11 +25,11 @@ use Rattle.table.specs.declared.stmt.Names.{Names}
 use Rattle.table.specs.declared.stmt.StmtRead.the-variants.{Stmt, Refused as NoStmt}
 use Rattle.table.specs.Scopes.{Scoped}
 use Rattle.table.proofs.SameItems.{Bytes, Same, gives, onwards, count-same}
-use Rattle.table.proofs.Marks.{Field, changed, used-there, inputs-of, outputs-of, names-of, Marked, Clean, InScope}
-use Rattle.table.proofs.Marks.{Adds, adds-variables, adds-channels, clean-added, left}
+use Rattle.table.proofs.Marks.{Field, changed, used-there, inputs-of, outputs-of, names-of, Marked, Clean, InScope, Adds}
+use Rattle.table.proofs.Marks.{adds-variables, adds-channels, clean-added, left}
 use Rattle.numbers.specs.Items.{betweenAt, withItem}
-use Rattle.table.proofs.SameSimple.{partOf, DeclaredIn, Within, RestIs, StmtIs, own-more, below-more}
-use Rattle.table.proofs.SameSimple.{below-later, lookup-append, numbered-at, length-numbered, declared-wider}
+use Rattle.table.proofs.SameSimple.{partOf, DeclaredIn, Within, RestIs, StmtIs, own-more, below-more, below-later, lookup-append}
+use Rattle.table.proofs.SameSimple.{numbered-at, length-numbered, declared-wider}
 
 -- the statements inside, one level down
 abbrev pub InnerIs : List ℕ → ℕ → Type 0
@@ -34,12 +37,12 @@ InnerIs s d = (w : Names) (sc : Scope) (i : ℕ) → Scoped w sc i → Fits w d 
     (readStmt d sc i (drop i s))
 
 -- the sets behind a declaration: its own names leave them
-abbrev pub declaredWay : (kind d : ℕ) → Names → List ℕ → (at : ℕ) → List ℕ → List ℕ
-declaredWay kind d w s at l =
-    withItem (kept l) (betweenAt 1 32 s at) (λ c m. leaveAt kind (w .variables) (w .channels) (stmtUses d (moreNames kind c w) s m l))
+abbrev pub declaredWay : Declared → (d : ℕ) → Names → List ℕ → (at : ℕ) → List ℕ → List ℕ
+declaredWay what d w s at l =
+    withItem (kept l) (betweenAt 1 32 s at) (λ c m. leaveAt what (w .variables) (w .channels) (stmtUses d (moreNames what c w) s m l))
 
 variables-in : (w : Names) (sc : Scope) (place c m : ℕ) → Scoped w sc place → place < m
-    → Scoped (moreNames 5 c w) (withVariables place c sc) m
+    → Scoped (moreNames Variables c w) (withVariables place c sc) m
 variables-in w sc place c m h l =
     record {
       variables = rw (h .variables) (sym (length-append (sc .variables) (names place c) ∙ rw (length-numbered (declared place) c) refl));
@@ -70,7 +73,7 @@ channel-ways w sc place c i a h e =
     (lookup-append (sc .channels) (names place c) i a e)
 
 channels-in : (w : Names) (sc : Scope) (place c m : ℕ) → Scoped w sc place → place < m
-    → Scoped (moreNames 6 c w) (withChannels place c sc) m
+    → Scoped (moreNames Channels c w) (withChannels place c sc) m
 channels-in w sc place c m h l =
     record {
       variables = h .variables;
@@ -94,34 +97,34 @@ within-new names1 place c k n x l e =
     (lookup-append names1 (names place c) k x e)
 
 -- what a declaration asks of the scope that it makes
-record Declares (s : List ℕ) (d : ℕ) (w : Names) (sc : Scope) (place kind : ℕ) (more : ℕ → Scope) (of : ℕ → M.Stmt → M.Stmt) : Type 0 where
-  scoped : (c m : ℕ) → place < m → Scoped (moreNames kind c w) (more c) m
-  fits : (c : ℕ) → c ≤ 32 → Fits (moreNames kind c w) d
+record Declares (s : List ℕ) (d : ℕ) (w : Names) (sc : Scope) (place : ℕ) (what : Declared) (more : ℕ → Scope) (of : ℕ → M.Stmt → M.Stmt) : Type 0 where
+  scoped : (c m : ℕ) → place < m → Scoped (moreNames what c w) (more c) m
+  fits : (c : ℕ) → c ≤ 32 → Fits (moreNames what c w) d
   clean : (c : ℕ) (l : List ℕ) → c ≤ 32 → Clean sc l → Clean (more c) l
   leaves : (c : ℕ) (l m : List ℕ) (u : Usage) → c ≤ 32 → Clean sc l → Marked (more c) l u m
-      → Marked sc l u (leaveAt kind (w .variables) (w .channels) m)
+      → Marked sc l u (leaveAt what (w .variables) (w .channels) m)
   within : (c m n : ℕ) (u : Usage) → place < m → m ≤ n → Within (more c) m n u → Within sc place n u
   counts : (c n : ℕ) (st : M.Stmt) → declaring c (Stmt (partOf st n)) ≡ Stmt (partOf (of c st) n)
   same-usage : (c : ℕ) (st : M.Stmt) → usage (of c st) ≡ usage st
 
-declare-same : (s : List ℕ) (d : ℕ) (w : Names) (sc : Scope) (place kind : ℕ) (more : ℕ → Scope) (of : ℕ → M.Stmt → M.Stmt) (at : ℕ)
+declare-same : (s : List ℕ) (d : ℕ) (w : Names) (sc : Scope) (place : ℕ) (what : Declared) (more : ℕ → Scope) (of : ℕ → M.Stmt → M.Stmt) (at : ℕ)
     → Bytes s
-    → place < at → InnerIs s d → Declares s d w sc place kind more of
-    → Same s (RestIs sc place at (declaredWay kind d w s at)) NoStmt
-    (withItem NoStmt (betweenAt 1 32 s at) (λ c m. declaring c (stmtAt d (moreNames kind c w) s m)))
+    → place < at → InnerIs s d → Declares s d w sc place what more of
+    → Same s (RestIs sc place at (declaredWay what d w s at)) NoStmt
+    (withItem NoStmt (betweenAt 1 32 s at) (λ c m. declaring c (stmtAt d (moreNames what c w) s m)))
     (onward (readCount 1 32 at (drop at s)) (λ c. λ i bytes. onward (readStmt d (more c) i bytes) (λ st. pure (of c st))))
-declare-same s d w sc place kind more of at b l inner h =
-    onwards (λ x. withItem NoStmt x (λ c m. declaring c (stmtAt d (moreNames kind c w) s m))) _ (count-same 1 32 s at b)
+declare-same s d w sc place what more of at b l inner h =
+    onwards (λ x. withItem NoStmt x (λ c m. declaring c (stmtAt d (moreNames what c w) s m))) _ (count-same 1 32 s at b)
     (λ c m y k q. rw (k .found) (
     onwards (λ x. declaring c x) (λ st. pure (of c st))
-    (inner (moreNames kind c w) (more c) m (h .scoped c m (omega (arith, l, k .there .ahead))) (h .fits c (k .most)))
+    (inner (moreNames what c w) (more c) m (h .scoped c m (omega (arith, l, k .there .ahead))) (h .fits c (k .most)))
     (λ st n z r p. rw (r .is, h .counts c n st) (gives (of c st) n (Stmt (partOf (of c st) n))
     (record {
       is = refl;
       ahead = omega (arith, k .there .ahead, r .ahead);
       uses = λ j z.
           rw (q ∙ k .found, h .same-usage c st)
-          (h .leaves c j (stmtUses d (moreNames kind c w) s m j) (usage st) (k .most) z (r .uses j (h .clean c j (k .most) z)));
+          (h .leaves c j (stmtUses d (moreNames what c w) s m j) (usage st) (k .most) z (r .uses j (h .clean c j (k .most) z)));
       within = rw (h .same-usage c st)
           (h .within c m n (usage st) (omega (arith, l, k .there .ahead)) (omega (arith, r .ahead)) (r .within));
     })))
@@ -154,13 +157,13 @@ within-channels sc place c m n u l k w = record { each-in = λ f x e. one f x (w
 
 pub variables-same : (s : List ℕ) (d : ℕ) (w : Names) (sc : Scope) (place at : ℕ) (inner : Inner) → Bytes s → place < at → Scoped w sc place
     → Fits w (suc d) → InnerIs s d → inner .stmt ≡ readStmt d
-    → Same s (RestIs sc place at (declaredWay 5 d w s at)) NoStmt
-    (withItem NoStmt (betweenAt 1 32 s at) (λ c m. declaring c (stmtAt d (moreNames 5 c w) s m)))
-    (stmtOf place sc inner isVar at (drop at s))
+    → Same s (RestIs sc place at (declaredWay Variables d w s at)) NoStmt
+    (withItem NoStmt (betweenAt 1 32 s at) (λ c m. declaring c (stmtAt d (moreNames Variables c w) s m)))
+    (stmtOf place sc inner Var at (drop at s))
 unfolding stmtOf leaveAt need processes firstClash usage
 variables-same s d w sc place at inner b l h f i e =
     rw e (
-    declare-same s d w sc place 5 (λ c. withVariables place c sc) (λ c st. M.VAR place c st) at b l i
+    declare-same s d w sc place Variables (λ c. withVariables place c sc) (λ c st. M.VAR place c st) at b l i
     (record {
       scoped = λ c m k. variables-in w sc place c m h k;
       fits = λ c k. (omega (arith, f .0), omega (arith, f .1, k), omega (arith, f .2), f .3, f .4);
@@ -176,13 +179,13 @@ variables-same s d w sc place at inner b l h f i e =
 
 pub channels-same : (s : List ℕ) (d : ℕ) (w : Names) (sc : Scope) (place at : ℕ) (inner : Inner) → Bytes s → place < at → Scoped w sc place
     → Fits w (suc d) → InnerIs s d → inner .stmt ≡ readStmt d
-    → Same s (RestIs sc place at (declaredWay 6 d w s at)) NoStmt
-    (withItem NoStmt (betweenAt 1 32 s at) (λ c m. declaring c (stmtAt d (moreNames 6 c w) s m)))
-    (stmtOf place sc inner isChan at (drop at s))
+    → Same s (RestIs sc place at (declaredWay Channels d w s at)) NoStmt
+    (withItem NoStmt (betweenAt 1 32 s at) (λ c m. declaring c (stmtAt d (moreNames Channels c w) s m)))
+    (stmtOf place sc inner Chan at (drop at s))
 unfolding stmtOf leaveAt need processes firstClash usage
 channels-same s d w sc place at inner b l h f i e =
     rw e (
-    declare-same s d w sc place 6 (λ c. withChannels place c sc) (λ c st. M.CHAN place c st) at b l i
+    declare-same s d w sc place Channels (λ c. withChannels place c sc) (λ c st. M.CHAN place c st) at b l i
     (record {
       scoped = λ c m k. channels-in w sc place c m h k;
       fits = λ c k. (omega (arith, f .0), omega (arith, f .1), omega (arith, f .2, k), f .3, f .4);

@@ -2,27 +2,28 @@
 use Prim.Native.Nat.{ℕ, zero, suc, _≤_, _<_}
 use native.Mathlib.Omega.{arith}
 use mathlib.Core.Path.{_≡_, refl, _∙_}
-use mathlib.Core.Bool.{true, cond}
+use mathlib.Core.Bool.{true}
 use mathlib.Core.List.{List}
 use lib.ListN.{length, drop}
-use lib.Dec.{ltb, eqb}
 use borrow.Author.Tests.{le-leb, le-ltb}
 use Rattle.model.specs.Syntax.{Site, constant, variable, NOT, binary}
 use Rattle.model.specs.Syntax as M
-use Rattle.model.specs.Reader.{Parsed, Reader, pure, Scope, readName, anySite, isConstant, isVariable, isNot, isBinary, exprKinds}
-use Rattle.model.specs.Reader.{operators, exprOf, readExpr}
+use Rattle.model.specs.Reader.{Parsed, Reader, pure, Scope, readName, anySite, exprKinds, operators, exprOf, readExpr}
+use Rattle.model.specs.declared.kinds.ExprKind.{ExprKind}
+use Rattle.model.specs.declared.kinds.ExprKind.the-variants.{Constant, Variable, Not, Binary}
+use Rattle.numbers.specs.Kinds.{exprKind, byExpr}
 use Rattle.model.specs.Usage.{reading, isIn, reads}
 use Rattle.model.proofs.Cases.{never}
 use Rattle.model.specs.Counts.{registers, temporaries}
 use Rattle.numbers.specs.Items.{betweenAt, nameAt, withItem}
-use Rattle.table.specs.Exprs.{withExpr, single, leafAt, joined, sides, exprAt, kept, leafUses, bothUse, exprUses}
+use Rattle.table.specs.Exprs.{withExpr, single, constantAt, usedAt, joined, operated, exprAt, usedUses, operatedUse, exprUses}
 use Rattle.numbers.specs.declared.Item.the-variants.{Item as Found, Refused}
 use Rattle.table.specs.declared.expr.Term.{Term}
 use Rattle.table.specs.declared.expr.ExprRead.{ExprRead}
 use Rattle.table.specs.declared.expr.ExprRead.the-variants.{Expr, Refused as NoExpr}
 use Rattle.table.specs.Scopes.{Fresh}
 use Rattle.table.proofs.SameItems.{Bytes, NumberAt, Same, gives, turns, onwards, Listed, one-same, name-same, deep-same, word-same}
-use Rattle.table.proofs.SameItems.{each}
+use Rattle.table.proofs.SameItems.{expr-kind-is}
 use Rattle.table.proofs.Marks.{Uses, used-there, use-nothing, use-both, mark-one, InScope, or-cases, in-one, isIn-append}
 
 -- what is counted of an expression that ends at a place
@@ -51,20 +52,20 @@ pub variable-same : (vs : List Site) (s : List ℕ) (at : ℕ) → Bytes s
 variable-same vs s at b =
     name-same anySite vs 0 0 s at b (λ i a e. rw (le-ltb i 0 (omega arith), le-leb 0 i (omega arith)) refl)
 
-constant-same : (names : Scope) (inner : Reader M.Expr) (vs : ℕ) (s : List ℕ) (at : ℕ) → Bytes s
-    → Same s (ExprIs names at (λ l. leafUses 0 vs s at l)) NoExpr (leafAt 0 vs s at) (exprOf names inner isConstant at (drop at s))
-unfolding leafAt leafUses exprOf registers temporaries reads isIn
-constant-same names inner vs s at b =
+constant-same : (names : Scope) (inner : Reader M.Expr) (s : List ℕ) (at : ℕ) → Bytes s
+    → Same s (ExprIs names at (λ l. l)) NoExpr (constantAt s at) (exprOf names inner Constant at (drop at s))
+unfolding exprOf registers temporaries reads isIn
+constant-same names inner s at b =
     onwards (λ i. withItem NoExpr i (λ v n. single n)) (λ v. pure (constant v)) (word-same s at b)
     (λ v n y h e. rw (h .found) (gives (constant v) n _
     (record { is = refl; ahead = h .there .ahead; uses = use-nothing names; within = λ x i. never (cc) })))
     (λ j p. refl)
 
-leaf-same : (names : Scope) (inner : Reader M.Expr) (s : List ℕ) (at : ℕ) → Bytes s → Numbers names
-    → Same s (ExprIs names at (λ l. leafUses 1 (length (names .variables)) s at l)) NoExpr (leafAt 1 (length (names .variables)) s at)
-    (exprOf names inner isVariable at (drop at s))
-unfolding leafAt leafUses exprOf registers temporaries reads
-leaf-same names inner s at b o =
+used-same : (names : Scope) (inner : Reader M.Expr) (s : List ℕ) (at : ℕ) → Bytes s → Numbers names
+    → Same s (ExprIs names at (λ l. usedUses (length (names .variables)) s at l)) NoExpr (usedAt (length (names .variables)) s at)
+    (exprOf names inner Variable at (drop at s))
+unfolding usedAt usedUses exprOf registers temporaries reads
+used-same names inner s at b o =
     onwards (λ i. withItem NoExpr i (λ v n. single n)) (λ x. pure (variable x)) (variable-same (names .variables) s at b)
     (λ x n y h e. rw (h .found) (gives (variable x) n _
     (record {
@@ -80,23 +81,19 @@ InnerSame s names inner uses reader = (i : ℕ) → Same s (ExprIs names i (uses
 
 not-same : (names : Scope) (inner : ℕ → ExprRead) (uses : ℕ → List ℕ → List ℕ) (reader : Reader M.Expr) (s : List ℕ) (at : ℕ)
     → InnerSame s names inner uses reader
-    → Same s (ExprIs names at (uses at)) NoExpr (inner at) (exprOf names reader isNot at (drop at s))
+    → Same s (ExprIs names at (uses at)) NoExpr (inner at) (exprOf names reader Not at (drop at s))
 unfolding exprOf registers temporaries reads
 not-same names inner uses reader s at h =
     onwards (λ y. y) (λ e. pure (NOT e)) (h at)
     (λ e n y k q. gives (NOT e) n y (record { is = k .is; ahead = k .ahead; uses = k .uses; within = k .within })) (λ j p. refl)
 
--- after an operator's number
-abbrev operatorUses : (ℕ → ExprRead) → (ℕ → List ℕ → List ℕ) → List ℕ → (at : ℕ) → List ℕ → List ℕ
-operatorUses inner uses s at l = withItem (kept l) (betweenAt 0 7 s at) (λ o m. bothUse inner uses m l)
-
 binary-same : (names : Scope) (inner : ℕ → ExprRead) (uses : ℕ → List ℕ → List ℕ) (reader : Reader M.Expr) (s : List ℕ) (at : ℕ) → Bytes s
     → InnerSame s names inner uses reader
-    → Same s (ExprIs names at (operatorUses inner uses s at)) NoExpr (withItem NoExpr (betweenAt 0 7 s at) (λ o m. sides inner m))
-    (exprOf names reader isBinary at (drop at s))
+    → Same s (ExprIs names at (operatedUse inner uses s at)) NoExpr (operated inner s at) (exprOf names reader Binary at (drop at s))
 unfolding exprOf registers temporaries reads
 binary-same names inner uses reader s at b h =
-    onwards (λ i. withItem NoExpr i (λ o m. sides inner m)) _ (one-same operators 7 s at b refl)
+    onwards (λ i. withItem NoExpr i (λ o m. withExpr NoExpr (inner m) (λ l. withExpr NoExpr (inner (l .next)) (λ r. joined l r)))) _
+    (one-same operators 7 s at b refl)
     (λ op n y k q. rw (k .found) (
     onwards (λ x. withExpr NoExpr x (λ l. withExpr NoExpr (inner (l .next)) (λ r. joined l r))) _ (h n)
     (λ l m z kl ql. rw (kl .is) (
@@ -122,36 +119,33 @@ expr-same zero names s at b o =
 expr-same (suc d) names s at b o =
     let inner : InnerSame s names (λ i. exprAt d (length (names .variables)) s i) (exprWay d names s) (readExpr d names) =
     λ i. expr-same d names s i b o in
-    onwards (λ x. withItem NoExpr x (λ k n. kinds k n)) (λ k. exprOf names (readExpr d names) k) (one-same exprKinds 3 s at b refl)
-    (λ kind n y k q. rw (k .found) (with-kind (k .value) n _ _ (q ∙ k .found) (k .there) (
-    each (λ v kind. Same s (ExprIs names n (uses-of v n)) NoExpr (kinds v n) (exprOf names (readExpr d names) kind n (drop n s)))
-    exprKinds (k .value) (
-      constant-same names (readExpr d names) (length (names .variables)) s n b,
-      (
-        leaf-same names (readExpr d names) s n b o,
-        (
-          not-same names (λ i. exprAt d (length (names .variables)) s i) (exprWay d names s) (readExpr d names) s n inner,
-          (binary-same names (λ i. exprAt d (length (names .variables)) s i) (exprWay d names s) (readExpr d names) s n b inner, tt),
-        ),
-      ),
-    ) (k .listed))))
+    onwards (λ x. withItem NoExpr x (λ k n. kinds (exprKind k) n)) (λ k. exprOf names (readExpr d names) k)
+    (one-same exprKinds 3 s at b refl)
+    (λ kind n y k q. let e = expr-kind-is (k .value) (k .listed) in
+    rw (k .found, e) (with-kind (k .value) kind n _ _ (q ∙ k .found) e (k .there) (of-kind inner n kind)))
     (λ j p. refl)
   where
-    kinds : ℕ → ℕ → ExprRead
+    kinds : ExprKind → ℕ → ExprRead
     kinds k n =
-        cond (ltb k 2) (leafAt k (length (names .variables)) s n)
-        (cond (eqb k 2) (exprAt d (length (names .variables)) s n)
-        (withItem NoExpr (betweenAt 0 7 s n) (λ o m. sides (λ i. exprAt d (length (names .variables)) s i) m)))
+        byExpr k (constantAt s n) (usedAt (length (names .variables)) s n) (exprAt d (length (names .variables)) s n)
+        (operated (λ i. exprAt d (length (names .variables)) s i) s n)
 
-    uses-of : ℕ → ℕ → List ℕ → List ℕ
+    uses-of : ExprKind → ℕ → List ℕ → List ℕ
     uses-of k n l =
-        cond (ltb k 2) (leafUses k (length (names .variables)) s n l)
-        (cond (eqb k 2) (exprUses d (length (names .variables)) s n l)
-        (operatorUses (λ i. exprAt d (length (names .variables)) s i) (λ i j. exprUses d (length (names .variables)) s i j) s n l))
+        byExpr k l (usedUses (length (names .variables)) s n l) (exprWay d names s n l)
+        (operatedUse (λ i. exprAt d (length (names .variables)) s i) (exprWay d names s) s n l)
 
-    with-kind : (k n : ℕ) (x : ExprRead) (r : Parsed M.Expr) → betweenAt 0 3 s at ≡ Found k n → NumberAt s at k n
-        → Same s (ExprIs names n (uses-of k n)) NoExpr x r
+    of-kind : InnerSame s names (λ i. exprAt d (length (names .variables)) s i) (exprWay d names s) (readExpr d names) → (n : ℕ)
+        → (k : ExprKind) → Same s (ExprIs names n (uses-of k n)) NoExpr (kinds k n) (exprOf names (readExpr d names) k n (drop n s))
+    of-kind inner n Constant = constant-same names (readExpr d names) s n b
+    of-kind inner n Variable = used-same names (readExpr d names) s n b o
+    of-kind inner n Not = not-same names (λ i. exprAt d (length (names .variables)) s i) (exprWay d names s) (readExpr d names) s n inner
+    of-kind inner n Binary =
+        binary-same names (λ i. exprAt d (length (names .variables)) s i) (exprWay d names s) (readExpr d names) s n b inner
+
+    with-kind : (v : ℕ) (k : ExprKind) (n : ℕ) (x : ExprRead) (r : Parsed M.Expr) → betweenAt 0 3 s at ≡ Found v n → exprKind v ≡ k
+        → NumberAt s at v n → Same s (ExprIs names n (uses-of k n)) NoExpr x r
         → Same s (ExprIs names at (exprWay (suc d) names s at)) NoExpr x r
-    with-kind k n x r f t (gives e m y h) =
-        gives e m y (record { is = h .is; ahead = omega (arith, t .ahead, h .ahead); uses = rw f (h .uses); within = h .within })
-    with-kind k n x r f t (turns j p) = turns j p
+    with-kind v k n x r f g t (gives e m y h) =
+        gives e m y (record { is = h .is; ahead = omega (arith, t .ahead, h .ahead); uses = rw (f, g) (h .uses); within = h .within })
+    with-kind v k n x r f g t (turns j p) = turns j p

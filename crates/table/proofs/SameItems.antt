@@ -17,6 +17,16 @@ use Rattle.model.specs.Number as N
 use Rattle.model.specs.Number.{groups, number}
 use Rattle.model.specs.Syntax.{Site}
 use Rattle.model.specs.Reader.{Parsed, parsed, fails, Reader, onward, pure, refuse, readNumber, oneOf, readCount, readName, tooDeep}
+use Rattle.model.specs.Reader.{stmtKinds, exprKinds, guardKinds, operators}
+use Rattle.model.specs.declared.kinds.StmtKind.{StmtKind}
+use Rattle.model.specs.declared.kinds.StmtKind.the-variants.{Skip}
+use Rattle.model.specs.declared.kinds.ExprKind.{ExprKind}
+use Rattle.model.specs.declared.kinds.ExprKind.the-variants.{Binary}
+use Rattle.model.specs.declared.kinds.GuardKind.{GuardKind}
+use Rattle.model.specs.declared.kinds.GuardKind.the-variants.{Skip as SkipGuard}
+use Rattle.model.specs.declared.kinds.Operator.{Operator}
+use Rattle.model.specs.declared.kinds.Operator.the-variants.{Plus as PLUS}
+use Rattle.numbers.specs.Kinds.{stmtKind, exprKind, guardKind, operatorOf}
 use Rattle.model.proofs.Tables.Readers.{number-sized}
 use Rattle.model.proofs.Quiet.Setting.{getElem-inside as inside}
 use Rattle.model.proofs.Cases.{by-bool, by-option, never}
@@ -294,21 +304,28 @@ word-same s at b =
     (gives (n .value) (at + n .size) _
     (record { found = refl; least = omega arith; most = omega (arith, small); there = number-at s at n b e })))
 
--- each of the things listed, with its number
-abbrev pub Each : {A : Type 0} → (ℕ → A → Type 0) → ℕ → List A → Type 0
-Each P i [] = Unit {0}
-Each P i (a ∷ l) = P i a × Each P (suc i) l
+-- what a list has at a place, where a thing is there
+listed-at : {A : Type 0} {a : A} (d : A) (l : List A) (v : ℕ) → getElem? l v ≡ some a → getD l v d ≡ a
+listed-at d [] v e = never (cc)
+listed-at {a = a} d (x ∷ l) zero e = Option·some-injective x a e
+listed-at d (x ∷ l) (suc v) e = listed-at d l v e
 
-each-from : {A : Type 0} {a : A} (P : ℕ → A → Type 0) (i : ℕ) (l : List A) (v : ℕ) → Each P i l → getElem? l v ≡ some a → P (i + v) a
-each-from P i [] v h e = never (cc)
-each-from {a = a} P i (x ∷ l) zero h e =
-    let same : x ≡ a = Option·some-injective x a e in
-    let here : i + 0 ≡ i = omega arith in
-    rw (here, ← same) (h .0)
-each-from P i (x ∷ l) (suc v) h e = let here : i + suc v ≡ suc i + v = omega arith in rw here (each-from P (suc i) l v (h .1) e)
+-- a number that stands for a kind or an operator
+pub stmt-kind-is : {k : StmtKind} (v : ℕ) → getElem? stmtKinds v ≡ some k → stmtKind v ≡ k
+unfolding stmtKind
+stmt-kind-is v e = listed-at Skip stmtKinds v e
 
-pub each : {A : Type 0} {a : A} (P : ℕ → A → Type 0) (l : List A) (v : ℕ) → Each P 0 l → getElem? l v ≡ some a → P v a
-each P l v h e = let here : 0 + v ≡ v = omega arith in rw here at (each-from P 0 l v h e)
+pub expr-kind-is : {k : ExprKind} (v : ℕ) → getElem? exprKinds v ≡ some k → exprKind v ≡ k
+unfolding exprKind
+expr-kind-is v e = listed-at Binary exprKinds v e
+
+pub guard-kind-is : {k : GuardKind} (v : ℕ) → getElem? guardKinds v ≡ some k → guardKind v ≡ k
+unfolding guardKind
+guard-kind-is v e = listed-at SkipGuard guardKinds v e
+
+pub operator-is : {op : Operator} (v : ℕ) → getElem? operators v ≡ some op → operatorOf v ≡ op
+unfolding operatorOf
+operator-is v e = listed-at PLUS operators v e
 
 -- the same part, with another answer made of it
 pub mapped : {A X Y : Type 0} {s : List ℕ} {R : A → ℕ → X → Type 0} {g : ℕ → ℕ → X} {Q : A → ℕ → Y → Type 0} {h : ℕ → ℕ → Y}

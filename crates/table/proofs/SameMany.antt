@@ -1,4 +1,4 @@
--- The parts of a SEQ, an IF, a WHILE and an ALT, one after the other.
+-- The parts of a statement, one after the other.
 use Prim.Native.Nat.{ℕ, zero, suc, _≤_, max}
 use native.Mathlib.Omega.{arith}
 use mathlib.Core.Path.{_≡_, refl, sym, _∙_}
@@ -9,6 +9,7 @@ use Rattle.model.specs.Reader.{Reader, pure, Scope, readMany}
 use Rattle.model.specs.Usage.{Usage, nothing, _⊕_, orElse}
 use Rattle.model.specs.Counts.{processes}
 use Rattle.table.specs.Stmts.{firstOf, added, partAt, mostFrom, partUses, mostUse, withStmt}
+use Rattle.numbers.specs.declared.kinds.Head.{Head}
 use Rattle.table.specs.declared.stmt.Names.{Names}
 use Rattle.table.specs.declared.stmt.First.{First}
 use Rattle.table.specs.declared.stmt.First.the-variants.{Nowhere, At}
@@ -76,14 +77,14 @@ pub record ManyIs {L : Type 0} (K : Counting L) (sc : Scope) (place : ℕ) (way 
   pub within : Within sc place n (K .usages l)
 
 pub many-same : {A L : Type 0} (K : Counting L) (more : A → L → L) (part : Reader A) (s : List ℕ) (d : ℕ) (w : Names) (sc : Scope)
-    (inner : ℕ → StmtRead) (uses : ℕ → List ℕ → List ℕ) (i kind place : ℕ) (t : Sum) → place ≤ t .next
+    (inner : ℕ → StmtRead) (uses : ℕ → List ℕ → List ℕ) (i : ℕ) (head : Head) (place : ℕ) (t : Sum) → place ≤ t .next
     → ((at : ℕ) → place ≤ at
-    → Same s (λ a n x. PartIs K sc place at (λ j. partUses kind d w uses s at j) (more a) n x) NoStmt (partAt kind d w inner s at)
+    → Same s (λ a n x. PartIs K sc place at (λ j. partUses head d w uses s at j) (more a) n x) NoStmt (partAt head d w inner s at)
     (part at (drop at s)))
-    → Same s (ManyIs K sc place (λ j. mostUse i kind d w inner uses s (t .next) j) t) NoSum (mostFrom i kind d w inner s t)
+    → Same s (ManyIs K sc place (λ j. mostUse i head d w inner uses s (t .next) j) t) NoSum (mostFrom i head d w inner s t)
     (readMany (K .empty) more part i (t .next) (drop (t .next) s))
 unfolding mostFrom mostUse readMany
-many-same K more part s d w sc inner uses zero kind place t l parts =
+many-same K more part s d w sc inner uses zero head place t l parts =
     gives (K .empty) (t .next) (Total t)
     (record {
       total = t;
@@ -96,13 +97,13 @@ many-same K more part s d w sc inner uses zero kind place t l parts =
       uses = rw (K .no-usages) (use-nothing sc);
       within = rw (K .no-usages) (within-nothing sc place (t .next));
     })
-many-same K more part s d w sc inner uses (suc i) kind place t l parts =
-    onwards (λ x. withStmt NoSum x (λ p. mostFrom i kind d w inner s (added t p))) _ (parts (t .next) l)
+many-same K more part s d w sc inner uses (suc i) head place t l parts =
+    onwards (λ x. withStmt NoSum x (λ p. mostFrom i head d w inner s (added t p))) _ (parts (t .next) l)
     (λ a n y k q.
     let p : Part = record { next = n; words = k .words; processes = k .processes; clash = k .clash } in
     rw (k .is) (
     onwards (λ x. x) (λ l. pure (more a l))
-    (many-same K more part s d w sc inner uses i kind place (added t p) (omega (arith, l, k .ahead)) parts)
+    (many-same K more part s d w sc inner uses i head place (added t p) (omega (arith, l, k .ahead)) parts)
     (λ r m z h e. gives (more a r) m z
     (record {
       total = h .total;
@@ -113,7 +114,7 @@ many-same K more part s d w sc inner uses (suc i) kind place t l parts =
       live = h .live ∙ rw (k .lives r) (omega arith);
       clash = h .clash ∙ rw (k .clashes r) (firstOf-assoc (t .clash) (k .clash) (first (K .clashes r)));
       uses = rw (q ∙ k .is, k .usages r)
-          (use-both {f = partUses kind d w uses s (t .next)} {g = mostUse i kind d w inner uses s n} (k .uses) (h .uses));
+          (use-both {f = partUses head d w uses s (t .next)} {g = mostUse i head d w inner uses s n} (k .uses) (h .uses));
       within = rw (k .usages r) (within-both (wider (omega arith) (omega (arith, h .ahead)) (k .within)) (h .within));
     }))
     (λ j p. refl)))

@@ -9,13 +9,14 @@ use lib.ListN.{drop}
 use Rattle.model.proofs.Cases.{by-bool}
 use Rattle.model.specs.Syntax.{Site, inputOf, outputOf, declared, Stmts, noStmt, stmt}
 use Rattle.model.specs.Syntax as M
-use Rattle.model.specs.Reader.{pure, Scope, Inner, stmtOf, readMany, readStmt, isPar}
+use Rattle.model.specs.Reader.{pure, Scope, Inner, stmtOf, readMany, readStmt}
 use Rattle.model.specs.Usage.{Usage, nothing, _⊕_, usage, firstClash, usageAll, firstClashAll, clash, anyClash}
 use Rattle.model.specs.Counts.{processes, need, sumNeed, sumProcesses}
 use Rattle.table.specs.Uses.{noNames, clashing, merged}
 use Rattle.table.specs.Exprs.{kept}
 use Rattle.table.specs.Stmts.{firstOf, Fits, stmtAt, stmtUses, Branches, BranchesRead, all, stopped, withBranches, joinedBy, parOf}
 use Rattle.table.specs.Stmts.{branchesFrom, noBranches, withStmt}
+use Rattle.model.specs.declared.kinds.StmtKind.the-variants.{Par}
 use Rattle.table.specs.declared.stmt.Names.{Names}
 use Rattle.table.specs.declared.stmt.StmtRead.{StmtRead}
 use Rattle.table.specs.declared.stmt.StmtRead.the-variants.{Stmt, Refused as NoStmt}
@@ -130,7 +131,7 @@ pub par-same : (s : List ℕ) (d : ℕ) (w : Names) (sc : Scope) (place at : ℕ
     → Same s (RestIs sc place at (parWay d w s at)) NoStmt
     (withItem NoStmt (betweenAt 0 16 s at) (λ c m.
     withBranches NoStmt (branchesFrom c (λ i. stmtAt d w s i) (innerUses d w s) (noBranches m)) (λ b. parOf place (b .total) (b .bad))))
-    (stmtOf place sc inner isPar at (drop at s))
+    (stmtOf place sc inner Par at (drop at s))
 unfolding stmtOf need processes firstClash usage
 par-same s d w sc place at inner b l h o f i es =
     rw es (

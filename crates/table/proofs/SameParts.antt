@@ -6,17 +6,21 @@ use mathlib.Core.List.{List, append-assoc}
 use lib.ListN.{drop}
 use Rattle.model.specs.Syntax.{Stmts, noStmt, stmt, Pairs, noPair, pair}
 use Rattle.model.specs.Syntax as M
-use Rattle.model.specs.Reader.{Reader, onward, pure, Scope, readExpr, Inner, stmtOf, readMany, applied, readPair, isSeq, isIf, isWhile}
-use Rattle.model.specs.Reader.{readStmt, readCount}
+use Rattle.model.specs.Reader.{Reader, onward, pure, Scope, readExpr, Inner, stmtOf, readMany, applied, readPair, readStmt, readCount}
 use Rattle.model.specs.Usage.{Usage, _⊕_, reading, usage, firstClash, usageAll, usagePairs, firstClashAll, firstClashPairs}
 use Rattle.model.specs.Counts.{temporaries, processes, need, mostNeed, pairNeed, mostProcesses, pairProcesses}
-use Rattle.table.specs.Stmts.{asked, wholeAt, Fits, stmtAt, headAt, behind, nothing as no-part, withHead, withStmt}
-use Rattle.table.specs.Stmts.{added, partAt, mostFrom, gathered, headUses, partUses, mostUse, stmtUses}
+use Rattle.table.specs.Stmts.{asked, wholeAt, Fits, stmtAt, headAt, behind, nothing as no-part, withHead, withStmt, added, partAt}
+use Rattle.table.specs.Stmts.{mostFrom, gathered, headUses, partUses, mostUse, stmtUses}
 use Rattle.table.specs.Exprs.{kept, exprUses}
+use Rattle.model.specs.declared.kinds.StmtKind.the-variants.{Seq, If, While}
+use Rattle.numbers.specs.declared.kinds.Head.{Head}
+use Rattle.numbers.specs.declared.kinds.Head.the-variants.{Nothing, Condition}
+use Rattle.table.specs.declared.stmt.Role.{Role}
+use Rattle.table.specs.declared.stmt.Role.the-variants.{Value}
 use Rattle.table.specs.declared.stmt.Names.{Names}
 use Rattle.table.specs.declared.stmt.StmtRead.{StmtRead}
 use Rattle.table.specs.declared.stmt.StmtRead.the-variants.{Stmt, Refused as NoStmt}
-use Rattle.table.specs.declared.stmt.HeadRead.the-variants.{Head, Refused as NoHead}
+use Rattle.table.specs.declared.stmt.HeadRead.the-variants.{Head as Before, Refused as NoHead}
 use Rattle.table.specs.Scopes.{Scoped}
 use Rattle.table.proofs.SameItems.{Bytes, Same, gives, onwards, count-same, mapped}
 use Rattle.table.proofs.Marks.{Uses, use-both}
@@ -63,8 +67,8 @@ sequence =
 
 sequence-part : (s : List ℕ) (d : ℕ) (w : Names) (sc : Scope) (place : ℕ) → Scoped w sc place → Fits w d → InnerIs s d → (at : ℕ)
     → place ≤ at
-    → Same s (λ a n x. PartIs sequence sc place at (λ j. partUses 7 d w (innerUses d w s) s at j) (stmt a) n x) NoStmt
-    (partAt 7 d w (λ i. stmtAt d w s i) s at) (readStmt d sc at (drop at s))
+    → Same s (λ a n x. PartIs sequence sc place at (λ j. partUses Nothing d w (innerUses d w s) s at j) (stmt a) n x) NoStmt
+    (partAt Nothing d w (λ i. stmtAt d w s i) s at) (readStmt d sc at (drop at s))
 unfolding partAt partUses headAt headUses mostNeed mostProcesses firstClashAll usageAll
 sequence-part s d w sc place h f inner at l =
     mapped (λ x. withStmt NoStmt x (λ p. Stmt (behind 0 p))) (inner w sc at (scoped-later at l h) f)
@@ -86,31 +90,31 @@ sequence-part s d w sc place h f inner at l =
     (λ j p. refl)
 
 -- the sets behind parts with their count
-abbrev pub countedWay : (kind d : ℕ) → Names → (ℕ → StmtRead) → (ℕ → List ℕ → List ℕ) → List ℕ → (at : ℕ) → List ℕ → List ℕ
-countedWay kind d w inner uses s at l = withItem (kept l) (betweenAt 0 32 s at) (λ c m. mostUse c kind d w inner uses s m l)
+abbrev pub countedWay : Head → (d : ℕ) → Names → (ℕ → StmtRead) → (ℕ → List ℕ → List ℕ) → List ℕ → (at : ℕ) → List ℕ → List ℕ
+countedWay head d w inner uses s at l = withItem (kept l) (betweenAt 0 32 s at) (λ c m. mostUse c head d w inner uses s m l)
 
 -- what is counted over parts is what is counted of their statement
-pub record Gathers {L : Type 0} (K : Counting L) (kind : ℕ) (of : L → M.Stmt) : Type 0 where
+pub record Gathers {L : Type 0} (K : Counting L) (head : Head) (of : L → M.Stmt) : Type 0 where
   pub counts : (l : L) (t : Sum) → t .most ≡ K .needs l → t .live ≡ K .lives l
-      → t .clash ≡ first (K .clashes l) → gathered kind (Total t) ≡ Stmt (partOf (of l) (t .next))
+      → t .clash ≡ first (K .clashes l) → gathered head (Total t) ≡ Stmt (partOf (of l) (t .next))
   pub same-usage : (l : L) → usage (of l) ≡ K .usages l
 
 pub counted-same : {A L : Type 0} (K : Counting L) (more : A → L → L) (part : Reader A) (of : L
     → M.Stmt) (s : List ℕ) (d : ℕ) (w : Names) (sc : Scope)
-    (inner : ℕ → StmtRead) (uses : ℕ → List ℕ → List ℕ) (kind place at : ℕ) → Bytes s → place ≤ at → Gathers K kind of
+    (inner : ℕ → StmtRead) (uses : ℕ → List ℕ → List ℕ) (head : Head) (place at : ℕ) → Bytes s → place ≤ at → Gathers K head of
     → ((at : ℕ) → place ≤ at
-    → Same s (λ a n x. PartIs K sc place at (λ j. partUses kind d w uses s at j) (more a) n x) NoStmt (partAt kind d w inner s at)
+    → Same s (λ a n x. PartIs K sc place at (λ j. partUses head d w uses s at j) (more a) n x) NoStmt (partAt head d w inner s at)
     (part at (drop at s)))
-    → Same s (RestIs sc place at (countedWay kind d w inner uses s at)) NoStmt
-    (withItem NoStmt (betweenAt 0 32 s at) (λ c m. gathered kind (mostFrom c kind d w inner s (no-part m))))
+    → Same s (RestIs sc place at (countedWay head d w inner uses s at)) NoStmt
+    (withItem NoStmt (betweenAt 0 32 s at) (λ c m. gathered head (mostFrom c head d w inner s (no-part m))))
     (onward (readCount 0 32 at (drop at s)) (λ c. λ i bytes. onward (readMany (K .empty) more part c i bytes) (λ l. pure (of l))))
-counted-same K more part of s d w sc inner uses kind place at b l g parts =
-    onwards (λ x. withItem NoStmt x (λ c m. gathered kind (mostFrom c kind d w inner s (no-part m)))) _ (count-same 0 32 s at b)
+counted-same K more part of s d w sc inner uses head place at b l g parts =
+    onwards (λ x. withItem NoStmt x (λ c m. gathered head (mostFrom c head d w inner s (no-part m)))) _ (count-same 0 32 s at b)
     (λ c m y k q. rw (k .found) (
-    onwards (λ x. gathered kind x) (λ l. pure (of l))
-    (many-same K more part s d w sc inner uses c kind place (no-part m) (omega (arith, l, k .there .ahead)) parts)
+    onwards (λ x. gathered head x) (λ l. pure (of l))
+    (many-same K more part s d w sc inner uses c head place (no-part m) (omega (arith, l, k .there .ahead)) parts)
     (λ list n z r p.
-    let same-part : gathered kind (Total (r .total)) ≡ Stmt (partOf (of list) n) =
+    let same-part : gathered head (Total (r .total)) ≡ Stmt (partOf (of list) n) =
     g .counts list (r .total) (r .most ∙ omega arith) (r .live ∙ omega arith) (r .clash) ∙ rw (r .next) refl in
     rw (r .is, same-part) (gives (of list) n (Stmt (partOf (of list) n))
     (record {
@@ -124,13 +128,13 @@ counted-same K more part of s d w sc inner uses kind place at b l g parts =
 
 pub sequence-same : (s : List ℕ) (d : ℕ) (w : Names) (sc : Scope) (place at : ℕ) (inner : Inner) → Bytes s → place ≤ at → Scoped w sc place
     → Fits w d → InnerIs s d → inner .stmt ≡ readStmt d
-    → Same s (RestIs sc place at (countedWay 7 d w (λ i. stmtAt d w s i) (innerUses d w s) s at)) NoStmt
-    (withItem NoStmt (betweenAt 0 32 s at) (λ c m. gathered 7 (mostFrom c 7 d w (λ i. stmtAt d w s i) s (no-part m))))
-    (stmtOf place sc inner isSeq at (drop at s))
+    → Same s (RestIs sc place at (countedWay Nothing d w (λ i. stmtAt d w s i) (innerUses d w s) s at)) NoStmt
+    (withItem NoStmt (betweenAt 0 32 s at) (λ c m. gathered Nothing (mostFrom c Nothing d w (λ i. stmtAt d w s i) s (no-part m))))
+    (stmtOf place sc inner Seq at (drop at s))
 unfolding stmtOf need processes firstClash usage
 sequence-same s d w sc place at inner b l h f i e =
     rw e (
-    counted-same sequence stmt (readStmt d sc) (λ ss. M.SEQ ss) s d w sc (λ i. stmtAt d w s i) (innerUses d w s) 7 place at b l
+    counted-same sequence stmt (readStmt d sc) (λ ss. M.SEQ ss) s d w sc (λ i. stmtAt d w s i) (innerUses d w s) Nothing place at b l
     (record { counts = λ ss t a c x. rw (a, c, x) refl; same-usage = λ ss. refl }) (sequence-part s d w sc place h f i))
 
 pub plus-assoc : (u v w : Usage) → (u ⊕ v) ⊕ w ≡ u ⊕ (v ⊕ w)
@@ -143,30 +147,30 @@ plus-assoc u v w =
     ) refl
 
 -- a condition and a statement behind it
-pub record ConditionIs (s : List ℕ) (kind d : ℕ) (w : Names) (sc : Scope) (place at : ℕ) (e : M.Expr) (st : M.Stmt) (n : ℕ) : Type 0 where
+pub record ConditionIs (s : List ℕ) (role : Role) (d : ℕ) (w : Names) (sc : Scope) (place at : ℕ) (e : M.Expr) (st : M.Stmt) (n : ℕ) : Type 0 where
   pub ahead : at ≤ n
   pub middle : ℕ
-  pub head : wholeAt kind d (w .variables) s at ≡ Head middle (asked kind (temporaries e))
+  pub head : wholeAt role d (w .variables) s at ≡ Before middle (asked role (temporaries e))
   pub body : stmtAt d w s middle ≡ Stmt (partOf st n)
   pub uses : Uses sc (reading e ⊕ usage st) (λ l. stmtUses d w s middle (exprUses d (w .variables) s at l))
   pub within : Within sc place n (reading e ⊕ usage st)
 
-pub whole-scoped : (kind d : ℕ) (w : Names) (sc : Scope) (s : List ℕ) (place at : ℕ) → Bytes s → Scoped w sc place → Numbers sc
-    → Same s (WholeIs s kind d sc at) NoHead (wholeAt kind d (w .variables) s at) (readExpr d sc at (drop at s))
-whole-scoped kind d w sc s place at b h o = rw (h .variables) (whole-same kind d sc s at b o)
+pub whole-scoped : (role : Role) (d : ℕ) (w : Names) (sc : Scope) (s : List ℕ) (place at : ℕ) → Bytes s → Scoped w sc place → Numbers sc
+    → Same s (WholeIs s role d sc at) NoHead (wholeAt role d (w .variables) s at) (readExpr d sc at (drop at s))
+whole-scoped role d w sc s place at b h o = rw (h .variables) (whole-same role d sc s at b o)
 
-pub condition-same : {B : Type 0} (R : B → ℕ → StmtRead → Type 0) (s : List ℕ) (kind d : ℕ) (w : Names) (sc : Scope) (place at : ℕ)
+pub condition-same : {B : Type 0} (R : B → ℕ → StmtRead → Type 0) (s : List ℕ) (role : Role) (d : ℕ) (w : Names) (sc : Scope) (place at : ℕ)
     (of : M.Expr → M.Stmt → B) → Bytes s → place ≤ at → Scoped w sc place → Numbers sc → Fits w d → InnerIs s d
-    → ((e : M.Expr) (st : M.Stmt) (n : ℕ) → ConditionIs s kind d w sc place at e st n
-    → R (of e st) n (Stmt (behind (asked kind (temporaries e)) (partOf st n))))
+    → ((e : M.Expr) (st : M.Stmt) (n : ℕ) → ConditionIs s role d w sc place at e st n
+    → R (of e st) n (Stmt (behind (asked role (temporaries e)) (partOf st n))))
     → Same s R NoStmt
-    (withHead NoStmt (wholeAt kind d (w .variables) s at) (λ n a. withStmt NoStmt (stmtAt d w s n) (λ p. Stmt (behind a p))))
+    (withHead NoStmt (wholeAt role d (w .variables) s at) (λ n a. withStmt NoStmt (stmtAt d w s n) (λ p. Stmt (behind a p))))
     (onward (readExpr d sc at (drop at s)) (λ e. λ i bytes. onward (readStmt d sc i bytes) (λ st. pure (of e st))))
-condition-same R s kind d w sc place at of b l h o f inner g =
+condition-same R s role d w sc place at of b l h o f inner g =
     onwards (λ x. withHead NoStmt x (λ n a. withStmt NoStmt (stmtAt d w s n) (λ p. Stmt (behind a p)))) _
-    (whole-scoped kind d w sc s place at b h o)
+    (whole-scoped role d w sc s place at b h o)
     (λ e n y r q. rw (r .is) (
-    onwards (λ x. withStmt NoStmt x (λ p. Stmt (behind (asked kind (temporaries e)) p))) (λ st. pure (of e st))
+    onwards (λ x. withStmt NoStmt x (λ p. Stmt (behind (asked role (temporaries e)) p))) (λ st. pure (of e st))
     (inner w sc n (scoped-later n (omega (arith, l, r .ahead)) h) f)
     (λ st m z k p.
     let value : Uses sc (reading e) (λ l. exprUses d (w .variables) s at l) = rw (h .variables) (r .uses) in
@@ -199,12 +203,12 @@ choices =
 choice-part : (s : List ℕ) (d : ℕ) (w : Names) (sc : Scope) (place : ℕ) (inner : Inner) → Bytes s → Scoped w sc place → Numbers sc
     → Fits w d → InnerIs s d
     → inner .expr ≡ readExpr d sc → inner .stmt ≡ readStmt d → (at : ℕ) → place ≤ at
-    → Same s (λ a n x. PartIs choices sc place at (λ j. partUses 9 d w (innerUses d w s) s at j) (applied a) n x) NoStmt
-    (partAt 9 d w (λ i. stmtAt d w s i) s at) (readPair sc inner at (drop at s))
+    → Same s (λ a n x. PartIs choices sc place at (λ j. partUses Condition d w (innerUses d w s) s at j) (applied a) n x) NoStmt
+    (partAt Condition d w (λ i. stmtAt d w s i) s at) (readPair sc inner at (drop at s))
 unfolding partAt partUses headAt headUses readPair asked pairNeed pairProcesses firstClashPairs usagePairs
 choice-part s d w sc place inner b h o f i ee es at l =
     rw (ee, es) (
-    condition-same (λ a n x. PartIs choices sc place at (λ j. partUses 9 d w (innerUses d w s) s at j) (applied a) n x) s 9 d w sc place at
+    condition-same (λ a n x. PartIs choices sc place at (λ j. partUses Condition d w (innerUses d w s) s at j) (applied a) n x) s Value d w sc place at
     (λ e st. pair e st) b l h o f i
     (λ e st n k.
     record {
@@ -224,12 +228,12 @@ choice-part s d w sc place inner b h o f i ee es at l =
 
 pub choice-same : (s : List ℕ) (d : ℕ) (w : Names) (sc : Scope) (place at : ℕ) (inner : Inner) → Bytes s → place ≤ at → Scoped w sc place
     → Numbers sc → Fits w d → InnerIs s d → inner .expr ≡ readExpr d sc → inner .stmt ≡ readStmt d
-    → Same s (RestIs sc place at (countedWay 9 d w (λ i. stmtAt d w s i) (innerUses d w s) s at)) NoStmt
-    (withItem NoStmt (betweenAt 0 32 s at) (λ c m. gathered 9 (mostFrom c 9 d w (λ i. stmtAt d w s i) s (no-part m))))
-    (stmtOf place sc inner isIf at (drop at s))
+    → Same s (RestIs sc place at (countedWay Condition d w (λ i. stmtAt d w s i) (innerUses d w s) s at)) NoStmt
+    (withItem NoStmt (betweenAt 0 32 s at) (λ c m. gathered Condition (mostFrom c Condition d w (λ i. stmtAt d w s i) s (no-part m))))
+    (stmtOf place sc inner If at (drop at s))
 unfolding stmtOf need processes firstClash usage
 choice-same s d w sc place at inner b l h o f i ee es =
-    counted-same choices applied (readPair sc inner) (λ ps. M.IF ps) s d w sc (λ i. stmtAt d w s i) (innerUses d w s) 9 place at b l
+    counted-same choices applied (readPair sc inner) (λ ps. M.IF ps) s d w sc (λ i. stmtAt d w s i) (innerUses d w s) Condition place at b l
     (record { counts = λ ps t a c x. rw (a, c, x) refl; same-usage = λ ps. refl }) (choice-part s d w sc place inner b h o f i ee es)
 
 -- a statement is at least one process
@@ -250,13 +254,13 @@ live-some (M.ALT gs) = omega arith
 
 pub loop-same : (s : List ℕ) (d : ℕ) (w : Names) (sc : Scope) (place at : ℕ) (inner : Inner) → Bytes s → place ≤ at → Scoped w sc place
     → Numbers sc → Fits w d → InnerIs s d → inner .expr ≡ readExpr d sc → inner .stmt ≡ readStmt d
-    → Same s (RestIs sc place at (λ j. mostUse 1 10 d w (λ i. stmtAt d w s i) (innerUses d w s) s at j)) NoStmt
-    (gathered 10 (mostFrom 1 10 d w (λ i. stmtAt d w s i) s (no-part at))) (stmtOf place sc inner isWhile at (drop at s))
+    → Same s (RestIs sc place at (λ j. mostUse 1 Condition d w (λ i. stmtAt d w s i) (innerUses d w s) s at j)) NoStmt
+    (gathered Condition (mostFrom 1 Condition d w (λ i. stmtAt d w s i) s (no-part at))) (stmtOf place sc inner While at (drop at s))
 unfolding stmtOf partAt partUses headAt headUses mostFrom mostUse asked need processes firstClash usage
 loop-same s d w sc place at inner b l h o f i ee es =
     rw (ee, es) (
-    mapped (λ x. gathered 10 (withStmt NoSum x (λ p. Total (added (no-part at) p))))
-    (condition-same Turn s 10 d w sc place at (λ e st. M.WHILE e st) b l h o f i (λ e st n k. (e, st, refl, refl, k)))
+    mapped (λ x. gathered Condition (withStmt NoSum x (λ p. Total (added (no-part at) p))))
+    (condition-same Turn s Value d w sc place at (λ e st. M.WHILE e st) b l h o f i (λ e st n k. (e, st, refl, refl, k)))
     (λ a n y t. one a n y t)
     (λ j p. refl))
   where
@@ -266,11 +270,11 @@ loop-same s d w sc place at inner b l h o f i ee es =
         × (st : M.Stmt)
         × (a ≡ M.WHILE e st)
         × (x ≡ Stmt (behind (temporaries e + 2) (partOf st n)))
-        × ConditionIs s 10 d w sc place at e st n
+        × ConditionIs s Value d w sc place at e st n
 
     one : (a : M.Stmt) (n : ℕ) (y : StmtRead) → Turn a n y
-        → RestIs sc place at (λ j. mostUse 1 10 d w (λ i. stmtAt d w s i) (innerUses d w s) s at j) a n
-        (gathered 10 (withStmt NoSum y (λ p. Total (added (no-part at) p))))
+        → RestIs sc place at (λ j. mostUse 1 Condition d w (λ i. stmtAt d w s i) (innerUses d w s) s at j) a n
+        (gathered Condition (withStmt NoSum y (λ p. Total (added (no-part at) p))))
     one a n y t =
         let e = t .0 in
         let st = t .1 in

@@ -7,18 +7,22 @@ use mathlib.Core.Bool.{true, false, _||_}
 use mathlib.Core.List.{List, [], _∷_, _++_}
 use mathlib.Core.Option.{Option, none, some, Option·some-injective}
 use lib.ListN.{length, drop, getElem?, length-append}
-use lib.Dec.{ltb, eqb}
+use lib.Dec.{eqb}
 use borrow.Author.Tests.{eq-eqb, ne-eqb, eqb-true, eqb-false}
 use Rattle.model.proofs.Quiet.Setting.{getElem-inside as inside}
 use Rattle.model.proofs.Cases.{by-bool, never}
 use Rattle.model.specs.Syntax.{Site, inputOf, outputOf, declared}
 use Rattle.model.specs.Syntax as M
 use Rattle.model.specs.Reader.{parsed, Reader, onward, pure, Scope, numbered, names, readName, anySite, canInput, canOutput, readExpr}
-use Rattle.model.specs.Reader.{Inner, stmtOf, isAssign, isInput, isOutput}
+use Rattle.model.specs.Reader.{Inner, stmtOf}
+use Rattle.model.specs.declared.kinds.StmtKind.the-variants.{Assign, Input, Output}
+use Rattle.numbers.specs.declared.kinds.Simple.the-variants.{Assign as Assigning, Input as Inputting, Output as Outputting}
+use Rattle.table.specs.declared.stmt.Role.{Role}
+use Rattle.table.specs.declared.stmt.Role.the-variants.{Value, Output as Outward}
 use Rattle.model.specs.Usage.{Usage, nothing, _⊕_, reading, changing, inputting, same, isIn, reads, usage, firstClash}
 use Rattle.model.specs.Counts.{temporaries, processes, need}
-use Rattle.table.specs.Stmts.{asked, wholeAt, variableAt, inputAt, outputAt, leaf, valueAt, takenAt, withHead}
-use Rattle.table.specs.Stmts.{simpleAt, takenUses, simpleUses, stmtUses}
+use Rattle.table.specs.Stmts.{asked, wholeAt, variableAt, inputAt, outputAt, leaf, valueAt, takenAt, withHead, simpleAt, takenUses}
+use Rattle.table.specs.Stmts.{simpleUses, stmtUses}
 use Rattle.table.specs.Scopes.{Fresh, Below, Scoped}
 use Rattle.table.specs.Uses.{markAt, changeAt}
 use Rattle.numbers.specs.declared.Item.{Item}
@@ -30,11 +34,11 @@ use Rattle.table.specs.declared.stmt.Part.{Part}
 use Rattle.table.specs.declared.stmt.StmtRead.{StmtRead}
 use Rattle.table.specs.declared.stmt.StmtRead.the-variants.{Stmt, Refused as NoStmt}
 use Rattle.table.specs.declared.stmt.HeadRead.{HeadRead}
-use Rattle.table.specs.declared.stmt.HeadRead.the-variants.{Head, Refused as NoHead}
+use Rattle.table.specs.declared.stmt.HeadRead.the-variants.{Head as Before, Refused as NoHead}
 use Rattle.table.proofs.SameItems.{Bytes, Same, gives, onwards, mapped, Listed, name-same}
-use Rattle.table.proofs.Marks.{Field, changed, used-there, inputs-of, outputs-of, field, names-of, only, Uses}
-use Rattle.table.proofs.Marks.{use-nothing, use-both, mark-one, change-one, isIn-append, field-both, field-nothing}
-use Rattle.table.proofs.Marks.{field-only, fields, InScope, or-cases, in-one}
+use Rattle.table.proofs.Marks.{Field, changed, used-there, inputs-of, outputs-of, field, names-of, only, Uses, use-nothing, use-both}
+use Rattle.table.proofs.Marks.{mark-one, change-one, isIn-append, field-both, field-nothing, field-only, fields, InScope, or-cases}
+use Rattle.table.proofs.Marks.{in-one}
 use Rattle.table.proofs.SameExpr.{Numbers, exprWay, expr-same, variable-same}
 use Rattle.numbers.specs.Items.{withItem}
 use Rattle.table.specs.Exprs.{withExpr}
@@ -60,8 +64,8 @@ pub record Within (sc : Scope) (lo hi : ℕ) (u : Usage) : Type 0 where
       → InScope (names-of f sc) x ⊎ DeclaredIn lo hi x
 
 -- an expression of a statement that stands in no other
-pub record WholeIs (s : List ℕ) (kind d : ℕ) (sc : Scope) (at : ℕ) (e : M.Expr) (n : ℕ) (x : HeadRead) : Type 0 where
-  pub is : x ≡ Head n (asked kind (temporaries e))
+pub record WholeIs (s : List ℕ) (role : Role) (d : ℕ) (sc : Scope) (at : ℕ) (e : M.Expr) (n : ℕ) (x : HeadRead) : Type 0 where
+  pub is : x ≡ Before n (asked role (temporaries e))
   pub ahead : at < n
   pub uses : Uses sc (reading e) (exprWay d sc s at)
   pub within : (lo hi : ℕ) → Within sc lo hi (reading e)
@@ -78,11 +82,11 @@ within-reads sc e lo hi h = record { each-in = λ f x i. in-field f x i }
     in-field inputs-of x i = never (cc)
     in-field outputs-of x i = never (cc)
 
-pub whole-same : (kind d : ℕ) (sc : Scope) (s : List ℕ) (at : ℕ) → Bytes s → Numbers sc
-    → Same s (WholeIs s kind d sc at) NoHead (wholeAt kind d (length (sc .variables)) s at) (readExpr d sc at (drop at s))
+pub whole-same : (role : Role) (d : ℕ) (sc : Scope) (s : List ℕ) (at : ℕ) → Bytes s → Numbers sc
+    → Same s (WholeIs s role d sc at) NoHead (wholeAt role d (length (sc .variables)) s at) (readExpr d sc at (drop at s))
 unfolding wholeAt
-whole-same kind d sc s at b o =
-    mapped (λ x. withExpr NoHead x (λ e. Head (e .next) (asked kind (e .stored)))) (expr-same d sc s at b o)
+whole-same role d sc s at b o =
+    mapped (λ x. withExpr NoHead x (λ e. Before (e .next) (asked role (e .stored)))) (expr-same d sc s at b o)
     (λ e n y k. rw (k .is)
     (record { is = refl; ahead = k .ahead; uses = k .uses; within = λ lo hi. within-reads sc e lo hi (k .within) }))
     (λ j p. refl)
@@ -132,28 +136,27 @@ within-changing : (sc : Scope) (lo hi k : ℕ) (x : Site) → getElem? (sc .vari
 within-changing sc lo hi k x e = within-both (within-only changed sc lo hi k x e) (within-only used-there sc lo hi k x e)
 
 -- SKIP and STOP
-pub idle-same : (d : ℕ) (w : Names) (sc : Scope) (s : List ℕ) (place at k : ℕ) (st : M.Stmt) → ltb k 2 ≡ true → usage st ≡ nothing
+pub idle-same : (sc : Scope) (s : List ℕ) (place at : ℕ) (st : M.Stmt) → usage st ≡ nothing
     → partOf st at ≡ record { next = at; words = 2; processes = 1; clash = Nowhere }
-    → Same s (RestIs sc place at (λ l. simpleUses k d w s at l)) NoStmt (leaf at 2) (parsed st at (drop at s))
-unfolding simpleUses
-idle-same d w sc s place at k st small none-used is =
+    → Same s (RestIs sc place at (λ l. l)) NoStmt (leaf at 2) (parsed st at (drop at s))
+idle-same sc s place at st none-used is =
     gives st at (leaf at 2)
     (record {
       is = rw is refl;
       ahead = omega arith;
-      uses = rw (small, none-used) (use-nothing sc);
+      uses = rw none-used (use-nothing sc);
       within = rw none-used (within-nothing sc place at);
     })
 
 -- an expression at the end of a statement without statements inside
-value-same : (kind least d : ℕ) (sc : Scope) (s : List ℕ) (at : ℕ) (of : M.Expr → M.Stmt) (R : M.Stmt → ℕ → StmtRead → Type 0) → Bytes s
+value-same : (role : Role) (least d : ℕ) (sc : Scope) (s : List ℕ) (at : ℕ) (of : M.Expr → M.Stmt) (R : M.Stmt → ℕ → StmtRead → Type 0) → Bytes s
     → Numbers sc
-    → ((e : M.Expr) (n : ℕ) (x : HeadRead) → WholeIs s kind d sc at e n x → R (of e) n (leaf n (max least (asked kind (temporaries e)))))
-    → Same s R NoStmt (valueAt kind least d (length (sc .variables)) s at) (onward (readExpr d sc at (drop at s)) (λ e. pure (of e)))
+    → ((e : M.Expr) (n : ℕ) (x : HeadRead) → WholeIs s role d sc at e n x → R (of e) n (leaf n (max least (asked role (temporaries e)))))
+    → Same s R NoStmt (valueAt role least d (length (sc .variables)) s at) (onward (readExpr d sc at (drop at s)) (λ e. pure (of e)))
 unfolding valueAt
-value-same kind least d sc s at of R b o h =
-    onwards (λ x. withHead NoStmt x (λ m a. leaf m (max least a))) (λ e. pure (of e)) (whole-same kind d sc s at b o)
-    (λ e n y k q. rw (k .is) (gives (of e) n (leaf n (max least (asked kind (temporaries e)))) (h e n y k))) (λ j p. refl)
+value-same role least d sc s at of R b o h =
+    onwards (λ x. withHead NoStmt x (λ m a. leaf m (max least a))) (λ e. pure (of e)) (whole-same role d sc s at b o)
+    (λ e n y k q. rw (k .is) (gives (of e) n (leaf n (max least (asked role (temporaries e)))) (h e n y k))) (λ j p. refl)
 
 input-same : (w : Names) (sc : Scope) (place : ℕ) (s : List ℕ) (at : ℕ) → Bytes s → Scoped w sc place
     → Same s (Listed s at (sc .channels)) Refused (inputAt w s at) (readName canInput (sc .channels) at (drop at s))
@@ -165,14 +168,14 @@ output-same w sc place s at b h = rw (h .channels) (name-same canOutput (sc .cha
 
 pub assign-same : (d : ℕ) (w : Names) (sc : Scope) (s : List ℕ) (place at : ℕ) (stmts : Scope → Reader M.Stmt) → Bytes s → Scoped w sc place
     → Numbers sc
-    → Same s (RestIs sc place at (λ l. simpleUses 2 d w s at l)) NoStmt (simpleAt 2 d w s at)
-    (stmtOf place sc (record { expr = readExpr d sc; stmt = stmts }) isAssign at (drop at s))
+    → Same s (RestIs sc place at (λ l. simpleUses Assigning d w s at l)) NoStmt (simpleAt Assigning d w s at)
+    (stmtOf place sc (record { expr = readExpr d sc; stmt = stmts }) Assign at (drop at s))
 unfolding simpleAt simpleUses stmtOf asked need processes firstClash usage
 assign-same d w sc s place at stmts b h o =
     rw (h .variables) (
-    onwards (λ i. withItem NoStmt i (λ x n. valueAt 2 2 d (length (sc .variables)) s n)) _ (variable-same (sc .variables) s at b)
+    onwards (λ i. withItem NoStmt i (λ x n. valueAt Value 2 d (length (sc .variables)) s n)) _ (variable-same (sc .variables) s at b)
     (λ x n y k q. rw (k .found) (
-    value-same 2 2 d sc s n (λ e. M.assign x e) (RestIs sc place at _) b o (λ e m z r.
+    value-same Value 2 d sc s n (λ e. M.assign x e) (RestIs sc place at _) b o (λ e m z r.
     record {
       is = let words : max 2 (temporaries e + 2) ≡ temporaries e + 2 = omega arith in rw words refl;
       ahead = omega (arith, k .there .ahead, r .ahead);
@@ -196,17 +199,17 @@ pub record TakenAt (w : Names) (sc : Scope) (s : List ℕ) (at : ℕ) (ch x : Si
 -- a channel to input from and a variable, and what follows them
 pub taken-onward : {B Y : Type 0} {Q : B → ℕ → Y → Type 0} {g : ℕ → ℕ → Y} (w : Names) (sc : Scope) (s : List ℕ) (place at words : ℕ)
     (c : HeadRead → Y) (k : Site → Site → Reader B) → Bytes s → Scoped w sc place
-    → ((ch x : Site) (n m : ℕ) → TakenAt w sc s at ch x n m → Same s Q g (c (Head m words)) (k ch x m (drop m s)))
+    → ((ch x : Site) (n m : ℕ) → TakenAt w sc s at ch x n m → Same s Q g (c (Before m words)) (k ch x m (drop m s)))
     → ((j p : ℕ) → c (NoHead j p) ≡ g j p)
     → Same s Q g (c (takenAt w s at words))
     (onward (readName canInput (sc .channels) at (drop at s))
     (λ ch. λ i bytes. onward (readName anySite (sc .variables) i bytes) (λ x. k ch x)))
 unfolding takenAt
 taken-onward w sc s place at words c k b h f r =
-    onwards (λ i. c (withItem NoHead i (λ ch n. withItem NoHead (variableAt w s n) (λ x m. Head m words)))) _
+    onwards (λ i. c (withItem NoHead i (λ ch n. withItem NoHead (variableAt w s n) (λ x m. Before m words)))) _
     (input-same w sc place s at b h)
     (λ ch n y kc q. rw (kc .found, h .variables) (
-    onwards (λ i. c (withItem NoHead i (λ x m. Head m words))) (λ x. k ch x) (variable-same (sc .variables) s n b)
+    onwards (λ i. c (withItem NoHead i (λ x m. Before m words))) (λ x. k ch x) (variable-same (sc .variables) s n b)
     (λ x m z kx p. rw (kx .found)
     (f ch x n m (record { channel = listed-is q kc; target = listed-is (rw (h .variables) p) kx }))) r))
     r
@@ -229,8 +232,8 @@ within-input {sc = sc} {ch = ch} {x} lo hi t =
 
 pub input-stmt-same : (d : ℕ) (w : Names) (sc : Scope) (s : List ℕ) (place at : ℕ) (inner : Inner) → Bytes s → Scoped w sc place
     → Numbers sc
-    → Same s (RestIs sc place at (λ l. simpleUses 3 d w s at l)) NoStmt (simpleAt 3 d w s at)
-    (stmtOf place sc inner isInput at (drop at s))
+    → Same s (RestIs sc place at (λ l. simpleUses Inputting d w s at l)) NoStmt (simpleAt Inputting d w s at)
+    (stmtOf place sc inner Input at (drop at s))
 unfolding simpleAt simpleUses stmtOf need processes firstClash usage
 input-stmt-same d w sc s place at inner b h o =
     taken-onward w sc s place at 3 (λ x. withHead NoStmt x (λ m a. leaf m a)) (λ c x. pure (M.input c x)) b h
@@ -245,14 +248,14 @@ input-stmt-same d w sc s place at inner b h o =
 
 pub output-stmt-same : (d : ℕ) (w : Names) (sc : Scope) (s : List ℕ) (place at : ℕ) (stmts : Scope → Reader M.Stmt) → Bytes s
     → Scoped w sc place → Numbers sc
-    → Same s (RestIs sc place at (λ l. simpleUses 4 d w s at l)) NoStmt (simpleAt 4 d w s at)
-    (stmtOf place sc (record { expr = readExpr d sc; stmt = stmts }) isOutput at (drop at s))
+    → Same s (RestIs sc place at (λ l. simpleUses Outputting d w s at l)) NoStmt (simpleAt Outputting d w s at)
+    (stmtOf place sc (record { expr = readExpr d sc; stmt = stmts }) Output at (drop at s))
 unfolding simpleAt simpleUses stmtOf asked need processes firstClash usage
 output-stmt-same d w sc s place at stmts b h o =
     rw (h .variables) (
-    onwards (λ i. withItem NoStmt i (λ x n. valueAt 4 4 d (length (sc .variables)) s n)) _ (output-same w sc place s at b h)
+    onwards (λ i. withItem NoStmt i (λ x n. valueAt Outward 4 d (length (sc .variables)) s n)) _ (output-same w sc place s at b h)
     (λ ch n y k q. rw (k .found) (
-    value-same 4 4 d sc s n (λ e. M.output ch e) (RestIs sc place at _) b o (λ e m z r.
+    value-same Outward 4 d sc s n (λ e. M.output ch e) (RestIs sc place at _) b o (λ e m z r.
     record {
       is = refl;
       ahead = omega (arith, k .there .ahead, r .ahead);

@@ -1,22 +1,23 @@
 -- Statements as the reader answers them are those of the model's reader, with what is counted of them.
-use Prim.Native.Nat.{ℕ, zero, suc, _≤_, _<_}
+use Prim.Native.Nat.{ℕ, zero, suc, _<_}
 use native.Mathlib.Omega.{arith}
 use mathlib.Core.Path.{_≡_, refl, _∙_}
-use mathlib.Core.Bool.{cond}
 use mathlib.Core.List.{List}
 use lib.ListN.{drop}
-use lib.Dec.{ltb}
 use Rattle.model.specs.Syntax.{stmt}
 use Rattle.model.specs.Syntax as M
-use Rattle.model.specs.Reader.{Parsed, parsed, Scope, readExpr, Inner, stmtOf, isSkip, isStop, readStmt, stmtKinds}
+use Rattle.model.specs.Reader.{Parsed, parsed, Scope, readExpr, Inner, stmtOf, readStmt, stmtKinds}
+use Rattle.model.specs.declared.kinds.StmtKind.{StmtKind}
+use Rattle.model.specs.declared.kinds.StmtKind.the-variants.{Skip, Stop, Assign, Input, Output, Var, Chan, Seq, Par, If, While, Alt}
+use Rattle.numbers.specs.Kinds.{stmtKind, countAt}
 use Rattle.model.specs.Usage.{usage, firstClash}
 use Rattle.model.specs.Counts.{processes, need}
-use Rattle.table.specs.Stmts.{leaf, simpleAt, Fits, stmtAt, insideAt, simpleUses, stmtUses, insideUses}
+use Rattle.table.specs.Stmts.{leaf, simpleAt, Fits, stmtAt, insideOf, simpleUses, stmtUses, insideUsesOf}
 use Rattle.table.specs.declared.stmt.Names.{Names}
 use Rattle.table.specs.declared.stmt.StmtRead.{StmtRead}
 use Rattle.table.specs.declared.stmt.StmtRead.the-variants.{Stmt, Refused as NoStmt}
 use Rattle.table.specs.Scopes.{Scoped}
-use Rattle.table.proofs.SameItems.{Bytes, NumberAt, Same, gives, turns, onwards, one-same, deep-same, each}
+use Rattle.table.proofs.SameItems.{Bytes, NumberAt, Same, gives, turns, onwards, one-same, deep-same, stmt-kind-is}
 use Rattle.table.proofs.SameExpr.{Numbers}
 use Rattle.table.proofs.SameSimple.{RestIs, StmtIs, idle-same, assign-same, input-stmt-same, output-stmt-same}
 use Rattle.table.proofs.SameDeclare.{InnerIs, variables-same, channels-same}
@@ -31,16 +32,6 @@ use Rattle.model.proofs.Cases.{never}
 use Rattle.numbers.specs.Items.{betweenAt, withItem}
 use Rattle.numbers.specs.declared.Item.the-variants.{Item as Found}
 
-skip-same : (d : ℕ) (w : Names) (sc : Scope) (s : List ℕ) (place at : ℕ) (inner : Inner)
-    → Same s (RestIs sc place at (λ l. simpleUses 0 d w s at l)) NoStmt (simpleAt 0 d w s at) (stmtOf place sc inner isSkip at (drop at s))
-unfolding simpleAt stmtOf need processes firstClash usage
-skip-same d w sc s place at inner = idle-same d w sc s place at 0 M.SKIP refl refl refl
-
-stop-same : (d : ℕ) (w : Names) (sc : Scope) (s : List ℕ) (place at : ℕ) (inner : Inner)
-    → Same s (RestIs sc place at (λ l. simpleUses 1 d w s at l)) NoStmt (simpleAt 1 d w s at) (stmtOf place sc inner isStop at (drop at s))
-unfolding simpleAt stmtOf need processes firstClash usage
-stop-same d w sc s place at inner = idle-same d w sc s place at 1 M.STOP refl refl refl
-
 -- the names in scope fit the sets where there is depth left
 fitting : {w : Names} {sc : Scope} {at : ℕ} (d : ℕ) → Scoped w sc at → Fits w (suc d) → Numbers sc
 fitting d h f =
@@ -52,70 +43,48 @@ fitting d h f =
     }
 
 pub stmt-same : (d : ℕ) (s : List ℕ) → Bytes s → InnerIs s d
-unfolding stmtAt stmtUses readStmt
+unfolding stmtAt stmtUses readStmt countAt simpleAt simpleUses stmtOf need processes firstClash usage
 stmt-same zero s b w sc at h f =
     deep-same (StmtIs s zero w sc at) NoStmt (λ i. withItem NoStmt i (λ v n. leaf n 2)) s at b (λ j p. refl)
 stmt-same (suc d) s b w sc at h f =
     let down : InnerIs s d = stmt-same d s b in
     let fits : Fits w d = (omega (arith, f .0), omega (arith, f .1), omega (arith, f .2), f .3, f .4) in
-    let inner : Inner = record { expr = readExpr d sc; stmt = readStmt d } in
     let o : Numbers sc = fitting d h f in
-    onwards (λ x. withItem NoStmt x (λ k n. kinds k n)) (λ k. stmtOf at sc inner k) (one-same stmtKinds 11 s at b refl)
-    (λ kind n y k q. rw (k .found) (with-kind (k .value) n _ _ (q ∙ k .found) (k .there) (
-    let l : at < n = k .there .ahead in
-    let le : at ≤ n = omega (arith, l) in
-    each (λ v kind. Same s (RestIs sc at n (uses-of v n)) NoStmt (kinds v n) (stmtOf at sc inner kind n (drop n s))) stmtKinds
-    (k .value) (
-      skip-same d w sc s at n inner,
-      (
-        stop-same d w sc s at n inner,
-        (
-          assign-same d w sc s at n (readStmt d) b h o,
-          (
-            input-stmt-same d w sc s at n inner b h o,
-            (
-              output-stmt-same d w sc s at n (readStmt d) b h o,
-              (
-                variables-same s d w sc at n inner b l h f down refl,
-                (
-                  channels-same s d w sc at n inner b l h f down refl,
-                  (
-                    sequence-same s d w sc at n inner b le h fits down refl,
-                    (
-                      par-same s d w sc at n inner b le h o fits down refl,
-                      (
-                        choice-same s d w sc at n inner b le h o fits down refl refl,
-                        (
-                          loop-same s d w sc at n inner b le h o fits down refl refl,
-                          (alternative-same s d w sc at n inner b le h o fits down refl refl, tt),
-                        ),
-                      ),
-                    ),
-                  ),
-                ),
-              ),
-            ),
-          ),
-        ),
-      ),
-    ) (k .listed))))
+    onwards (λ x. withItem NoStmt x (λ k n. kinds (stmtKind k) n)) (λ k. stmtOf at sc inner k) (one-same stmtKinds 11 s at b refl)
+    (λ kind n y k q. let e = stmt-kind-is (k .value) (k .listed) in
+    rw (k .found, e) (with-kind (k .value) kind n _ _ (q ∙ k .found) e (k .there) (of-kind down fits o n (k .there .ahead) kind)))
     (λ j p. refl)
   where
-    kinds : ℕ → ℕ → StmtRead
-    kinds k n =
-        cond (ltb k 5) (simpleAt k d w s n) (insideAt at k d w (λ v i. stmtAt d v s i) (λ v i j. stmtUses d v s i j) s n)
+    inner : Inner
+    inner = record { expr = readExpr d sc; stmt = readStmt d }
 
-    uses-of : ℕ → ℕ → List ℕ → List ℕ
-    uses-of k n l =
-        cond (ltb k 5) (simpleUses k d w s n l) (insideUses k d w (λ v i. stmtAt d v s i) (λ v i j. stmtUses d v s i j) s n l)
+    kinds : StmtKind → ℕ → StmtRead
+    kinds k n = insideOf at k d w (λ v i. stmtAt d v s i) (λ v i j. stmtUses d v s i j) s n
 
-    with-kind : (k n : ℕ) (x : StmtRead) (r : Parsed M.Stmt) → betweenAt 0 11 s at ≡ Found k n → NumberAt s at k n
-        → Same s (RestIs sc at n (uses-of k n)) NoStmt x r
-        → Same s (StmtIs s (suc d) w sc at) NoStmt x r
-    with-kind k n x r f t (gives st m y r2) =
+    uses-of : StmtKind → ℕ → List ℕ → List ℕ
+    uses-of k n l = insideUsesOf k d w (λ v i. stmtAt d v s i) (λ v i j. stmtUses d v s i j) s n l
+
+    of-kind : InnerIs s d → Fits w d → Numbers sc → (n : ℕ) → at < n → (k : StmtKind)
+        → Same s (RestIs sc at n (uses-of k n)) NoStmt (kinds k n) (stmtOf at sc inner k n (drop n s))
+    of-kind down fits o n l Skip = idle-same sc s at n M.SKIP refl refl
+    of-kind down fits o n l Stop = idle-same sc s at n M.STOP refl refl
+    of-kind down fits o n l Assign = assign-same d w sc s at n (readStmt d) b h o
+    of-kind down fits o n l Input = input-stmt-same d w sc s at n inner b h o
+    of-kind down fits o n l Output = output-stmt-same d w sc s at n (readStmt d) b h o
+    of-kind down fits o n l Var = variables-same s d w sc at n inner b l h f down refl
+    of-kind down fits o n l Chan = channels-same s d w sc at n inner b l h f down refl
+    of-kind down fits o n l Seq = sequence-same s d w sc at n inner b (omega (arith, l)) h fits down refl
+    of-kind down fits o n l Par = par-same s d w sc at n inner b (omega (arith, l)) h o fits down refl
+    of-kind down fits o n l If = choice-same s d w sc at n inner b (omega (arith, l)) h o fits down refl refl
+    of-kind down fits o n l While = loop-same s d w sc at n inner b (omega (arith, l)) h o fits down refl refl
+    of-kind down fits o n l Alt = alternative-same s d w sc at n inner b (omega (arith, l)) h o fits down refl refl
+
+    with-kind : (v : ℕ) (k : StmtKind) (n : ℕ) (x : StmtRead) (r : Parsed M.Stmt) → betweenAt 0 11 s at ≡ Found v n → stmtKind v ≡ k
+        → NumberAt s at v n → Same s (RestIs sc at n (uses-of k n)) NoStmt x r → Same s (StmtIs s (suc d) w sc at) NoStmt x r
+    with-kind v k n x r f g t (gives st m y r2) =
         gives st m y
-        (record { is = r2 .is; ahead = omega (arith, t .ahead, r2 .ahead); uses = rw f (r2 .uses); within = r2 .within })
-    with-kind k n x r f t (turns j p) = turns j p
+        (record { is = r2 .is; ahead = omega (arith, t .ahead, r2 .ahead); uses = rw (f, g) (r2 .uses); within = r2 .within })
+    with-kind v k n x r f g t (turns j p) = turns j p
 
 -- a statement that the model reads is used as the model says
 used-as : {s : List ℕ} {d at : ℕ} {w : Names} {sc : Scope} {x : StmtRead} {r : Parsed M.Stmt} (st : M.Stmt) (n : ℕ) (rest : List ℕ)

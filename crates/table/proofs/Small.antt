@@ -2,20 +2,37 @@
 use Prim.Native.Nat.{ℕ, zero, suc, _+_, _-_, _*_, _≤_, _<_, max}
 use native.Mathlib.Omega.{arith}
 use mathlib.Core.Path.{_≡_}
-use mathlib.Core.Bool.{cond}
 use mathlib.Core.List.{List}
 use lib.ListN.{length, getD}
 use lib.Dec.{ltb, leb, eqb}
 use borrow.Author.Tests.{leb-false, ltb-false}
 use Rattle.model.proofs.Cases.{by-bool, of-cond}
 use Rattle.numbers.specs.Items.{groupsAt, betweenAt, nameAt, deepAt, withNumber, withItem}
+use Rattle.numbers.specs.Kinds.{exprKind, byExpr, guardKind, byGuard, stmtKind, shapeOf, byShape, countAt}
+use Rattle.model.specs.declared.kinds.ExprKind.{ExprKind}
+use Rattle.model.specs.declared.kinds.ExprKind.the-variants.{Constant, Variable, Not, Binary}
+use Rattle.model.specs.declared.kinds.GuardKind.{GuardKind}
+use Rattle.model.specs.declared.kinds.GuardKind.the-variants.{Input as InputGuard, Skip as SkipGuard}
+use Rattle.model.specs.declared.kinds.StmtKind.{StmtKind}
+use Rattle.model.specs.declared.kinds.StmtKind.the-variants.{Skip, Stop, Assign, Input, Output, Var, Chan, Seq, Par, If, While, Alt}
+use Rattle.numbers.specs.declared.kinds.Simple.{Simple}
+use Rattle.numbers.specs.declared.kinds.Simple.the-variants.{Skip as Idle, Stop as Stopping, Assign as Assigning, Input as Inputting}
+use Rattle.numbers.specs.declared.kinds.Simple.the-variants.{Output as Outputting}
+use Rattle.numbers.specs.declared.kinds.Head.{Head}
+use Rattle.numbers.specs.declared.kinds.Head.the-variants.{Nothing, Condition, Guard}
+use Rattle.numbers.specs.declared.kinds.Shape.{Shape}
+use Rattle.numbers.specs.declared.kinds.Shape.the-variants.{Simple as Bare, Declares, Branches as Side, Parts}
+use Rattle.numbers.specs.declared.kinds.Count.{Count}
+use Rattle.numbers.specs.declared.kinds.Count.the-variants.{UpTo, Fixed}
+use Rattle.table.specs.declared.stmt.Role.{Role}
+use Rattle.table.specs.declared.stmt.Role.the-variants.{Value, Output as Outward, Guard as ForGuard}
 use Rattle.model.specs.Counts.{orderOf, guardWords}
 use Rattle.model.proofs.Tables.Needs.{sides-hold}
-use Rattle.table.specs.Exprs.{withExpr, leafAt, sides, exprAt}
-use Rattle.table.specs.Stmts.{asked, wholeAt, variableAt, inputAt, withHead, withStmt}
-use Rattle.table.specs.Stmts.{outputAt, leaf, valueAt, takenAt, simpleAt, guardAt, headAt, nothing, added, partAt, mostFrom}
-use Rattle.table.specs.Stmts.{gathered, Branches, joinedBy, BranchesRead, all, stopped, withBranches, branchesFrom, noBranches}
-use Rattle.table.specs.Stmts.{parOf, moreNames, declaring, insideAt, stmtAt, stmtUses, partIn}
+use Rattle.table.specs.Exprs.{withExpr, single, constantAt, usedAt, sides, operated, exprAt}
+use Rattle.table.specs.Stmts.{asked, wholeAt, variableAt, inputAt, withHead, withStmt, outputAt, leaf, valueAt, takenAt, simpleAt}
+use Rattle.table.specs.Stmts.{guardAt, headAt, nothing, added, partAt, mostFrom, gathered, Branches, joinedBy, BranchesRead, all}
+use Rattle.table.specs.Stmts.{stopped, withBranches, branchesFrom, noBranches, parOf, moreNames, declaring, leastWords, insideOf}
+use Rattle.table.specs.Stmts.{stmtAt, stmtUses, partIn}
 use Rattle.table.specs.Uses.{noNames}
 use Rattle.numbers.specs.declared.NumberRead.{NumberRead}
 use Rattle.numbers.specs.declared.NumberRead.the-variants.{Number, Bad}
@@ -29,7 +46,7 @@ use Rattle.table.specs.declared.stmt.Part.{Part}
 use Rattle.table.specs.declared.stmt.StmtRead.{StmtRead}
 use Rattle.table.specs.declared.stmt.StmtRead.the-variants.{Stmt, Refused as NoStmt}
 use Rattle.table.specs.declared.stmt.HeadRead.{HeadRead}
-use Rattle.table.specs.declared.stmt.HeadRead.the-variants.{Head, Refused as NoHead}
+use Rattle.table.specs.declared.stmt.HeadRead.the-variants.{Head as Before, Refused as NoHead}
 use Rattle.table.specs.declared.stmt.Sum.{Sum}
 use Rattle.table.specs.declared.stmt.SumRead.{SumRead}
 use Rattle.table.specs.declared.stmt.SumRead.the-variants.{Sum as Total, Refused as NoSum}
@@ -54,7 +71,7 @@ Most hi (Refused k p) = Unit {0}
 
 -- a head may be empty; it ends from `from` on, and the words that it asks for are bounded by its bytes from base on
 abbrev InHead : (base from len : ℕ) → HeadRead → Type 0
-InHead base from len (Head n a) = (from ≤ n) × (n ≤ len) × (a ≤ 40 * (n - base))
+InHead base from len (Before n a) = (from ≤ n) × (n ≤ len) × (a ≤ 40 * (n - base))
 InHead base from len (NoHead k p) = Unit {0}
 
 -- what follows a number, an item, an expression, a head or a statement is as P says, where a refusal is
@@ -74,8 +91,8 @@ of-expr P Q r (Expr e) h g = g e h
 of-expr P Q r (NoExpr k p) h g = r k p
 
 of-head : {R : Type 0} {refuse : ℕ → ℕ → R} (P : R → Type 0) (Q : HeadRead → Type 0) → ((k p : ℕ) → P (refuse k p)) → (x : HeadRead)
-    {f : ℕ → ℕ → R} → Q x → ((n a : ℕ) → Q (Head n a) → P (f n a)) → P (withHead refuse x f)
-of-head P Q r (Head n a) h g = g n a h
+    {f : ℕ → ℕ → R} → Q x → ((n a : ℕ) → Q (Before n a) → P (f n a)) → P (withHead refuse x f)
+of-head P Q r (Before n a) h g = g n a h
 of-head P Q r (NoHead k p) h g = r k p
 
 of-stmt : {R : Type 0} {refuse : ℕ → ℕ → R} (P : R → Type 0) (Q : StmtRead → Type 0) → ((k p : ℕ) → P (refuse k p)) → (x : StmtRead)
@@ -145,13 +162,9 @@ earlier-expr : (x : ExprRead) (from at len : ℕ) → from < at → InExpr at le
 earlier-expr (Expr e) from at len l h = (omega (arith, l, h .0), h .1, omega (arith, l, h .0, h .2))
 earlier-expr (NoExpr j p) from at len l h = tt
 
-leaf-in : (k vs : ℕ) (s : List ℕ) (at : ℕ) → InExpr at (length s) (leafAt k vs s at)
-unfolding leafAt
-leaf-in k vs s at =
-    of-item (InExpr at (length s)) (InItem at (length s)) (λ j p. tt)
-    (cond (eqb k 0) (betweenAt 0 4294967295 s at) (nameAt vs 0 0 s at))
-    (of-cond (InItem at (length s)) (eqb k 0) (between-in 0 4294967295 s at) (name-in vs 0 0 s at)) (λ v n h.
-    (h .0, h .1, omega (arith, h .0)))
+leaf-in : (x : Item) (at len : ℕ) → InItem at len x → InExpr at len (withItem NoExpr x (λ v n. single n))
+leaf-in x at len h =
+    of-item (InExpr at len) (InItem at len) (λ j p. tt) x h (λ v n g. (g .0, g .1, omega (arith, g .0)))
 
 sides-in : (inner : ℕ → ExprRead) (at len : ℕ) → ((i : ℕ) → InExpr i len (inner i)) → InExpr at len (sides inner at)
 sides-in inner at len h =
@@ -163,15 +176,22 @@ sides-in inner at len h =
     )))
 
 expr-in : (d vs : ℕ) (s : List ℕ) (at : ℕ) → InExpr at (length s) (exprAt d vs s at)
-unfolding exprAt
+unfolding exprAt usedAt
 expr-in zero vs s at = of-item (InExpr at (length s)) IsRefused (λ k p. tt) (deepAt s at) (deep-refused s at) (λ v n h. absurd h)
 expr-in (suc d) vs s at =
     of-item (InExpr at (length s)) (InItem at (length s)) (λ k p. tt) (betweenAt 0 3 s at) (between-in 0 3 s at) (λ k n h.
-    of-cond (InExpr at (length s)) (ltb k 2) (earlier-expr (leafAt k vs s n) at n (length s) (h .0) (leaf-in k vs s n)) (
-    of-cond (InExpr at (length s)) (eqb k 2) (earlier-expr (exprAt d vs s n) at n (length s) (h .0) (expr-in d vs s n)) (
-    of-item (InExpr at (length s)) (InItem n (length s)) (λ j p. tt) (betweenAt 0 7 s n) (between-in 0 7 s n) (λ o m g.
-    earlier-expr (sides (λ i. exprAt d vs s i) m) at m (length s) (omega (arith, h .0, g .0))
-    (sides-in (λ i. exprAt d vs s i) m (length s) (λ i. expr-in d vs s i))))))
+    earlier-expr (kinds (exprKind k) n) at n (length s) (h .0) (of-kind (λ i. expr-in d vs s i) (exprKind k) n))
+  where
+    kinds : ExprKind → ℕ → ExprRead
+    kinds k n = byExpr k (constantAt s n) (usedAt vs s n) (exprAt d vs s n) (operated (λ i. exprAt d vs s i) s n)
+
+    of-kind : ((i : ℕ) → InExpr i (length s) (exprAt d vs s i)) → (k : ExprKind) (n : ℕ) → InExpr n (length s) (kinds k n)
+    of-kind h Constant n = leaf-in (betweenAt 0 4294967295 s n) n (length s) (between-in 0 4294967295 s n)
+    of-kind h Variable n = leaf-in (nameAt vs 0 0 s n) n (length s) (name-in vs 0 0 s n)
+    of-kind h Not n = h n
+    of-kind h Binary n =
+        of-item (InExpr n (length s)) (InItem n (length s)) (λ j p. tt) (betweenAt 0 7 s n) (between-in 0 7 s n) (λ o m g.
+        earlier-expr (sides (λ i. exprAt d vs s i) m) n m (length s) (g .0) (sides-in (λ i. exprAt d vs s i) m (length s) h))
 
 -- what is counted from base on, for a statement that ends from `from` on
 abbrev In : (base from len : ℕ) → StmtRead → Type 0
@@ -186,29 +206,27 @@ leaf-small : (n words base from len : ℕ) → base < from → from ≤ n → n 
 leaf-small n words base from len l m u w = (m, u, w, omega (arith, l, m))
 
 earlier-head : (x : HeadRead) (base from at len : ℕ) → from ≤ at → InHead base at len x → InHead base from len x
-earlier-head (Head n a) base from at len l h = (omega (arith, l, h .0), h .1, h .2)
+earlier-head (Before n a) base from at len l h = (omega (arith, l, h .0), h .1, h .2)
 earlier-head (NoHead k p) base from at len l h = tt
 
-asked-most : (k t : ℕ) → asked k t ≤ t + 8
+asked-most : (r : Role) (t : ℕ) → asked r t ≤ t + 8
 unfolding asked guardWords
-asked-most k t =
-    of-cond (λ n. n ≤ t + 8) (eqb k 4) (omega arith) (of-cond (λ n. n ≤ t + 8) (ltb k 11) (omega arith) (guard t))
-  where
-    guard : (t : ℕ) → guardWords t ≤ t + 8
-    guard zero = omega arith
-    guard (suc t) = omega arith
+asked-most Value t = omega arith
+asked-most Outward t = omega arith
+asked-most ForGuard zero = omega arith
+asked-most ForGuard (suc t) = omega arith
 
-whole-in : (k d vs : ℕ) (s : List ℕ) (at : ℕ) → InHead at at (length s) (wholeAt k d vs s at)
+whole-in : (r : Role) (d vs : ℕ) (s : List ℕ) (at : ℕ) → InHead at at (length s) (wholeAt r d vs s at)
 unfolding wholeAt
-whole-in k d vs s at =
+whole-in r d vs s at =
     of-expr (InHead at at (length s)) (InExpr at (length s)) (λ j p. tt) (exprAt d vs s at) (expr-in d vs s at) (λ e h.
-    (omega (arith, h .0), h .1, omega (arith, h .0, h .2, asked-most k (e .stored))))
+    (omega (arith, h .0), h .1, omega (arith, h .0, h .2, asked-most r (e .stored))))
 
-value-in : (k least d vs : ℕ) (s : List ℕ) (base from at : ℕ) → base < from → from ≤ at → least ≤ 4
-    → In base from (length s) (valueAt k least d vs s at)
+value-in : (r : Role) (least d vs : ℕ) (s : List ℕ) (base from at : ℕ) → base < from → from ≤ at → least ≤ 4
+    → In base from (length s) (valueAt r least d vs s at)
 unfolding valueAt
-value-in k least d vs s base from at l m w =
-    of-head (In base from (length s)) (InHead at at (length s)) (λ j p. tt) (wholeAt k d vs s at) (whole-in k d vs s at) (λ n a h.
+value-in r least d vs s base from at l m w =
+    of-head (In base from (length s)) (InHead at at (length s)) (λ j p. tt) (wholeAt r d vs s at) (whole-in r d vs s at) (λ n a h.
     leaf-small n (max least a) base from (length s) l (omega (arith, m, h .0)) (h .1) (omega (arith, l, m, w, h .0, h .2)))
 
 -- a channel and a variable, behind what asks for so many words from base on
@@ -219,56 +237,61 @@ taken-in w s base at a l u =
     of-item (InHead base at (length s)) (InItem n (length s)) (λ k p. tt) (variableAt w s n) (name-in _ _ _ s n) (λ x m g.
     (omega (arith, h .0, g .0), g .1, omega (arith, l, u, h .0, g .0))))
 
-simple-in : (k d : ℕ) (w : Names) (s : List ℕ) (base at : ℕ) → base < at → at ≤ length s → In base at (length s) (simpleAt k d w s at)
+simple-in : (x : Simple) (d : ℕ) (w : Names) (s : List ℕ) (base at : ℕ) → base < at → at ≤ length s
+    → In base at (length s) (simpleAt x d w s at)
 unfolding simpleAt
-simple-in k d w s base at l u =
-    of-cond (In base at (length s)) (ltb k 2) (leaf-small at 2 base at (length s) l (omega arith) u (omega (arith, l))) (
-    of-cond (In base at (length s)) (eqb k 2)
-    (of-item (In base at (length s)) (InItem at (length s)) (λ j p. tt) (variableAt w s at) (name-in _ _ _ s at) (λ x n h.
-    value-in 2 2 d (w .variables) s base at n l (omega (arith, h .0)) (omega arith))) (
-    of-cond (In base at (length s)) (eqb k 3)
-    (of-head (In base at (length s)) (InHead base at (length s)) (λ j p. tt) (takenAt w s at 3)
+simple-in Idle d w s base at l u = leaf-small at 2 base at (length s) l (omega arith) u (omega (arith, l))
+simple-in Stopping d w s base at l u = leaf-small at 2 base at (length s) l (omega arith) u (omega (arith, l))
+simple-in Assigning d w s base at l u =
+    of-item (In base at (length s)) (InItem at (length s)) (λ j p. tt) (variableAt w s at) (name-in _ _ _ s at) (λ x n h.
+    value-in Value 2 d (w .variables) s base at n l (omega (arith, h .0)) (omega arith))
+simple-in Inputting d w s base at l u =
+    of-head (In base at (length s)) (InHead base at (length s)) (λ j p. tt) (takenAt w s at 3)
     (taken-in w s base at 3 (omega (arith, l)) (omega (arith, l))) (λ m a h.
-    leaf-small m a base at (length s) l (h .0) (h .1) (h .2)))
-    (of-item (In base at (length s)) (InItem at (length s)) (λ j p. tt) (outputAt w s at) (name-in _ _ _ s at) (λ x n h.
-    value-in 4 4 d (w .variables) s base at n l (omega (arith, h .0)) (omega arith)))))
+    leaf-small m a base at (length s) l (h .0) (h .1) (h .2))
+simple-in Outputting d w s base at l u =
+    of-item (In base at (length s)) (InItem at (length s)) (λ j p. tt) (outputAt w s at) (name-in _ _ _ s at) (λ x n h.
+    value-in Outward 4 d (w .variables) s base at n l (omega (arith, h .0)) (omega arith))
 
 guard-in : (d : ℕ) (w : Names) (s : List ℕ) (at : ℕ) → InHead at at (length s) (guardAt d w s at)
 unfolding guardAt
 guard-in d w s at =
     of-item (InHead at at (length s)) (InItem at (length s)) (λ k p. tt) (betweenAt 0 1 s at) (between-in 0 1 s at) (λ g n b.
-    of-head (InHead at at (length s)) (InHead n n (length s)) (λ k p. tt) (wholeAt 11 d (w .variables) s n)
-    (whole-in 11 d (w .variables) s n) (λ m a h.
+    of-head (InHead at at (length s)) (InHead n n (length s)) (λ k p. tt) (wholeAt ForGuard d (w .variables) s n)
+    (whole-in ForGuard d (w .variables) s n) (λ m a h.
     let l : at ≤ m = omega (arith, b .0, h .0) in
     let asks : a ≤ 40 * (m - at) = omega (arith, b .0, h .2) in
-    of-cond (InHead at at (length s)) (eqb g 0) (earlier-head (takenAt w s m a) at at m (length s) l (taken-in w s at m a l asks))
-    (l, h .1, asks)))
+    of-kind (guardKind g) m a (earlier-head (takenAt w s m a) at at m (length s) l (taken-in w s at m a l asks)) (l, h .1, asks)))
+  where
+    of-kind : (k : GuardKind) (m a : ℕ) → InHead at at (length s) (takenAt w s m a) → InHead at at (length s) (Before m a)
+        → InHead at at (length s) (byGuard k (takenAt w s m a) (Before m a))
+    of-kind InputGuard m a h g = h
+    of-kind SkipGuard m a h g = g
 
 -- the head of a part; an empty one ends where it begins
 abbrev After : ℕ → HeadRead → Type 0
-After from (Head n a) = (from ≤ n) × (a ≤ 40 * (n - from))
+After from (Before n a) = (from ≤ n) × (a ≤ 40 * (n - from))
 After from (NoHead k p) = Unit {0}
 
-head-after : (k d : ℕ) (w : Names) (s : List ℕ) (at : ℕ) → After at (headAt k d w s at)
+of-in : (x : HeadRead) (at len : ℕ) → InHead at at len x → After at x
+of-in (Before n a) at len h = (h .0, h .2)
+of-in (NoHead j p) at len h = tt
+
+head-after : (h : Head) (d : ℕ) (w : Names) (s : List ℕ) (at : ℕ) → After at (headAt h d w s at)
 unfolding headAt
-head-after k d w s at =
-    of-cond (After at) (ltb k 9) (omega arith, omega arith)
-    (of-cond (After at) (ltb k 11) (of (wholeAt k d (w .variables) s at) (whole-in k d (w .variables) s at))
-    (of (guardAt d w s at) (guard-in d w s at)))
-  where
-    of : (x : HeadRead) → InHead at at (length s) x → After at x
-    of (Head n a) h = (h .0, h .2)
-    of (NoHead j p) h = tt
+head-after Nothing d w s at = (omega arith, omega arith)
+head-after Condition d w s at = of-in (wholeAt Value d (w .variables) s at) at (length s) (whole-in Value d (w .variables) s at)
+head-after Guard d w s at = of-in (guardAt d w s at) at (length s) (guard-in d w s at)
 
 -- a statement ends behind its place and in the table, and its words and processes are bounded by its bytes
 abbrev pub Small : (at len : ℕ) → StmtRead → Type 0
 Small at len x = In at (suc at) len x
 
-part-in : (k d : ℕ) (w : Names) (inner : ℕ → StmtRead) (s : List ℕ) (at : ℕ) → ((n : ℕ) → Small n (length s) (inner n))
-    → Small at (length s) (partAt k d w inner s at)
+part-in : (e : Head) (d : ℕ) (w : Names) (inner : ℕ → StmtRead) (s : List ℕ) (at : ℕ) → ((n : ℕ) → Small n (length s) (inner n))
+    → Small at (length s) (partAt e d w inner s at)
 unfolding partAt
-part-in k d w inner s at h =
-    of-head (Small at (length s)) (After at) (λ j p. tt) (headAt k d w s at) (head-after k d w s at) (λ n a l.
+part-in e d w inner s at h =
+    of-head (Small at (length s)) (After at) (λ j p. tt) (headAt e d w s at) (head-after e d w s at) (λ n a l.
     of-stmt (Small at (length s)) (Small n (length s)) (λ j p. tt) (inner n) (h n) (λ p g.
     (omega (arith, l .0, g .0), g .1, omega (arith, l .0, l .1, g .0, g .2), omega (arith, l .0, g .3))))
 
@@ -299,22 +322,23 @@ added-in base from len t p b h k =
     let e : t .all + p .processes ≤ p .next - base = omega (arith, h .reached, b, h .all, k .0, k .3) in
     record { reached = r; inside = k .1; most = m; sum = a; live = l; all = e }
 
-most-in : (i k d : ℕ) (w : Names) (inner : ℕ → StmtRead) (s : List ℕ) (t : Sum) (base from : ℕ) → base ≤ from
-    → ((n : ℕ) → Small n (length s) (inner n)) → SumIn base from (length s) t → InSum base from (length s) (mostFrom i k d w inner s t)
+most-in : (i : ℕ) (e : Head) (d : ℕ) (w : Names) (inner : ℕ → StmtRead) (s : List ℕ) (t : Sum) (base from : ℕ) → base ≤ from
+    → ((n : ℕ) → Small n (length s) (inner n)) → SumIn base from (length s) t → InSum base from (length s) (mostFrom i e d w inner s t)
 unfolding mostFrom
-most-in zero k d w inner s t base from b h g = g
-most-in (suc i) k d w inner s t base from b h g =
-    of-stmt (InSum base from (length s)) (Small (t .next) (length s)) (λ j p. tt) (partAt k d w inner s (t .next))
-    (part-in k d w inner s (t .next) h)
-    (λ p q. most-in i k d w inner s (added t p) base from b h (added-in base from (length s) t p b g q))
+most-in zero e d w inner s t base from b h g = g
+most-in (suc i) e d w inner s t base from b h g =
+    of-stmt (InSum base from (length s)) (Small (t .next) (length s)) (λ j p. tt) (partAt e d w inner s (t .next))
+    (part-in e d w inner s (t .next) h)
+    (λ p q. most-in i e d w inner s (added t p) base from b h (added-in base from (length s) t p b g q))
 
-gathered-in : (k : ℕ) (x : SumRead) (base from len : ℕ) → base < from → InSum base from len x → In base from len (gathered k x)
-gathered-in k (Total t) base from len l h =
-    let w : max (cond (eqb k 11) 4 2) (t .most) ≤ 40 * (t .next - base) =
-    of-cond (λ n. max n (t .most) ≤ 40 * (t .next - base)) (eqb k 11) (omega (arith, l, h .reached, h .most))
-    (omega (arith, l, h .reached, h .most)) in
-    (h .reached, h .inside, w, omega (arith, l, h .reached, h .live))
-gathered-in k (NoSum j p) base from len l h = tt
+gathered-in : (e : Head) (x : SumRead) (base from len : ℕ) → base < from → InSum base from len x → In base from len (gathered e x)
+gathered-in e (Total t) base from len l h = (h .reached, h .inside, words e, omega (arith, l, h .reached, h .live))
+  where
+    words : (e : Head) → max (leastWords e) (t .most) ≤ 40 * (t .next - base)
+    words Nothing = omega (arith, l, h .reached, h .most)
+    words Condition = omega (arith, l, h .reached, h .most)
+    words Guard = omega (arith, l, h .reached, h .most)
+gathered-in e (NoSum j p) base from len l h = tt
 
 -- what is counted over the branches of a PAR
 abbrev InBranches : (base from len : ℕ) → BranchesRead → Type 0
@@ -336,33 +360,68 @@ par-in (all b) place base from len l g =
     (g .reached, g .inside, omega (arith, l, g .reached, g .sum), omega (arith, l, g .reached, g .all))
 par-in (stopped k p) place base from len l g = tt
 
--- a count of names, and the statement behind it
-declared-in : (x : Item) (inner : ℕ → ℕ → StmtRead) (place at len : ℕ) → place < at → InItem at len x → Most 32 x
-    → ((c n : ℕ) → Small n len (inner c n)) → Small place len (withItem NoStmt x (λ c n. declaring c (inner c n)))
-declared-in x inner place at len l i m h =
-    of-item (Small place len) (λ y. InItem at len y × Most 32 y) (λ j p. tt) x (i, m) (λ c n f.
-    of-stmt (Small place len) (Small n len) (λ j p. tt) (inner c n) (h c n) (λ p g.
-    let b : place < n = omega (arith, l, f .0) in
-    (omega (arith, b, g .0), g .1, omega (arith, f .1, b, g .0, g .2), omega (arith, b, g .3))))
+-- a count of parts is at most 32, and the place after it is in the table
+abbrev FewOf : Count → Type 0
+FewOf (UpTo m) = m ≤ 32
+FewOf (Fixed n) = n ≤ 32
 
-inside-in : (place k d : ℕ) (w : Names) (inner : Names → ℕ → StmtRead) (uses : Names → ℕ → List ℕ → List ℕ) (s : List ℕ) (at : ℕ)
-    → place < at → at ≤ length s → ((v : Names) (n : ℕ) → Small n (length s) (inner v n))
-    → Small place (length s) (insideAt place k d w inner uses s at)
-inside-in place k d w inner uses s at l u h =
-    of-cond (Small place (length s)) (ltb k 7)
-    (declared-in (betweenAt 1 32 s at) (λ c n. inner (moreNames k c w) n) place at (length s) l (between-in 1 32 s at)
-    (between-most 1 32 s at) (λ c n. h (moreNames k c w) n))
-    (of-cond (Small place (length s)) (eqb k 10) (most 1 at l u)
-    (of-item (Small place (length s)) (InItem at (length s)) (λ j p. tt) (betweenAt 0 (cond (eqb k 8) 16 32) s at)
-    (between-in 0 (cond (eqb k 8) 16 32) s at) (λ c n g.
-    let b : place < n = omega (arith, l, g .0) in
-    of-cond (Small place (length s)) (eqb k 8) (par c n b (g .1)) (most c n b (g .1)))))
+abbrev pub FewIn : Shape → Type 0
+FewIn (Bare x) = Unit {0}
+FewIn (Declares x) = Unit {0}
+FewIn (Side m) = FewOf m
+FewIn (Parts h m) = FewOf m
+
+pub few : (k : StmtKind) → FewIn (shapeOf k)
+few Skip = tt
+few Stop = tt
+few Assign = tt
+few Input = tt
+few Output = tt
+few Var = tt
+few Chan = tt
+few Seq = omega arith
+few Par = omega arith
+few If = omega arith
+few While = omega arith
+few Alt = omega arith
+
+abbrev Behind : (at len : ℕ) → Item → Type 0
+Behind at len (Found c n) = (at ≤ n) × (n ≤ len)
+Behind at len (Refused k p) = Unit {0}
+
+few-most : (m : Count) (s : List ℕ) (at : ℕ) → FewOf m → Most 32 (countAt m s at)
+unfolding countAt
+few-most (UpTo m) s at l = wider (betweenAt 0 m s at) (between-most 0 m s at)
   where
-    most : (c n : ℕ) → place < n → n ≤ length s → Small place (length s) (gathered k (mostFrom c k d w (inner w) s (nothing n)))
-    most c n a b =
-        later-stmt (gathered k (mostFrom c k d w (inner w) s (nothing n))) place (suc place) n (length s) a
-        (gathered-in k (mostFrom c k d w (inner w) s (nothing n)) place n (length s) a
-        (most-in c k d w (inner w) s (nothing n) place n (omega (arith, a)) (h w) (nothing-in place n (length s) b)))
+    wider : (x : Item) → Most m x → Most 32 x
+    wider (Found c n) h = omega (arith, l, h)
+    wider (Refused k p) h = tt
+few-most (Fixed n) s at l = l
+
+count-behind : (m : Count) (s : List ℕ) (at : ℕ) → at ≤ length s → Behind at (length s) (countAt m s at)
+unfolding countAt
+count-behind (UpTo m) s at u = later (betweenAt 0 m s at) (between-in 0 m s at)
+  where
+    later : (x : Item) → InItem at (length s) x → Behind at (length s) x
+    later (Found c n) h = (omega (arith, h .0), h .1)
+    later (Refused k p) h = tt
+count-behind (Fixed n) s at u = (omega arith, u)
+
+pub count-few : {c n : ℕ} (m : Count) (s : List ℕ) (at : ℕ) → FewOf m → countAt m s at ≡ Found c n → c ≤ 32
+count-few m s at l e = rw e at (few-most m s at l)
+
+inside-in : (place : ℕ) (k : StmtKind) (d : ℕ) (w : Names) (inner : Names → ℕ → StmtRead) (uses : Names → ℕ → List ℕ → List ℕ) (s : List ℕ)
+    (at : ℕ)
+    → place < at → at ≤ length s → ((v : Names) (n : ℕ) → Small n (length s) (inner v n))
+    → Small place (length s) (insideOf place k d w inner uses s at)
+inside-in place k d w inner uses s at l u h =
+    of-shape (shapeOf k) (few k)
+  where
+    most : (e : Head) (c n : ℕ) → place < n → n ≤ length s → Small place (length s) (gathered e (mostFrom c e d w (inner w) s (nothing n)))
+    most e c n a b =
+        later-stmt (gathered e (mostFrom c e d w (inner w) s (nothing n))) place (suc place) n (length s) a
+        (gathered-in e (mostFrom c e d w (inner w) s (nothing n)) place n (length s) a
+        (most-in c e d w (inner w) s (nothing n) place n (omega (arith, a)) (h w) (nothing-in place n (length s) b)))
 
     read : ℕ → ℕ → BranchesRead
     read c n = branchesFrom c (inner w) (uses w) (noBranches n)
@@ -374,18 +433,37 @@ inside-in place k d w inner uses s at l u h =
         (par-in (read c n) place place n (length s) a
         (branches-in c (inner w) (uses w) (noBranches n) (suc place) n (length s) a (h w) (nothing-in (suc place) n (length s) b)))
 
+    of-shape : (x : Shape) → FewIn x
+        → Small place (length s)
+        (byShape x (λ y. simpleAt y d w s at)
+        (λ y. withItem NoStmt (betweenAt 1 32 s at) (λ c n. declaring c (inner (moreNames y c w) n)))
+        (λ m. withItem NoStmt (countAt m s at) (λ c n. withBranches NoStmt (read c n) (λ b. parOf place (b .total) (b .bad))))
+        (λ e m. withItem NoStmt (countAt m s at) (λ c n. gathered e (mostFrom c e d w (inner w) s (nothing n)))))
+    of-shape (Bare y) f =
+        later-stmt (simpleAt y d w s at) place (suc place) at (length s) l (simple-in y d w s place at l u)
+    of-shape (Declares y) f =
+        of-item (Small place (length s)) (λ x. Most 32 x × InItem at (length s) x) (λ j p. tt) (betweenAt 1 32 s at)
+        (between-most 1 32 s at, between-in 1 32 s at) (λ c n b.
+        let a : place < n = omega (arith, l, b .1) in
+        of-stmt (Small place (length s)) (Small n (length s)) (λ j p. tt) (inner (moreNames y c w) n) (h (moreNames y c w) n) (λ p g.
+        (omega (arith, a, g .0), g .1, omega (arith, b .0, a, g .0, g .2), omega (arith, a, g .3))))
+    of-shape (Side m) f =
+        of-item (Small place (length s)) (Behind at (length s)) (λ j p. tt) (countAt m s at) (count-behind m s at u)
+        (λ c n b. par c n (omega (arith, l, b .0)) (b .1))
+    of-shape (Parts e m) f =
+        of-item (Small place (length s)) (Behind at (length s)) (λ j p. tt) (countAt m s at) (count-behind m s at u)
+        (λ c n b. most e c n (omega (arith, l, b .0)) (b .1))
+
 pub stmt-small : (d : ℕ) (w : Names) (s : List ℕ) (at : ℕ) → Small at (length s) (stmtAt d w s at)
 unfolding stmtAt
 stmt-small zero w s at = of-item (Small at (length s)) IsRefused (λ k p. tt) (deepAt s at) (deep-refused s at) (λ v n h. absurd h)
 stmt-small (suc d) w s at =
     of-item (Small at (length s)) (InItem at (length s)) (λ j p. tt) (betweenAt 0 11 s at) (between-in 0 11 s at) (λ k n h.
-    of-cond (Small at (length s)) (ltb k 5)
-    (later-stmt (simpleAt k d w s n) at (suc at) n (length s) (h .0) (simple-in k d w s at n (h .0) (h .1)))
-    (inside-in at k d w (λ v i. stmtAt d v s i) (λ v i j. stmtUses d v s i j) s n (h .0) (h .1) (λ v i. stmt-small d v s i)))
+    inside-in at (stmtKind k) d w (λ v i. stmtAt d v s i) (λ v i j. stmtUses d v s i j) s n (h .0) (h .1) (λ v i. stmt-small d v s i))
 
 pub stmt-counts : {p : Part} (d : ℕ) (w : Names) (s : List ℕ) (at : ℕ) → stmtAt d w s at ≡ Stmt p → Small at (length s) (Stmt p)
 stmt-counts d w s at e = rw e at (stmt-small d w s at)
 
-pub part-counts : {p : Part} (k d : ℕ) (w : Names) (s : List ℕ) (at : ℕ) → partIn k d w s at ≡ Stmt p → Small at (length s) (Stmt p)
+pub part-counts : {p : Part} (h : Head) (d : ℕ) (w : Names) (s : List ℕ) (at : ℕ) → partIn h d w s at ≡ Stmt p → Small at (length s) (Stmt p)
 unfolding partIn
-part-counts k d w s at e = rw e at (part-in k d w (λ i. stmtAt d w s i) s at (λ i. stmt-small d w s i))
+part-counts h d w s at e = rw e at (part-in h d w (λ i. stmtAt d w s i) s at (λ i. stmt-small d w s i))

@@ -1,9 +1,8 @@
 -- Statements as the reader answers them, by places of the table. What ends in `Uses` or `Use` has the sets of names (02, order 3) behind
 -- what is read there, by those before it; a refusal leaves them as they are by then. The check of a PAR sees the sets of its branches.
-use Prim.Native.Nat.{ℕ, zero, suc, _+_, _-_, _*_, _≤_, max}
+use Prim.Native.Nat.{ℕ, zero, suc, _+_, _*_, _≤_, max}
 use mathlib.Core.Bool.{Bool, false, cond, _||_}
 use mathlib.Core.List.{List}
-use lib.Dec.{ltb, eqb}
 use Rattle.numbers.specs.Items.{betweenAt, nameAt, deepAt, withItem}
 use Rattle.table.specs.Exprs.{exprAt, withExpr, kept, exprUses}
 use Rattle.table.specs.Uses.{inputsSet, outputsSet, noNames, markAt, changeAt, leaveAt, clashing, merged}
@@ -15,14 +14,20 @@ use Rattle.table.specs.declared.stmt.Part.{Part}
 use Rattle.table.specs.declared.stmt.StmtRead.{StmtRead}
 use Rattle.table.specs.declared.stmt.StmtRead.the-variants.{Stmt, Refused as NoStmt}
 use Rattle.table.specs.declared.stmt.HeadRead.{HeadRead}
-use Rattle.table.specs.declared.stmt.HeadRead.the-variants.{Head, Refused as NoHead}
+use Rattle.table.specs.declared.stmt.HeadRead.the-variants.{Head as Before, Refused as NoHead}
 use Rattle.table.specs.declared.stmt.Sum.{Sum}
 use Rattle.table.specs.declared.stmt.SumRead.{SumRead}
 use Rattle.table.specs.declared.stmt.SumRead.the-variants.{Sum as Total, Refused as NoSum}
 use Rattle.model.specs.Counts.{guardWords}
-use Rattle.model.specs.Limits.{nameLimit, partLimit, branchLimit}
-use Rattle.numbers.specs.Kinds.{assignKind, inputKind, outputKind, varKind, seqKind, parKind, ifKind, whileKind, altKind, lastStatement}
-use Rattle.numbers.specs.Kinds.{inputGuardKind, lastGuard}
+use Rattle.model.specs.Limits.{nameLimit}
+use Rattle.model.specs.declared.kinds.StmtKind.{StmtKind}
+use Rattle.numbers.specs.Kinds.{lastStatement, stmtKind, lastGuard, guardKind, byGuard, byHead, byDeclared, byShape, shapeOf, countAt}
+use Rattle.numbers.specs.declared.kinds.Simple.{Simple}
+use Rattle.numbers.specs.declared.kinds.Simple.the-variants.{Skip, Stop, Assign, Input, Output}
+use Rattle.numbers.specs.declared.kinds.Declared.{Declared}
+use Rattle.numbers.specs.declared.kinds.Head.{Head}
+use Rattle.table.specs.declared.stmt.Role.{Role}
+use Rattle.table.specs.declared.stmt.Role.the-variants.{Value as ForValue, Output as ForOutput, Guard as ForGuard}
 
 abbrev pub firstOf : First → First → First
 firstOf Nowhere o = o
@@ -30,7 +35,7 @@ firstOf (At p) o = At p
 
 -- what follows a head, and what follows a statement; `refuse` answers a refusal
 abbrev pub withHead : {R : Type 0} → (refuse : ℕ → ℕ → R) → HeadRead → (ℕ → ℕ → R) → R
-withHead refuse (Head n a) f = f n a
+withHead refuse (Before n a) f = f n a
 withHead refuse (NoHead k p) f = refuse k p
 
 abbrev pub withStmt : {R : Type 0} → (refuse : ℕ → ℕ → R) → StmtRead → (Part → R) → R
@@ -38,12 +43,14 @@ withStmt refuse (Stmt p) f = f p
 withStmt refuse (NoStmt k p) f = refuse k p
 
 -- 02, order 2: the words that a statement asks for, by the stored values of an expression in it
-unfoldable pub asked : (kind stored : ℕ) → ℕ
-asked k t = cond (eqb k outputKind) (t + 3) (cond (ltb k altKind) (t + 2) (guardWords t))
+unfoldable pub asked : Role → (stored : ℕ) → ℕ
+asked ForValue t = t + 2
+asked ForOutput t = t + 3
+asked ForGuard t = guardWords t
 
 -- an expression of a statement that stands in no other
-unfoldable pub wholeAt : (kind depth variables : ℕ) → List ℕ → (at : ℕ) → HeadRead
-wholeAt k d vs s at = withExpr NoHead (exprAt d vs s at) (λ e. Head (e .next) (asked k (e .stored)))
+unfoldable pub wholeAt : Role → (depth variables : ℕ) → List ℕ → (at : ℕ) → HeadRead
+wholeAt r d vs s at = withExpr NoHead (exprAt d vs s at) (λ e. Before (e .next) (asked r (e .stored)))
 
 abbrev pub variableAt : Names → List ℕ → ℕ → Item
 variableAt w s at = nameAt (w .variables) 0 0 s at
@@ -58,50 +65,50 @@ abbrev pub leaf : (next words : ℕ) → StmtRead
 leaf n words = Stmt (record { next = n; words = words; processes = 1; clash = Nowhere })
 
 -- an expression as the end of a statement without statements inside, which needs at least so many words
-unfoldable pub valueAt : (kind least depth variables : ℕ) → List ℕ → (at : ℕ) → StmtRead
-valueAt k least d vs s at = withHead NoStmt (wholeAt k d vs s at) (λ m a. leaf m (max least a))
+unfoldable pub valueAt : Role → (least depth variables : ℕ) → List ℕ → (at : ℕ) → StmtRead
+valueAt r least d vs s at = withHead NoStmt (wholeAt r d vs s at) (λ m a. leaf m (max least a))
 
 -- a channel to input from and a variable, behind what has been read
 unfoldable pub takenAt : Names → List ℕ → (at words : ℕ) → HeadRead
-takenAt w s at a = withItem NoHead (inputAt w s at) (λ c n. withItem NoHead (variableAt w s n) (λ x m. Head m a))
+takenAt w s at a = withItem NoHead (inputAt w s at) (λ c n. withItem NoHead (variableAt w s n) (λ x m. Before m a))
 
 unfoldable pub takenUses : Names → List ℕ → (at : ℕ) → List ℕ → List ℕ
 takenUses w s at l =
     withItem (kept l) (inputAt w s at) (λ c n. withItem (kept l) (variableAt w s n) (λ x m. changeAt x (markAt inputsSet c l)))
 
--- the kinds before VAR, whose expressions have `depth` left
-unfoldable pub simpleAt : (kind depth : ℕ) → Names → List ℕ → (at : ℕ) → StmtRead
-simpleAt k d w s at =
-    cond (ltb k assignKind) (leaf at 2)
-    (cond (eqb k assignKind) (withItem NoStmt (variableAt w s at) (λ x n. valueAt assignKind 2 d (w .variables) s n))
-    (cond (eqb k inputKind) (withHead NoStmt (takenAt w s at 3) (λ m a. leaf m a))
-    (withItem NoStmt (outputAt w s at) (λ c n. valueAt outputKind 4 d (w .variables) s n))))
+-- what follows the kind of a statement without statements inside, whose expressions have `depth` left
+unfoldable pub simpleAt : Simple → (depth : ℕ) → Names → List ℕ → (at : ℕ) → StmtRead
+simpleAt Skip d w s at = leaf at 2
+simpleAt Stop d w s at = leaf at 2
+simpleAt Assign d w s at = withItem NoStmt (variableAt w s at) (λ x n. valueAt ForValue 2 d (w .variables) s n)
+simpleAt Input d w s at = withHead NoStmt (takenAt w s at 3) (λ m a. leaf m a)
+simpleAt Output d w s at = withItem NoStmt (outputAt w s at) (λ c n. valueAt ForOutput 4 d (w .variables) s n)
 
-unfoldable pub simpleUses : (kind depth : ℕ) → Names → List ℕ → (at : ℕ) → List ℕ → List ℕ
-simpleUses k d w s at l =
-    cond (ltb k assignKind) l
-    (cond (eqb k assignKind) (withItem (kept l) (variableAt w s at) (λ x n. exprUses d (w .variables) s n (changeAt x l)))
-    (cond (eqb k inputKind) (takenUses w s at l)
-    (withItem (kept l) (outputAt w s at) (λ c n. exprUses d (w .variables) s n (markAt outputsSet c l)))))
+unfoldable pub simpleUses : Simple → (depth : ℕ) → Names → List ℕ → (at : ℕ) → List ℕ → List ℕ
+simpleUses Skip d w s at l = l
+simpleUses Stop d w s at l = l
+simpleUses Assign d w s at l = withItem (kept l) (variableAt w s at) (λ x n. exprUses d (w .variables) s n (changeAt x l))
+simpleUses Input d w s at l = takenUses w s at l
+simpleUses Output d w s at l = withItem (kept l) (outputAt w s at) (λ c n. exprUses d (w .variables) s n (markAt outputsSet c l))
 
 -- a guard: its kind, its condition, and if it waits for input its channel and its variable
 unfoldable pub guardAt : (depth : ℕ) → Names → List ℕ → (at : ℕ) → HeadRead
 guardAt d w s at =
     withItem NoHead (betweenAt 0 lastGuard s at) (λ g n.
-    withHead NoHead (wholeAt altKind d (w .variables) s n) (λ m a. cond (eqb g inputGuardKind) (takenAt w s m a) (Head m a)))
+    withHead NoHead (wholeAt ForGuard d (w .variables) s n) (λ m a. byGuard (guardKind g) (takenAt w s m a) (Before m a)))
 
 unfoldable pub guardUses : (depth : ℕ) → Names → List ℕ → (at : ℕ) → List ℕ → List ℕ
 guardUses d w s at l =
     withItem (kept l) (betweenAt 0 lastGuard s at) (λ g n.
     let half = exprUses d (w .variables) s n l in
-    withHead (kept half) (wholeAt altKind d (w .variables) s n) (λ m a. cond (eqb g inputGuardKind) (takenUses w s m half) half))
+    withHead (kept half) (wholeAt ForGuard d (w .variables) s n) (λ m a. byGuard (guardKind g) (takenUses w s m half) half))
 
--- what stands before the statement of a part: nothing in SEQ and PAR, a condition in IF and WHILE, a guard in ALT
-unfoldable pub headAt : (kind depth : ℕ) → Names → List ℕ → (at : ℕ) → HeadRead
-headAt k d w s at = cond (ltb k ifKind) (Head at 0) (cond (ltb k altKind) (wholeAt k d (w .variables) s at) (guardAt d w s at))
+-- what stands before the statement of a part
+unfoldable pub headAt : Head → (depth : ℕ) → Names → List ℕ → (at : ℕ) → HeadRead
+headAt h d w s at = byHead h (Before at 0) (wholeAt ForValue d (w .variables) s at) (guardAt d w s at)
 
-unfoldable pub headUses : (kind depth : ℕ) → Names → List ℕ → (at : ℕ) → List ℕ → List ℕ
-headUses k d w s at l = cond (ltb k ifKind) l (cond (ltb k altKind) (exprUses d (w .variables) s at l) (guardUses d w s at l))
+unfoldable pub headUses : Head → (depth : ℕ) → Names → List ℕ → (at : ℕ) → List ℕ → List ℕ
+headUses h d w s at l = byHead h l (exprUses d (w .variables) s at l) (guardUses d w s at l)
 
 -- a statement behind a head that asks for so many words
 abbrev pub behind : (words : ℕ) → Part → Part
@@ -122,37 +129,41 @@ added t p =
     }
 
 -- one part: its head, then its statement
-unfoldable pub partAt : (kind depth : ℕ) → Names → (ℕ → StmtRead) → List ℕ → (at : ℕ) → StmtRead
-partAt k d w inner s at = withHead NoStmt (headAt k d w s at) (λ n a. withStmt NoStmt (inner n) (λ p. Stmt (behind a p)))
+unfoldable pub partAt : Head → (depth : ℕ) → Names → (ℕ → StmtRead) → List ℕ → (at : ℕ) → StmtRead
+partAt h d w inner s at = withHead NoStmt (headAt h d w s at) (λ n a. withStmt NoStmt (inner n) (λ p. Stmt (behind a p)))
 
-unfoldable pub partUses : (kind depth : ℕ) → Names → (ℕ → List ℕ → List ℕ) → List ℕ → (at : ℕ) → List ℕ → List ℕ
-partUses k d w uses s at l =
-    let half = headUses k d w s at l in
-    withHead (kept half) (headAt k d w s at) (λ n a. uses n half)
+unfoldable pub partUses : Head → (depth : ℕ) → Names → (ℕ → List ℕ → List ℕ) → List ℕ → (at : ℕ) → List ℕ → List ℕ
+partUses h d w uses s at l =
+    let half = headUses h d w s at l in
+    withHead (kept half) (headAt h d w s at) (λ n a. uses n half)
 
 -- so many parts, after some
-unfoldable pub mostFrom : (left kind depth : ℕ) → Names → (ℕ → StmtRead) → List ℕ → Sum → SumRead
-mostFrom zero k d w inner s t = Total t
-mostFrom (suc i) k d w inner s t = withStmt NoSum (partAt k d w inner s (t .next)) (λ p. mostFrom i k d w inner s (added t p))
+unfoldable pub mostFrom : (left : ℕ) → Head → (depth : ℕ) → Names → (ℕ → StmtRead) → List ℕ → Sum → SumRead
+mostFrom zero h d w inner s t = Total t
+mostFrom (suc i) h d w inner s t = withStmt NoSum (partAt h d w inner s (t .next)) (λ p. mostFrom i h d w inner s (added t p))
 
 -- so many parts from a place on
-unfoldable pub mostUse : (left kind depth : ℕ) → Names → (ℕ → StmtRead) → (ℕ → List ℕ → List ℕ) → List ℕ → (at : ℕ) → List ℕ → List ℕ
-mostUse zero k d w inner uses s at l = l
-mostUse (suc i) k d w inner uses s at l =
-    let half = partUses k d w uses s at l in
-    withStmt (kept half) (partAt k d w inner s at) (λ p. mostUse i k d w inner uses s (p .next) half)
+unfoldable pub mostUse : (left : ℕ) → Head → (depth : ℕ) → Names → (ℕ → StmtRead) → (ℕ → List ℕ → List ℕ) → List ℕ → (at : ℕ) → List ℕ → List ℕ
+mostUse zero h d w inner uses s at l = l
+mostUse (suc i) h d w inner uses s at l =
+    let half = partUses h d w uses s at l in
+    withStmt (kept half) (partAt h d w inner s at) (λ p. mostUse i h d w inner uses s (p .next) half)
 
--- what is counted of a SEQ, an IF, a WHILE (at least 2 words) or an ALT (at least 4)
-abbrev pub gathered : (kind : ℕ) → SumRead → StmtRead
-gathered k (Total t) =
+-- the least words of a statement of parts. 01: SEQ, IF, WHILE at least 2; ALT at least 4
+abbrev pub leastWords : Head → ℕ
+leastWords h = byHead h 2 2 4
+
+-- what is counted of it
+abbrev pub gathered : Head → SumRead → StmtRead
+gathered h (Total t) =
     Stmt
     (record {
       next = t .next;
-      words = max (cond (eqb k altKind) 4 2) (t .most);
+      words = max (leastWords h) (t .most);
       processes = max 1 (t .live);
       clash = t .clash;
     })
-gathered k (NoSum j p) = NoStmt j p
+gathered h (NoSum j p) = NoStmt j p
 
 -- the branches of a PAR so far: what is counted, the sets of all of them, and whether any two clash
 pub record Branches : Type 0 where
@@ -195,11 +206,11 @@ parOf at t bad =
     })
 
 -- so many more names
-abbrev pub moreNames : (kind count : ℕ) → Names → Names
-moreNames k n w =
+abbrev pub moreNames : Declared → (count : ℕ) → Names → Names
+moreNames x n w =
     record {
-      variables = cond (eqb k varKind) (w .variables + n) (w .variables);
-      channels = cond (eqb k varKind) (w .channels) (w .channels + n);
+      variables = byDeclared x (w .variables + n) (w .variables);
+      channels = byDeclared x (w .channels) (w .channels + n);
       inputs = w .inputs;
       outputs = w .outputs;
     }
@@ -210,27 +221,36 @@ declaring n r =
     withStmt NoStmt r (λ p.
     Stmt (record { next = p .next; words = n + p .words; processes = p .processes; clash = p .clash }))
 
--- what follows a kind from VAR on, with a reader of the statements inside, which have `depth` left, and what they use
-abbrev pub insideAt : (place kind depth : ℕ) → Names → (Names → ℕ → StmtRead) → (Names → ℕ → List ℕ → List ℕ) → List ℕ → (at : ℕ) → StmtRead
-insideAt place k d w inner uses s n =
-    cond (ltb k seqKind) (withItem NoStmt (betweenAt 1 nameLimit s n) (λ c m. declaring c (inner (moreNames k c w) m)))
-    (cond (eqb k whileKind) (gathered k (mostFrom 1 k d w (inner w) s (nothing n)))
-    (withItem NoStmt (betweenAt 0 (cond (eqb k parKind) branchLimit partLimit) s n) (λ c m.
-    cond (eqb k parKind)
-    (withBranches NoStmt (branchesFrom c (inner w) (uses w) (noBranches m)) (λ b. parOf place (b .total) (b .bad)))
-    (gathered k (mostFrom c k d w (inner w) s (nothing m))))))
+-- what follows a kind, by its shape: its count, if one is read, and what is behind that; `refuse` answers a refusal of the count
+abbrev pub behindKind : {R : Type 0} → (refuse : ℕ → ℕ → R) → StmtKind → List ℕ → (at : ℕ) → (simple : Simple → R)
+    → (declares : Declared → ℕ → ℕ → R)
+    → (branches : ℕ → ℕ → R)
+    → (parts : Head → ℕ → ℕ → R)
+    → R
+behindKind refuse k s at simple declares branches parts =
+    byShape (shapeOf k) simple (λ x. withItem refuse (betweenAt 1 nameLimit s at) (declares x))
+    (λ m. withItem refuse (countAt m s at) branches)
+    (λ h m. withItem refuse (countAt m s at) (parts h))
+
+-- the same with a reader of the statements inside, which have `depth` left, and what they use
+abbrev pub insideOf : (place : ℕ) → StmtKind → (depth : ℕ) → Names → (Names → ℕ → StmtRead) → (Names → ℕ → List ℕ → List ℕ) → List ℕ
+    → (at : ℕ)
+    → StmtRead
+insideOf place k d w inner uses s at =
+    behindKind NoStmt k s at (λ x. simpleAt x d w s at)
+    (λ x c n. declaring c (inner (moreNames x c w) n))
+    (λ c n. withBranches NoStmt (branchesFrom c (inner w) (uses w) (noBranches n)) (λ b. parOf place (b .total) (b .bad)))
+    (λ h c n. gathered h (mostFrom c h d w (inner w) s (nothing n)))
 
 -- the sets behind it: a declaration's own names leave them, and a PAR's are those of its branches together
-abbrev pub insideUses : (kind depth : ℕ) → Names → (Names → ℕ → StmtRead) → (Names → ℕ → List ℕ → List ℕ) → List ℕ → (at : ℕ) → List ℕ
+abbrev pub insideUsesOf : StmtKind → (depth : ℕ) → Names → (Names → ℕ → StmtRead) → (Names → ℕ → List ℕ → List ℕ) → List ℕ → (at : ℕ)
     → List ℕ
-insideUses k d w inner uses s n l =
-    cond (ltb k seqKind)
-    (withItem (kept l) (betweenAt 1 nameLimit s n) (λ c m. leaveAt k (w .variables) (w .channels) (uses (moreNames k c w) m l)))
-    (cond (eqb k whileKind) (mostUse 1 k d w (inner w) (uses w) s n l)
-    (withItem (kept l) (betweenAt 0 (cond (eqb k parKind) branchLimit partLimit) s n) (λ c m.
-    cond (eqb k parKind)
-    (withBranches (kept l) (branchesFrom c (inner w) (uses w) (noBranches m)) (λ b. merged 64 l (b .before)))
-    (mostUse c k d w (inner w) (uses w) s m l))))
+    → List ℕ
+insideUsesOf k d w inner uses s at l =
+    behindKind (kept l) k s at (λ x. simpleUses x d w s at l)
+    (λ x c n. leaveAt x (w .variables) (w .channels) (uses (moreNames x c w) n l))
+    (λ c n. withBranches (kept l) (branchesFrom c (inner w) (uses w) (noBranches n)) (λ b. merged 64 l (b .before)))
+    (λ h c n. mostUse c h d w (inner w) (uses w) s n l)
 
 -- a statement, and the sets behind it
 unfoldable mutual
@@ -238,28 +258,32 @@ unfoldable mutual
   stmtAt zero w s at = withItem NoStmt (deepAt s at) (λ v n. leaf n 2)
   stmtAt (suc d) w s at =
       withItem NoStmt (betweenAt 0 lastStatement s at) (λ k n.
-      cond (ltb k varKind) (simpleAt k d w s n)
-      (insideAt at k d w (λ v i. stmtAt d v s i) (λ v i j. stmtUses d v s i j) s n))
+      insideOf at (stmtKind k) d w (λ v i. stmtAt d v s i) (λ v i j. stmtUses d v s i j) s n)
 
   pub stmtUses : (depth : ℕ) → Names → List ℕ → (at : ℕ) → List ℕ → List ℕ
   stmtUses zero w s at l = l
   stmtUses (suc d) w s at l =
       withItem (kept l) (betweenAt 0 lastStatement s at) (λ k n.
-      cond (ltb k varKind) (simpleUses k d w s n l)
-      (insideUses k d w (λ v i. stmtAt d v s i) (λ v i j. stmtUses d v s i j) s n l))
+      insideUsesOf (stmtKind k) d w (λ v i. stmtAt d v s i) (λ v i j. stmtUses d v s i j) s n l)
 
 -- the same by its parts
-unfoldable pub partIn : (kind depth : ℕ) → Names → List ℕ → (at : ℕ) → StmtRead
-partIn k d w s at = partAt k d w (λ i. stmtAt d w s i) s at
+unfoldable pub insideAt : (place : ℕ) → StmtKind → (depth : ℕ) → Names → List ℕ → (at : ℕ) → StmtRead
+insideAt place k d w s at = insideOf place k d w (λ v i. stmtAt d v s i) (λ v i j. stmtUses d v s i j) s at
 
-unfoldable pub partUsesIn : (kind depth : ℕ) → Names → List ℕ → (at : ℕ) → List ℕ → List ℕ
-partUsesIn k d w s at l = partUses k d w (λ i j. stmtUses d w s i j) s at l
+unfoldable pub insideUses : StmtKind → (depth : ℕ) → Names → List ℕ → (at : ℕ) → List ℕ → List ℕ
+insideUses k d w s at l = insideUsesOf k d w (λ v i. stmtAt d v s i) (λ v i j. stmtUses d v s i j) s at l
 
-unfoldable pub mostAt : (kind count depth : ℕ) → Names → List ℕ → (at : ℕ) → StmtRead
-mostAt k c d w s at = gathered k (mostFrom c k d w (λ i. stmtAt d w s i) s (nothing at))
+unfoldable pub partIn : Head → (depth : ℕ) → Names → List ℕ → (at : ℕ) → StmtRead
+partIn h d w s at = partAt h d w (λ i. stmtAt d w s i) s at
 
-unfoldable pub mostUsesAt : (kind count depth : ℕ) → Names → List ℕ → (at : ℕ) → List ℕ → List ℕ
-mostUsesAt k c d w s at l = mostUse c k d w (λ i. stmtAt d w s i) (λ i j. stmtUses d w s i j) s at l
+unfoldable pub partUsesIn : Head → (depth : ℕ) → Names → List ℕ → (at : ℕ) → List ℕ → List ℕ
+partUsesIn h d w s at l = partUses h d w (λ i j. stmtUses d w s i j) s at l
+
+unfoldable pub mostAt : Head → (count depth : ℕ) → Names → List ℕ → (at : ℕ) → StmtRead
+mostAt h c d w s at = gathered h (mostFrom c h d w (λ i. stmtAt d w s i) s (nothing at))
+
+unfoldable pub mostUsesAt : Head → (count depth : ℕ) → Names → List ℕ → (at : ℕ) → List ℕ → List ℕ
+mostUsesAt h c d w s at l = mostUse c h d w (λ i. stmtAt d w s i) (λ i j. stmtUses d w s i j) s at l
 
 unfoldable pub branchesAt : (left depth : ℕ) → Names → List ℕ → Branches → BranchesRead
 branchesAt i d w s b = branchesFrom i (λ j. stmtAt d w s j) (λ j l. stmtUses d w s j l) b
@@ -270,25 +294,11 @@ parAt place c d w s at = withBranches NoStmt (branchesAt c d w s (noBranches at)
 unfoldable pub parUsesAt : (count depth : ℕ) → Names → List ℕ → (at : ℕ) → List ℕ → List ℕ
 parUsesAt c d w s at l = withBranches (kept l) (branchesAt c d w s (noBranches at)) (λ b. merged 64 l (b .before))
 
-unfoldable pub declaredAt : (kind depth : ℕ) → Names → List ℕ → (at : ℕ) → StmtRead
-declaredAt k d w s at = withItem NoStmt (betweenAt 1 nameLimit s at) (λ c m. declaring c (stmtAt (d - 1) (moreNames k c w) s m))
+unfoldable pub declaredAt : Declared → (count depth : ℕ) → Names → List ℕ → (at : ℕ) → StmtRead
+declaredAt x c d w s at = declaring c (stmtAt d (moreNames x c w) s at)
 
-unfoldable pub declaredUses : (kind depth : ℕ) → Names → List ℕ → (at : ℕ) → List ℕ → List ℕ
-declaredUses k d w s at l =
-    withItem (kept l) (betweenAt 1 nameLimit s at) (λ c m.
-    leaveAt k (w .variables) (w .channels) (stmtUses (d - 1) (moreNames k c w) s m l))
-
-unfoldable pub partsAt : (place kind depth : ℕ) → Names → List ℕ → (at : ℕ) → StmtRead
-partsAt place k d w s n =
-    cond (eqb k whileKind) (mostAt k 1 (d - 1) w s n)
-    (withItem NoStmt (betweenAt 0 (cond (eqb k parKind) branchLimit partLimit) s n) (λ c m.
-    cond (eqb k parKind) (parAt place c (d - 1) w s m) (mostAt k c (d - 1) w s m)))
-
-unfoldable pub partsUse : (kind depth : ℕ) → Names → List ℕ → (at : ℕ) → List ℕ → List ℕ
-partsUse k d w s n l =
-    cond (eqb k whileKind) (mostUsesAt k 1 (d - 1) w s n l)
-    (withItem (kept l) (betweenAt 0 (cond (eqb k parKind) branchLimit partLimit) s n) (λ c m.
-    cond (eqb k parKind) (parUsesAt c (d - 1) w s m l) (mostUsesAt k c (d - 1) w s m l)))
+unfoldable pub declaredUses : Declared → (count depth : ℕ) → Names → List ℕ → (at : ℕ) → List ℕ → List ℕ
+declaredUses x c d w s at l = leaveAt x (w .variables) (w .channels) (stmtUses d (moreNames x c w) s at l)
 
 -- what the readers of names ask: the sets have a place for each name
 abbrev pub Numbered : Names → Type 0

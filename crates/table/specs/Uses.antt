@@ -4,9 +4,10 @@ use Prim.Native.Nat.{ℕ, zero, suc, _+_, _/_, _%_, _^_}
 use mathlib.Core.Bool.{Bool, cond}
 use mathlib.Core.List.{List}
 use lib.ListN.{getD, set, replicate}
-use lib.Dec.{ltb, eqb}
+use lib.Dec.{ltb}
 use lib.Bits.{bitAnd, bitOr}
-use Rattle.numbers.specs.Kinds.{varKind}
+use Rattle.numbers.specs.Kinds.{byDeclared}
+use Rattle.numbers.specs.declared.kinds.Declared.{Declared}
 
 -- the first words of the sets: variables assigned or input; variables read, assigned or input; channels input from; channels output to
 abbrev pub changesSet : ℕ
@@ -40,9 +41,9 @@ forgetAt b n l =
     cond (ltb (n / 64) 15) (set kept (b + n / 64 + 1) 0) kept
 
 -- the names of a VAR or CHAN leave the sets behind it, where so many were in scope before
-unfoldable pub leaveAt : (kind variables channels : ℕ) → List ℕ → List ℕ
-leaveAt k vs cs l =
-    cond (eqb k varKind) (forgetAt usesSet vs (forgetAt changesSet vs l)) (forgetAt outputsSet cs (forgetAt inputsSet cs l))
+unfoldable pub leaveAt : Declared → (variables channels : ℕ) → List ℕ → List ℕ
+leaveAt x vs cs l =
+    byDeclared x (forgetAt usesSet vs (forgetAt changesSet vs l)) (forgetAt outputsSet cs (forgetAt inputsSet cs l))
 
 -- the names of one word that two branches may not have together: one changes what the other uses, or both input from, or output to, a
 -- channel

@@ -1,10 +1,11 @@
 // Expressions, and the variables that they use.
 ghost use mathlib.Core.Path.{_≡_};
-ghost use Prim.Native.Nat.{_<_, _≤_, max};
+ghost use Prim.Native.Nat.{_+_, _<_, _≤_, max};
 ghost use Rattle.model.specs.Counts.{sidesNeed, orderOf, sidesHold};
-ghost use Rattle.table.specs.Exprs.{single, joined, leafAt, exprAt, sidesAt, leafUses, exprUses, sidesUse, Within};
+ghost use Rattle.table.specs.Exprs.{single, joined, usedAt, exprAt, sidesAt, usedUses, exprUses, sidesUse, Within};
 ghost use Rattle.table.specs.declared.expr.ExprRead.the-variants.{Refused as NoExpr};
 ghost use Rattle.numbers.specs.Items.{withItem};
+use model::kinds::ExprKind;
 
 // What is counted of an expression: the place after it, the registers that it needs and the values that it stores (document 02, order 2).
 pub struct Term {
@@ -24,15 +25,12 @@ pub fn larger(a: u64, b: u64) -> u64
     if a < b { b } else { a }
 }
 
-// A constant or a variable.
-fn read_leaf(table: &[u8], at: usize, kind: u64, variables: u64, sets: &mut [u64; 64]) -> ExprRead
+// A variable, which is used.
+fn read_used(table: &[u8], at: usize, variables: u64, sets: &mut [u64; 64]) -> ExprRead
     requires { ⌜ variables ≤ 1024 ⌝ }
-    ensures said { λ r. ⌜ r ≡ leafAt kind variables (now (table .entry)) at ⌝ }
-    ensures uses { λ r. ⌜ now (sets .exit) ≡ leafUses kind variables (now (table .entry)) at (now (sets .entry)) ⌝ }
+    ensures said { λ r. ⌜ r ≡ usedAt variables (now (table .entry)) at ⌝ }
+    ensures uses { λ r. ⌜ now (sets .exit) ≡ usedUses variables (now (table .entry)) at (now (sets .entry)) ⌝ }
 {
-    if kind == crate::kinds::CONSTANT {
-        return no_expr(numbers::read_between(table, at, 0, 4294967295));
-    }
     match numbers::read_name(table, at, variables, 0, 0) {
         numbers::Item::Item(name, next) => {
             crate::usage::mark(sets, crate::usage::USES, name);
@@ -106,19 +104,28 @@ fn join(left: Term, right: Term) -> ExprRead
     })
 }
 
-// Left and right of an operator.
+// What follows an operator's kind: operator, left, right.
 fn read_sides(table: &[u8], at: usize, depth: u64, variables: u64, sets: &mut [u64; 64]) -> ExprRead
-    requires { ⌜ (0 < depth) × (depth ≤ 32) × (variables ≤ 1024) ⌝ }
+    requires { ⌜ (depth < 32) × (variables ≤ 1024) ⌝ }
     ensures said { λ r. ⌜ r ≡ sidesAt depth variables (now (table .entry)) at ⌝ }
     ensures uses { λ r. ⌜ now (sets .exit) ≡ sidesUse depth variables (now (table .entry)) at (now (sets .entry)) ⌝ }
-    ensures within { λ r. ⌜ Within r depth ⌝ }
+    ensures within { λ r. ⌜ Within r (depth + 1) ⌝ }
 {
-    match read_expr(table, at, depth - 1, variables, sets) {
-        ExprRead::Expr(left) => match read_expr(table, left.next, depth - 1, variables, sets) {
-            ExprRead::Expr(right) => join(left, right),
+    match numbers::read_between(table, at, 0, numbers::kinds::LAST_OPERATOR) {
+        numbers::Item::Item(operator, next) => match read_expr(
+            table,
+            next,
+            depth,
+            variables,
+            sets,
+        ) {
+            ExprRead::Expr(left) => match read_expr(table, left.next, depth, variables, sets) {
+                ExprRead::Expr(right) => join(left, right),
+                ExprRead::Refused(n, p) => ExprRead::Refused(n, p),
+            },
             ExprRead::Refused(n, p) => ExprRead::Refused(n, p),
         },
-        ExprRead::Refused(n, p) => ExprRead::Refused(n, p),
+        numbers::Item::Refused(n, p) => ExprRead::Refused(n, p),
     }
 }
 
@@ -138,25 +145,13 @@ pub fn read_expr(
     if depth == 0 {
         return no_expr(numbers::read_deep(table, at));
     }
-    match numbers::read_between(table, at, 0, crate::kinds::LAST_EXPRESSION) {
-        numbers::Item::Item(kind, next) => {
-            if kind < crate::kinds::NOT {
-                return read_leaf(table, next, kind, variables, sets);
-            }
-            if kind == crate::kinds::NOT {
-                return read_expr(table, next, depth - 1, variables, sets);
-            }
-            match numbers::read_between(table, next, 0, crate::kinds::LAST_OPERATOR) {
-                numbers::Item::Item(operator, after) => read_sides(
-                    table,
-                    after,
-                    depth,
-                    variables,
-                    sets,
-                ),
-                numbers::Item::Refused(n, p) => ExprRead::Refused(n, p),
-            }
-        }
+    match numbers::read_between(table, at, 0, numbers::kinds::LAST_EXPRESSION) {
+        numbers::Item::Item(number, next) => match numbers::kinds::expr_kind(number) {
+            ExprKind::Constant => no_expr(numbers::read_between(table, next, 0, 4294967295)),
+            ExprKind::Variable => read_used(table, next, variables, sets),
+            ExprKind::Not => read_expr(table, next, depth - 1, variables, sets),
+            ExprKind::Binary => read_sides(table, next, depth - 1, variables, sets),
+        },
         numbers::Item::Refused(n, p) => ExprRead::Refused(n, p),
     }
 }

@@ -5,7 +5,6 @@ ghost use Rattle.model.specs.Answers.{refusedReading};
 ghost use Rattle.model.specs.Refusals.{readRefusal};
 
 mod expr;
-mod kinds;
 mod stmt;
 mod table;
 mod usage;

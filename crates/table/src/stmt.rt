@@ -3,15 +3,20 @@ ghost use mathlib.Core.Path.{_≡_};
 ghost use Prim.Native.Nat.{_+_, _<_, _≤_};
 ghost use lib.ListN.{length};
 ghost use Rattle.table.specs.Stmts.{firstOf, leaf, asked, wholeAt, valueAt, takenAt, simpleAt, guardAt, headAt, behind, withStmt};
-ghost use Rattle.table.specs.Stmts.{nothing, added, gathered, parOf, declaring, SmallWords, Numbered, Fits};
-ghost use Rattle.table.specs.Stmts.{partIn, mostAt, parAt, declaredAt, partsAt, stmtAt};
-ghost use Rattle.table.specs.Stmts.{takenUses, simpleUses, guardUses, headUses, partUsesIn, mostUsesAt, parUsesAt, declaredUses};
-ghost use Rattle.table.specs.Stmts.{partsUse, stmtUses};
+ghost use Rattle.table.specs.Stmts.{nothing, added, leastWords, gathered, parOf, moreNames, declaring, SmallWords, Numbered, Fits};
+ghost use Rattle.table.specs.Stmts.{partIn, mostAt, parAt, declaredAt, insideAt, stmtAt, takenUses, simpleUses, guardUses, headUses};
+ghost use Rattle.table.specs.Stmts.{partUsesIn, mostUsesAt, parUsesAt, declaredUses, insideUses, stmtUses};
 ghost use Rattle.table.specs.Exprs.{exprUses};
 ghost use Rattle.table.specs.Sets.{Exact};
 ghost use Rattle.table.specs.declared.stmt.StmtRead.the-variants.{Stmt, Refused as NoStmt};
 ghost use Rattle.table.specs.declared.stmt.SumRead.the-variants.{Sum as Total};
 ghost use Rattle.numbers.specs.Items.{withItem};
+use model::kinds::GuardKind;
+use model::kinds::StmtKind;
+use numbers::kinds::Declared;
+use numbers::kinds::Head;
+use numbers::kinds::Shape;
+use numbers::kinds::Simple;
 
 // How many names are in scope: variables, channels with the outside ones, outside inputs and outputs.
 pub struct Names {
@@ -61,6 +66,13 @@ pub enum SumRead {
     Refused(u32, usize),
 }
 
+// What an expression that stands in no other is: a value or a condition, what is output, or a guard's condition.
+pub enum Role {
+    Value,
+    Output,
+    Guard,
+}
+
 fn earlier(a: First, b: First) -> First
     ensures { λ r. ⌜ r ≡ firstOf a b ⌝ }
 {
@@ -83,34 +95,32 @@ fn leaf_part(next: usize, words: u64) -> StmtRead
 }
 
 // The words that a statement asks for, by the stored values of an expression in it (document 02, order 2).
-fn ask(kind: u64, stored: u64) -> u64
+fn ask(role: Role, stored: u64) -> u64
     requires { ⌜ stored ≤ 32 ⌝ }
-    ensures { λ r. ⌜ r ≡ asked kind stored ⌝ }
+    ensures { λ r. ⌜ r ≡ asked role stored ⌝ }
 {
-    if kind == crate::kinds::OUTPUT {
-        return stored + 3;
+    match role {
+        Role::Value => stored + 2,
+        Role::Output => stored + 3,
+        Role::Guard => { if stored == 0 { 0 } else { stored + 8 } }
     }
-    if kind < crate::kinds::ALT {
-        return stored + 2;
-    }
-    if stored == 0 { 0 } else { stored + 8 }
 }
 
 // An expression of a statement that stands in no other.
 fn read_whole(
     table: &[u8],
     at: usize,
-    kind: u64,
+    role: Role,
     depth: u64,
     variables: u64,
     sets: &mut [u64; 64],
 ) -> HeadRead
     requires { ⌜ (depth ≤ 32) × (variables ≤ 1024) ⌝ }
-    ensures said { λ r. ⌜ r ≡ wholeAt kind depth variables (now (table .entry)) at ⌝ }
+    ensures said { λ r. ⌜ r ≡ wholeAt role depth variables (now (table .entry)) at ⌝ }
     ensures uses { λ r. ⌜ now (sets .exit) ≡ exprUses depth variables (now (table .entry)) at (now (sets .entry)) ⌝ }
 {
     match crate::expr::read_expr(table, at, depth, variables, sets) {
-        crate::expr::ExprRead::Expr(e) => HeadRead::Head(e.next, ask(kind, e.stored)),
+        crate::expr::ExprRead::Expr(e) => HeadRead::Head(e.next, ask(role, e.stored)),
         crate::expr::ExprRead::Refused(n, p) => HeadRead::Refused(n, p),
     }
 }
@@ -119,17 +129,17 @@ fn read_whole(
 fn read_value(
     table: &[u8],
     at: usize,
-    kind: u64,
+    role: Role,
     least: u64,
     depth: u64,
     variables: u64,
     sets: &mut [u64; 64],
 ) -> StmtRead
     requires { ⌜ (depth ≤ 32) × (variables ≤ 1024) ⌝ }
-    ensures said { λ r. ⌜ r ≡ valueAt kind least depth variables (now (table .entry)) at ⌝ }
+    ensures said { λ r. ⌜ r ≡ valueAt role least depth variables (now (table .entry)) at ⌝ }
     ensures uses { λ r. ⌜ now (sets .exit) ≡ exprUses depth variables (now (table .entry)) at (now (sets .entry)) ⌝ }
 {
-    match read_whole(table, at, kind, depth, variables, sets) {
+    match read_whole(table, at, role, depth, variables, sets) {
         HeadRead::Head(next, words) => leaf_part(next, crate::expr::larger(least, words)),
         HeadRead::Refused(n, p) => StmtRead::Refused(n, p),
     }
@@ -166,45 +176,40 @@ fn read_input(table: &[u8], at: usize, names: Names, words: u64, sets: &mut [u64
     }
 }
 
-// The kinds before VAR: SKIP, STOP, assign, input, output.
+// What follows the kind of a statement without statements inside.
 fn read_simple(
     table: &[u8],
     at: usize,
-    kind: u64,
+    simple: Simple,
     depth: u64,
     names: Names,
     sets: &mut [u64; 64],
 ) -> StmtRead
     requires { ⌜ (depth ≤ 32) × Numbered names ⌝ }
-    ensures said { λ r. ⌜ r ≡ simpleAt kind depth names (now (table .entry)) at ⌝ }
-    ensures uses { λ r. ⌜ now (sets .exit) ≡ simpleUses kind depth names (now (table .entry)) at (now (sets .entry)) ⌝ }
+    ensures said { λ r. ⌜ r ≡ simpleAt simple depth names (now (table .entry)) at ⌝ }
+    ensures uses { λ r. ⌜ now (sets .exit) ≡ simpleUses simple depth names (now (table .entry)) at (now (sets .entry)) ⌝ }
 {
-    if kind < crate::kinds::ASSIGN {
-        return leaf_part(at, 2);
-    }
-    if kind == crate::kinds::ASSIGN {
-        return match numbers::read_name(table, at, names.variables, 0, 0) {
+    match simple {
+        Simple::Skip => leaf_part(at, 2),
+        Simple::Stop => leaf_part(at, 2),
+        Simple::Assign => match numbers::read_name(table, at, names.variables, 0, 0) {
             numbers::Item::Item(target, next) => {
                 crate::usage::change(sets, target);
-                let assign = crate::kinds::ASSIGN;
-                read_value(table, next, assign, 2, depth, names.variables, sets)
+                read_value(table, next, Role::Value, 2, depth, names.variables, sets)
             }
             numbers::Item::Refused(n, p) => StmtRead::Refused(n, p),
-        };
-    }
-    if kind == crate::kinds::INPUT {
-        return match read_input(table, at, names, 3, sets) {
+        },
+        Simple::Input => match read_input(table, at, names, 3, sets) {
             HeadRead::Head(next, words) => leaf_part(next, words),
             HeadRead::Refused(n, p) => StmtRead::Refused(n, p),
-        };
-    }
-    match numbers::read_name(table, at, names.channels, 0, names.inputs) {
-        numbers::Item::Item(channel, next) => {
-            crate::usage::mark(sets, crate::usage::OUTPUTS, channel);
-            let output = crate::kinds::OUTPUT;
-            read_value(table, next, output, 4, depth, names.variables, sets)
-        }
-        numbers::Item::Refused(n, p) => StmtRead::Refused(n, p),
+        },
+        Simple::Output => match numbers::read_name(table, at, names.channels, 0, names.inputs) {
+            numbers::Item::Item(channel, next) => {
+                crate::usage::mark(sets, crate::usage::OUTPUTS, channel);
+                read_value(table, next, Role::Output, 4, depth, names.variables, sets)
+            }
+            numbers::Item::Refused(n, p) => StmtRead::Refused(n, p),
+        },
     }
 }
 
@@ -214,48 +219,43 @@ fn read_guard(table: &[u8], at: usize, depth: u64, names: Names, sets: &mut [u64
     ensures said { λ r. ⌜ r ≡ guardAt depth names (now (table .entry)) at ⌝ }
     ensures uses { λ r. ⌜ now (sets .exit) ≡ guardUses depth names (now (table .entry)) at (now (sets .entry)) ⌝ }
 {
-    match numbers::read_between(table, at, 0, crate::kinds::LAST_GUARD) {
-        numbers::Item::Item(kind, next) => match read_whole(
+    match numbers::read_between(table, at, 0, numbers::kinds::LAST_GUARD) {
+        numbers::Item::Item(number, next) => match read_whole(
             table,
             next,
-            crate::kinds::ALT,
+            Role::Guard,
             depth,
             names.variables,
             sets,
         ) {
-            HeadRead::Head(last, words) => {
-                if kind == crate::kinds::INPUT_GUARD {
-                    read_input(table, last, names, words, sets)
-                } else {
-                    HeadRead::Head(last, words)
-                }
-            }
+            HeadRead::Head(last, words) => match numbers::kinds::guard_kind(number) {
+                GuardKind::Input => read_input(table, last, names, words, sets),
+                GuardKind::Skip => HeadRead::Head(last, words),
+            },
             HeadRead::Refused(n, p) => HeadRead::Refused(n, p),
         },
         numbers::Item::Refused(n, p) => HeadRead::Refused(n, p),
     }
 }
 
-// What stands before the statement of a part: nothing (SEQ, PAR), a condition (IF, WHILE), a guard (ALT).
+// What stands before the statement of a part.
 fn read_head(
     table: &[u8],
     at: usize,
-    kind: u64,
+    head: Head,
     depth: u64,
     names: Names,
     sets: &mut [u64; 64],
 ) -> HeadRead
     requires { ⌜ (depth ≤ 32) × Numbered names ⌝ }
-    ensures said { λ r. ⌜ r ≡ headAt kind depth names (now (table .entry)) at ⌝ }
-    ensures uses { λ r. ⌜ now (sets .exit) ≡ headUses kind depth names (now (table .entry)) at (now (sets .entry)) ⌝ }
+    ensures said { λ r. ⌜ r ≡ headAt head depth names (now (table .entry)) at ⌝ }
+    ensures uses { λ r. ⌜ now (sets .exit) ≡ headUses head depth names (now (table .entry)) at (now (sets .entry)) ⌝ }
 {
-    if kind < crate::kinds::IF {
-        return HeadRead::Head(at, 0);
+    match head {
+        Head::Nothing => HeadRead::Head(at, 0),
+        Head::Condition => read_whole(table, at, Role::Value, depth, names.variables, sets),
+        Head::Guard => read_guard(table, at, depth, names, sets),
     }
-    if kind < crate::kinds::ALT {
-        return read_whole(table, at, kind, depth, names.variables, sets);
-    }
-    read_guard(table, at, depth, names, sets)
 }
 
 // A refusal for the whole statement.
@@ -302,12 +302,22 @@ fn add(sum: Sum, part: Part) -> Sum
     }
 }
 
-// What is counted of a SEQ, an IF, a WHILE or an ALT.
-fn gather(kind: u64, sum: Sum) -> StmtRead
-    ensures { λ r. ⌜ r ≡ gathered kind (Total sum) ⌝ }
+// The least words of a statement of parts.
+fn least_words(head: Head) -> u64
+    ensures { λ r. ⌜ r ≡ leastWords head ⌝ }
 {
-    let least = if kind == crate::kinds::ALT { 4 } else { 2 };
-    let words = crate::expr::larger(least, sum.most);
+    match head {
+        Head::Nothing => 2,
+        Head::Condition => 2,
+        Head::Guard => 4,
+    }
+}
+
+// What is counted of a statement of parts.
+fn gather(head: Head, sum: Sum) -> StmtRead
+    ensures { λ r. ⌜ r ≡ gathered head (Total sum) ⌝ }
+{
+    let words = crate::expr::larger(least_words(head), sum.most);
     let processes = crate::expr::larger(1, sum.live);
     let clash = sum.clash;
     StmtRead::Stmt(Part {
@@ -377,20 +387,20 @@ fn in_scope(count: u64, read: StmtRead) -> StmtRead
     }
 }
 
-// One part of a SEQ, an IF, a WHILE or an ALT: its head, then its statement.
+// One part: its head, then its statement.
 fn read_part(
     table: &[u8],
     at: usize,
-    kind: u64,
+    head: Head,
     depth: u64,
     names: Names,
     sets: &mut [u64; 64],
 ) -> StmtRead
     requires { ⌜ Fits names depth × (names .channels ≤ 1024) × (length (now table) ≤ 16384) ⌝ }
-    ensures said { λ r. ⌜ r ≡ partIn kind depth names (now (table .entry)) at ⌝ }
-    ensures uses { λ r. ⌜ now (sets .exit) ≡ partUsesIn kind depth names (now (table .entry)) at (now (sets .entry)) ⌝ }
+    ensures said { λ r. ⌜ r ≡ partIn head depth names (now (table .entry)) at ⌝ }
+    ensures uses { λ r. ⌜ now (sets .exit) ≡ partUsesIn head depth names (now (table .entry)) at (now (sets .entry)) ⌝ }
 {
-    match read_head(table, at, kind, depth, names, sets) {
+    match read_head(table, at, head, depth, names, sets) {
         HeadRead::Head(next, words) => behind_head(
             words,
             read_stmt(table, next, depth, names, sets),
@@ -399,25 +409,25 @@ fn read_part(
     }
 }
 
-// The parts of a SEQ, an IF, a WHILE or an ALT.
+// So many parts.
 fn read_most(
     table: &[u8],
     at: usize,
-    kind: u64,
+    head: Head,
     count: u64,
     depth: u64,
     names: Names,
     sets: &mut [u64; 64],
 ) -> StmtRead
     requires { ⌜ Fits names depth × (names .channels ≤ 1024) × (length (now table) ≤ 16384) × (count ≤ 32) ⌝ }
-    ensures said { λ r. ⌜ r ≡ mostAt kind count depth names (now (table .entry)) at ⌝ }
-    ensures uses { λ r. ⌜ now (sets .exit) ≡ mostUsesAt kind count depth names (now (table .entry)) at (now (sets .entry)) ⌝ }
+    ensures said { λ r. ⌜ r ≡ mostAt head count depth names (now (table .entry)) at ⌝ }
+    ensures uses { λ r. ⌜ now (sets .exit) ≡ mostUsesAt head count depth names (now (table .entry)) at (now (sets .entry)) ⌝ }
 {
     let mut sum = no_parts(at);
     let mut i: u64 = 0;
     while i < count {
         let from = sum.next;
-        match read_part(table, from, kind, depth, names, sets) {
+        match read_part(table, from, head, depth, names, sets) {
             StmtRead::Stmt(p) => {
                 sum = add(sum, p);
                 i += 1;
@@ -427,7 +437,7 @@ fn read_most(
             }
         }
     }
-    gather(kind, sum)
+    gather(head, sum)
 }
 
 // The branches of the PAR at a place. Each is read once, with sets of its own, and the check sees these alone.
@@ -440,7 +450,7 @@ fn read_par(
     names: Names,
     sets: &mut [u64; 64],
 ) -> StmtRead
-    requires { ⌜ Fits names depth × (names .channels ≤ 1024) × (length (now table) ≤ 16384) × (count ≤ 16) ⌝ }
+    requires { ⌜ Fits names depth × (names .channels ≤ 1024) × (length (now table) ≤ 16384) × (count ≤ 32) ⌝ }
     ensures said { λ r. ⌜ r ≡ parAt place count depth names (now (table .entry)) at ⌝ }
     ensures uses { λ r. ⌜ now (sets .exit) ≡ parUsesAt count depth names (now (table .entry)) at (now (sets .entry)) ⌝ }
 {
@@ -469,66 +479,84 @@ fn read_par(
     close_par(place, sum, bad)
 }
 
-// VAR and CHAN: a count and a statement in which so many more names are in scope.
+// The names in scope with so many more.
+fn more_names(declared: Declared, count: u64, names: Names) -> Names
+    requires { ⌜ (count ≤ 32) × Numbered names ⌝ }
+    ensures { λ r. ⌜ r ≡ moreNames declared count names ⌝ }
+{
+    let mut more = names;
+    match declared {
+        Declared::Variables => {
+            more.variables = names.variables + count;
+        }
+        Declared::Channels => {
+            more.channels = names.channels + count;
+        }
+    }
+    more
+}
+
+// The statement of a VAR or CHAN, in which so many more names are in scope.
 fn read_declaration(
     table: &[u8],
     at: usize,
-    kind: u64,
+    declared: Declared,
+    count: u64,
     depth: u64,
     names: Names,
     sets: &mut [u64; 64],
 ) -> StmtRead
-    requires { ⌜ (0 < depth) × Fits names depth × (length (now table) ≤ 16384) ⌝ }
-    ensures said { λ r. ⌜ r ≡ declaredAt kind depth names (now (table .entry)) at ⌝ }
-    ensures uses { λ r. ⌜ now (sets .exit) ≡ declaredUses kind depth names (now (table .entry)) at (now (sets .entry)) ⌝ }
+    requires { ⌜ Fits names (depth + 1) × (length (now table) ≤ 16384) × (count ≤ 32) ⌝ }
+    ensures said { λ r. ⌜ r ≡ declaredAt declared count depth names (now (table .entry)) at ⌝ }
+    ensures uses { λ r. ⌜ now (sets .exit) ≡ declaredUses declared count depth names (now (table .entry)) at (now (sets .entry)) ⌝ }
 {
-    match numbers::read_between(table, at, 1, model::limits::NAMES) {
-        numbers::Item::Item(count, next) => {
-            let mut more = names;
-            if kind == crate::kinds::VAR {
-                more.variables = names.variables + count;
-            } else {
-                more.channels = names.channels + count;
-            }
-            let read = read_stmt(table, next, depth - 1, more, sets);
-            crate::usage::leave(sets, kind, names.variables, names.channels);
-            in_scope(count, read)
-        }
-        numbers::Item::Refused(n, p) => StmtRead::Refused(n, p),
-    }
+    let more = more_names(declared, count, names);
+    let read = read_stmt(table, at, depth, more, sets);
+    crate::usage::leave(sets, declared, names.variables, names.channels);
+    in_scope(count, read)
 }
 
-// The kinds from SEQ on: a count, which a WHILE does not have, and the parts.
-fn read_parts(
+// What follows the kind of the statement at a place; the statements and expressions inside have `depth` left.
+fn read_inside(
     table: &[u8],
     place: usize,
     at: usize,
-    kind: u64,
+    kind: StmtKind,
     depth: u64,
     names: Names,
     sets: &mut [u64; 64],
 ) -> StmtRead
-    requires { ⌜ (0 < depth) × Fits names depth × (length (now table) ≤ 16384) ⌝ }
-    ensures said { λ r. ⌜ r ≡ partsAt place kind depth names (now (table .entry)) at ⌝ }
-    ensures uses { λ r. ⌜ now (sets .exit) ≡ partsUse kind depth names (now (table .entry)) at (now (sets .entry)) ⌝ }
+    requires { ⌜ Fits names (depth + 1) × (length (now table) ≤ 16384) ⌝ }
+    ensures said { λ r. ⌜ r ≡ insideAt place kind depth names (now (table .entry)) at ⌝ }
+    ensures uses { λ r. ⌜ now (sets .exit) ≡ insideUses kind depth names (now (table .entry)) at (now (sets .entry)) ⌝ }
 {
-    if kind == crate::kinds::WHILE {
-        return read_most(table, at, kind, 1, depth - 1, names, sets);
-    }
-    let most = if kind == crate::kinds::PAR {
-        model::limits::BRANCHES
-    } else {
-        model::limits::PARTS
-    };
-    match numbers::read_between(table, at, 0, most) {
-        numbers::Item::Item(count, next) => {
-            if kind == crate::kinds::PAR {
-                read_par(table, place, next, count, depth - 1, names, sets)
-            } else {
-                read_most(table, next, kind, count, depth - 1, names, sets)
-            }
-        }
-        numbers::Item::Refused(n, p) => StmtRead::Refused(n, p),
+    match numbers::kinds::shape_of(kind) {
+        Shape::Simple(simple) => read_simple(table, at, simple, depth, names, sets),
+        Shape::Declares(declared) => match numbers::read_between(
+            table,
+            at,
+            1,
+            model::limits::NAMES,
+        ) {
+            numbers::Item::Item(n, next) => read_declaration(
+                table,
+                next,
+                declared,
+                n,
+                depth,
+                names,
+                sets,
+            ),
+            numbers::Item::Refused(n, p) => StmtRead::Refused(n, p),
+        },
+        Shape::Branches(count) => match numbers::kinds::read_count(table, at, count) {
+            numbers::Item::Item(n, next) => read_par(table, place, next, n, depth, names, sets),
+            numbers::Item::Refused(n, p) => StmtRead::Refused(n, p),
+        },
+        Shape::Parts(head, count) => match numbers::kinds::read_count(table, at, count) {
+            numbers::Item::Item(n, next) => read_most(table, next, head, n, depth, names, sets),
+            numbers::Item::Refused(n, p) => StmtRead::Refused(n, p),
+        },
     }
 }
 
@@ -548,15 +576,10 @@ pub fn read_stmt(
     if depth == 0 {
         return no_stmt(numbers::read_deep(table, at));
     }
-    match numbers::read_between(table, at, 0, crate::kinds::LAST_STATEMENT) {
-        numbers::Item::Item(kind, next) => {
-            if kind < crate::kinds::VAR {
-                return read_simple(table, next, kind, depth - 1, names, sets);
-            }
-            if kind < crate::kinds::SEQ {
-                return read_declaration(table, next, kind, depth, names, sets);
-            }
-            read_parts(table, at, next, kind, depth, names, sets)
+    match numbers::read_between(table, at, 0, numbers::kinds::LAST_STATEMENT) {
+        numbers::Item::Item(number, next) => {
+            let kind = numbers::kinds::stmt_kind(number);
+            read_inside(table, at, next, kind, depth - 1, names, sets)
         }
         numbers::Item::Refused(n, p) => StmtRead::Refused(n, p),
     }

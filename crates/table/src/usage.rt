@@ -3,6 +3,7 @@
 ghost use mathlib.Core.Path.{_≡_};
 ghost use Prim.Native.Nat.{_<_, _≤_};
 ghost use Rattle.table.specs.Uses.{markAt, changeAt, forgetAt, leaveAt, metAt, clashing, merged};
+use numbers::kinds::Declared;
 
 // The first words of the sets: variables assigned or input, variables read, assigned or input, channels input from, channels output to.
 pub const CHANGES: usize = 0;
@@ -46,16 +47,19 @@ fn forget(sets: &mut [u64; 64], set: usize, names: u64)
 }
 
 // The names of a VAR or CHAN leave the sets behind it, where so many were in scope before.
-pub fn leave(sets: &mut [u64; 64], kind: u64, variables: u64, channels: u64)
+pub fn leave(sets: &mut [u64; 64], declared: Declared, variables: u64, channels: u64)
     requires { ⌜ (variables < 1024) × (channels < 1024) ⌝ }
-    ensures { λ r. ⌜ now (sets .exit) ≡ leaveAt kind variables channels (now (sets .entry)) ⌝ }
+    ensures { λ r. ⌜ now (sets .exit) ≡ leaveAt declared variables channels (now (sets .entry)) ⌝ }
 {
-    if kind == crate::kinds::VAR {
-        forget(sets, CHANGES, variables);
-        forget(sets, USES, variables);
-    } else {
-        forget(sets, INPUTS, channels);
-        forget(sets, OUTPUTS, channels);
+    match declared {
+        Declared::Variables => {
+            forget(sets, CHANGES, variables);
+            forget(sets, USES, variables);
+        }
+        Declared::Channels => {
+            forget(sets, INPUTS, channels);
+            forget(sets, OUTPUTS, channels);
+        }
     }
 }
 

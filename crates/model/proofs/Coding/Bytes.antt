@@ -13,8 +13,8 @@ use native.Mathlib.Decide.{decLt}
 use borrow.Author.Tests.{lt-ltb, le-leb}
 use Rattle.model.specs.Word.{low}
 use Rattle.model.specs.Limits.{sliceLimit}
-use Rattle.model.specs.Instruction.{Function, j, ldlp, ldc, ldl, cj, ajw, eqc, stl, opr, functionCode, functionOf, coded}
-use Rattle.model.specs.Instruction.{pfixCode, nfixCode, Instruction}
+use Rattle.model.specs.Instruction.{Function, j, ldlp, ldc, ldl, cj, ajw, eqc, stl, opr, functionCode, functionOf, coded, pfixCode}
+use Rattle.model.specs.Instruction.{nfixCode, Instruction}
 use Rattle.model.specs.Prefix.{gathered, pfixed, nfixed, Decoded, decode}
 use Rattle.model.specs.Code.{functionIn, operandIn}
 use Rattle.model.specs.Machine.{World, Result, done, withCpu, goto, gathering, counting, next, testPlace}

@@ -6,18 +6,20 @@ use mathlib.Core.List.{List, [], _∷_, _++_}
 use mathlib.Core.Option.{some}
 use lib.ListN.{length, getElem?}
 use Rattle.model.specs.Limits.{wordLimit, branchLimit}
-use Rattle.model.specs.Syntax.{Site, Operator, PLUS, MINUS, TIMES, GT, EQ, AND, OR, XOR, Expr, constant, variable, NOT, binary, Stmt}
-use Rattle.model.specs.Syntax.{SKIP, STOP, assign, input, output, VAR, CHAN, SEQ, PAR, IF, WHILE, ALT, Stmts, noStmt, stmt, Pairs}
-use Rattle.model.specs.Syntax.{noPair, pair, Guard, inputGuard, skipGuard, condition, Guards, noGuard, guard, Program}
+use Rattle.model.specs.Syntax.{Site, Expr, constant, variable, NOT, binary, Stmt, SKIP, STOP, assign, input, output, VAR, CHAN, SEQ}
+use Rattle.model.specs.Syntax.{PAR, IF, WHILE, ALT, Stmts, noStmt, stmt, Pairs, noPair, pair, Guard, inputGuard, skipGuard, condition}
+use Rattle.model.specs.Syntax.{Guards, noGuard, guard, Program}
+use Rattle.model.specs.declared.kinds.Operator.{Operator}
+use Rattle.model.specs.declared.kinds.Operator.the-variants.{Plus as PLUS, Minus as MINUS, Times as TIMES, Gt as GT, Eq as EQ}
+use Rattle.model.specs.declared.kinds.Operator.the-variants.{And as AND, Or as OR, Xor as XOR}
 use Rattle.model.specs.Reader.{Scope, withVariables, withChannels}
 use Rattle.model.specs.Counts.{Order, leftFirst, rightFirst, rightStored, order, sidesHold, temporaries, guardWords, need, mostNeed}
 use Rattle.model.specs.Counts.{sumNeed, pairNeed, guardNeed}
 use Rattle.model.specs.Instruction.{operationCode, Instruction, plain, distance, operation, ldc, mint}
 use Rattle.model.specs.Layout.{base, wordOf}
 use Rattle.model.specs.Scheme.{operatorCode, initialise, sidesCode, wrapped, altWords, wholeSize, howMany, size, sizeAll, sizePar}
-use Rattle.model.specs.Scheme.{sizeEnds, sizePairs, sizeEnable, inputSize, enableCode, disableCode, guardInput}
-use Rattle.model.specs.Scheme.{sizeDisable, sizeBranches, exprCode, wholeCode, guardCode, code, codeAll, codePar, codeStarts}
-use Rattle.model.specs.Scheme.{codeEnds, codePairs}
+use Rattle.model.specs.Scheme.{sizeEnds, sizePairs, sizeEnable, inputSize, enableCode, disableCode, guardInput, sizeDisable}
+use Rattle.model.specs.Scheme.{sizeBranches, exprCode, wholeCode, guardCode, code, codeAll, codePar, codeStarts, codeEnds, codePairs}
 use Rattle.model.specs.Scheme.{codeEnable, codeDisable, codeBranches, scheme}
 use Rattle.model.proofs.Tables.WellFormed.{WellExpr, Well, WellAll, WellPairs, WellGuard, WellGuards, WellProgram, outermost}
 use Rattle.model.proofs.Coding.Sizes.{code-length}

@@ -4,17 +4,18 @@ use native.Mathlib.Omega.{arith}
 use mathlib.Core.Path.{_≡_, refl}
 use mathlib.Core.List.{List}
 use lib.ListN.{length, length-append}
-use Rattle.model.specs.Syntax.{Site, Operator, PLUS, MINUS, TIMES, GT, EQ, AND, OR, XOR, Expr, constant, variable, NOT, binary, Stmt}
-use Rattle.model.specs.Syntax.{SKIP, STOP, assign, input, output, VAR, CHAN, SEQ, PAR, IF, WHILE, ALT, Stmts, noStmt, stmt, Pairs}
-use Rattle.model.specs.Syntax.{noPair, pair, Guard, inputGuard, skipGuard, Guards, noGuard, guard}
+use Rattle.model.specs.Syntax.{Site, Expr, constant, variable, NOT, binary, Stmt, SKIP, STOP, assign, input, output, VAR, CHAN, SEQ}
+use Rattle.model.specs.Syntax.{PAR, IF, WHILE, ALT, Stmts, noStmt, stmt, Pairs, noPair, pair, Guard, inputGuard, skipGuard, Guards}
+use Rattle.model.specs.Syntax.{noGuard, guard}
+use Rattle.model.specs.declared.kinds.Operator.{Operator}
+use Rattle.model.specs.declared.kinds.Operator.the-variants.{Plus as PLUS, Minus as MINUS, Times as TIMES, Gt as GT, Eq as EQ}
+use Rattle.model.specs.declared.kinds.Operator.the-variants.{And as AND, Or as OR, Xor as XOR}
 use Rattle.model.specs.Counts.{Order, leftFirst, rightFirst, rightStored, order, temporaries, need}
 use Rattle.model.specs.Instruction.{Instruction}
 use Rattle.model.specs.Scheme.{operatorCode, operatorSize, initialise, sidesCode, sidesSize, exprSize, wrapped, wrapSize, wholeSize}
-use Rattle.model.specs.Scheme.{altWords, howMany, size, sizeAll, sizePar, sizeEnds, sizePairs}
-use Rattle.model.specs.Scheme.{sizeEnable, sizeDisable, sizeBranches, exprCode, wholeCode, guardCode, code, codeAll, codePar}
-use Rattle.model.specs.Scheme.{codeStarts, codeEnds}
-use Rattle.model.specs.Scheme.{codePairs, codeEnable, codeDisable, codeBranches, enableSize, disableSize, inputSize, enableCode}
-use Rattle.model.specs.Scheme.{disableCode, guardInput}
+use Rattle.model.specs.Scheme.{altWords, howMany, size, sizeAll, sizePar, sizeEnds, sizePairs, sizeEnable, sizeDisable, sizeBranches}
+use Rattle.model.specs.Scheme.{exprCode, wholeCode, guardCode, code, codeAll, codePar, codeStarts, codeEnds, codePairs, codeEnable}
+use Rattle.model.specs.Scheme.{codeDisable, codeBranches, enableSize, disableSize, inputSize, enableCode, disableCode, guardInput}
 
 pub operator-length : (op : Operator) → length (operatorCode op) ≡ operatorSize op
 unfolding operatorCode operatorSize

@@ -11,8 +11,8 @@ use Rattle.model.specs.Syntax.{Site, Stmt, Stmts, Guards}
 use Rattle.model.specs.Layout.{wordOf}
 use Rattle.model.specs.Machine.{World}
 use Rattle.model.specs.Run.{ended, waits}
-use Rattle.model.specs.Occam.{Frame, Process, before, atInput, atAlt, inPar, finished, Branches, framesOf, look, State}
-use Rattle.model.specs.Occam.{Communication, Sender, process, outside, Step, begins, ends, chooses, communicates, receives, Stuck}
+use Rattle.model.specs.Occam.{Frame, Process, before, atInput, atAlt, inPar, finished, Branches, framesOf, look, State, Communication}
+use Rattle.model.specs.Occam.{Sender, process, outside, Step, begins, ends, chooses, communicates, receives, Stuck}
 use Rattle.model.specs.Demand.{liveIn, Live, Agrees}
 use Rattle.model.specs.History.{Moment}
 use Rattle.model.specs.declared.Setup.{Setup}
@@ -21,8 +21,8 @@ use Rattle.model.proofs.Cases.{never}
 use Rattle.model.proofs.Quiet.Ways.{Mem}
 use Rattle.model.proofs.Quiet.Setting.{Setting}
 use Rattle.model.proofs.Quiet.CodeParts.{inside}
-use Rattle.model.proofs.Occam.Paths.{Leaf, l-before, l-input, l-alt, l-finished, leaf-par, Form, leaf, par, form}
-use Rattle.model.proofs.Occam.Paths.{look-in, look-nil, look-append}
+use Rattle.model.proofs.Occam.Paths.{Leaf, l-before, l-input, l-alt, l-finished, leaf-par, Form, leaf, par, form, look-in, look-nil}
+use Rattle.model.proofs.Occam.Paths.{look-append}
 use Rattle.model.proofs.Words.Parts.{Part, the-end, joins}
 use Rattle.model.proofs.Quiet.Marks.{AnyReady}
 use Rattle.model.proofs.Quiet.Arrivals.{cont-live}

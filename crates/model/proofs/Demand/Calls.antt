@@ -18,8 +18,7 @@ use Rattle.model.specs.Run.{After, unchanged, worldOf, shortMemory, run}
 use Rattle.model.specs.Outside.{taking, offered, offerUnless, took, takeUnless, offer, take}
 use Rattle.model.specs.Occam.{State, Communication, Event, offers, takes, Sender, held, nobody}
 use Rattle.model.specs.Demand.{Segment, outside, talkOf}
-use Rattle.model.specs.History.{Call, callRun, callOffer, callTake, Moment, quietly, during, call, history, offerEvent}
-use Rattle.model.specs.History.{takeEvent}
+use Rattle.model.specs.History.{Call, callRun, callOffer, callTake, Moment, quietly, during, call, history, offerEvent, takeEvent}
 use Rattle.model.specs.declared.Machine.{Machine}
 use Rattle.model.specs.declared.Setup.{Setup}
 use Rattle.model.specs.declared.Kept.the-variants.{Nothing as NoFault}

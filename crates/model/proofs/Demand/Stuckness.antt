@@ -11,8 +11,8 @@ use Rattle.model.proofs.Quiet.Ways.{Regs, Mem}
 use Rattle.model.proofs.Quiet.Setting.{Setting}
 use Rattle.model.proofs.Occam.Paths.{look-prefix, prefixed, look-under, under, par-whole}
 use Rattle.model.proofs.Words.Parts.{Part}
-use Rattle.model.proofs.Quiet.Marks.{AnyReady, r-first, r-later, Skips, s-none, s-skip, s-par}
-use Rattle.model.proofs.Quiet.Marks.{Settled, Disabling, AltPoint, pt-enable, pt-wait, pt-disable, pt-choose}
+use Rattle.model.proofs.Quiet.Marks.{AnyReady, r-first, r-later, Skips, s-none, s-skip, s-par, Settled, Disabling, AltPoint}
+use Rattle.model.proofs.Quiet.Marks.{pt-enable, pt-wait, pt-disable, pt-choose}
 use Rattle.model.proofs.Quiet.Arrivals.{Comes, comes}
 use Rattle.model.proofs.Quiet.Onwards.{picks-choice, ready-picks, rest-ready, AltGoes}
 use Rattle.model.proofs.Quiet.PathEnds.{alt-kind}

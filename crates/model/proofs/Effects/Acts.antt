@@ -10,13 +10,13 @@ use borrow.Author.Tests.{le-ltb, le-leb, eq-eqb, ne-eqb}
 use Rattle.model.specs.Word.{low, less, notProcess}
 use Rattle.model.specs.Instruction.{opr, operationCode, operationOf, coded}
 use Rattle.model.specs.Instruction as I
-use Rattle.model.specs.Machine.{World, Result, done, Act, _>>_, withCpu, withOffers, communicate}
-use Rattle.model.specs.Machine.{nameOf, spaceOf, peek, poke, resume, takeFront, release, join, testPlace}
-use Rattle.model.specs.Machine.{stack, goto, work, running, counting, queueing, resumeWord, linkWord, stateWord, isHeld}
-use Rattle.model.specs.Execute.{execute, operate, waitAt, receive, received, inputWord, inputMessage}
-use Rattle.model.specs.Execute.{isAltState, waiting, ready, enabling, noneSelected, notify, deliver, outputWord}
-use Rattle.model.specs.Execute.{jump, startProcess, endProcess, stopProcess, beginAlt, setReady, enableReady, enableChannel}
-use Rattle.model.specs.Execute.{enableSkip, waitAlt, select, disableReady, disableChannel, disableSkip, endAlt}
+use Rattle.model.specs.Machine.{World, Result, done, Act, _>>_, withCpu, withOffers, communicate, nameOf, spaceOf, peek, poke, resume}
+use Rattle.model.specs.Machine.{takeFront, release, join, testPlace, stack, goto, work, running, counting, queueing, resumeWord}
+use Rattle.model.specs.Machine.{linkWord, stateWord, isHeld}
+use Rattle.model.specs.Execute.{execute, operate, waitAt, receive, received, inputWord, inputMessage, isAltState, waiting, ready}
+use Rattle.model.specs.Execute.{enabling, noneSelected, notify, deliver, outputWord, jump, startProcess, endProcess, stopProcess}
+use Rattle.model.specs.Execute.{beginAlt, setReady, enableReady, enableChannel, enableSkip, waitAlt, select, disableReady}
+use Rattle.model.specs.Execute.{disableChannel, disableSkip, endAlt}
 use Rattle.model.proofs.Quiet.Names.{name-back, name-injective}
 use Rattle.model.proofs.Effects.OneWord.{cpuOf, sizeOf, stored, peek-in, poke-in, resume-in}
 

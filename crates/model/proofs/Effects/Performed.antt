@@ -10,7 +10,10 @@ use mathlib.Core.Option.{some}
 use lib.ListN.{length, getD, getElem?, drop, set, length-set}
 use lib.Seq.{drop-length, getD-set-same, getD-set-other}
 use Rattle.model.specs.Word.{low}
-use Rattle.model.specs.Syntax.{Site, Operator, PLUS, MINUS, TIMES, GT, EQ, AND, OR, XOR, Expr, constant, variable, NOT, binary}
+use Rattle.model.specs.Syntax.{Site, Expr, constant, variable, NOT, binary}
+use Rattle.model.specs.declared.kinds.Operator.{Operator}
+use Rattle.model.specs.declared.kinds.Operator.the-variants.{Plus as PLUS, Minus as MINUS, Times as TIMES, Gt as GT, Eq as EQ}
+use Rattle.model.specs.declared.kinds.Operator.the-variants.{And as AND, Or as OR, Xor as XOR}
 use Rattle.model.specs.Usage.{reads}
 use Rattle.model.specs.Counts.{Order, leftFirst, rightFirst, rightStored, order, temporaries}
 use Rattle.model.specs.Instruction as I
@@ -26,8 +29,7 @@ use Rattle.model.proofs.Tables.Needs.{registers-three}
 use Rattle.model.proofs.Words.Values.{FineExpr}
 use Rattle.model.proofs.Quiet.Stretches.{seg-whole}
 use Rattle.model.proofs.Quiet.Ways.{Regs, regsOf, pushing, popping, Mem, upd, upd-same, upd-other, Way, arrived, through, quiet}
-use Rattle.model.proofs.Quiet.Ways.{loads}
-use Rattle.model.proofs.Quiet.Ways.{stores, reloads, jumps, falls}
+use Rattle.model.proofs.Quiet.Ways.{loads, stores, reloads, jumps, falls}
 use Rattle.model.proofs.Quiet.ExprPaths.{Evaluated, evaluates}
 use Rattle.model.proofs.Effects.OneWord.{cpuOf, sizeOf, memOf, stored, exec-ldl, exec-stl}
 

@@ -4,12 +4,11 @@ use native.Mathlib.Omega.{arith}
 use mathlib.Core.Path.{_≡_, refl, ap, _∙_}
 use mathlib.Core.Logic.{_≢_, ⊎-elim}
 use mathlib.Core.Bool.{Bool, true, false}
-use mathlib.Core.List.{List, [], _∷_, _++_, List·Memᴰ, List·Memᴰ·append-cases, List·Memᴰ·eq-of-singleton, List·Memᴰ·not-nil}
-use mathlib.Core.List.{List·Memᴰ·head, List·Memᴰ·tail}
+use mathlib.Core.List.{List, [], _∷_, _++_, List·Memᴰ, List·Memᴰ·append-cases, List·Memᴰ·eq-of-singleton, List·Memᴰ·not-nil, List·Memᴰ·head}
+use mathlib.Core.List.{List·Memᴰ·tail}
 use lib.ListN.{length, set}
 use lib.Seq.{getD-set-same, getD-set-other}
-use Rattle.model.specs.Machine.{World, done, withCpu, withMemory, release, join, running, queueing, resumeWord, linkWord}
-use Rattle.model.specs.Machine.{nameOf}
+use Rattle.model.specs.Machine.{World, done, withCpu, withMemory, release, join, running, queueing, resumeWord, linkWord, nameOf}
 use Rattle.model.specs.declared.Cpu.{Cpu}
 use Rattle.model.proofs.Quiet.Ways.{Mem}
 use Rattle.model.proofs.Effects.OneWord.{cpuOf, sizeOf, memOf, stored, join-empty}

@@ -19,8 +19,7 @@ use Rattle.model.proofs.Words.Parts.{Part, joins}
 use Rattle.model.proofs.Words.FineParts.{outsideNames}
 use Rattle.model.proofs.Quiet.Arrivals.{Sound}
 use Rattle.model.proofs.Invariant.Trees.{some-same, Label, alone, alone-part, alone-parted, Info, Tree, t-leaf, t-par, Forest}
-use Rattle.model.proofs.Invariant.Trees.{f-none, f-live}
-use Rattle.model.proofs.Invariant.Trees.{f-over, labelAt, labelIn}
+use Rattle.model.proofs.Invariant.Trees.{f-none, f-live, f-over, labelAt, labelIn}
 use Rattle.model.proofs.Invariant.Zones.{zoneOf, zone-under}
 use Rattle.model.proofs.Invariant.Kernel.{Loaded, S, root, size, LeafAt, NodeAt, Rest}
 use Rattle.model.proofs.Invariant.Writes.{node, part-small}

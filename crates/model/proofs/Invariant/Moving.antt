@@ -8,12 +8,11 @@ use mathlib.Core.List.{List, [], _∷_, _++_, List·Memᴰ, List·Memᴰ·head, 
 use lib.Dec.{eqb}
 use borrow.Author.Tests.{eq-eqb, ne-eqb, eqb-true, eqb-false}
 use Rattle.model.specs.Syntax.{Site}
-use Rattle.model.specs.Occam.{Frame, Process, before, finished, atOutput, look, State}
+use Rattle.model.specs.Occam.{Frame, Process, before, finished, atOutput, look, State, framesOf}
 use Rattle.model.proofs.Cases.{never, by-bool}
 use Rattle.model.proofs.Quiet.Ways.{Mem}
 use Rattle.model.proofs.Quiet.Setting.{whole}
 use Rattle.model.proofs.Occam.Paths.{Leaf, l-before, l-finished, leaf-par, put-found, same-path}
-use Rattle.model.specs.Occam.{framesOf}
 use Rattle.model.specs.Demand.{liveIn}
 use Rattle.model.proofs.Words.Parts.{Part, Within}
 use Rattle.model.proofs.Quiet.Continuations.{Placed}

@@ -13,13 +13,11 @@ use Rattle.model.specs.Demand.{liveIn}
 use Rattle.model.proofs.Cases.{never}
 use Rattle.model.proofs.Quiet.Ways.{Mem}
 use Rattle.model.proofs.Occam.Paths.{Leaf, l-output, leaf-found, look-put-same, look-put-other, look-after, into, aside}
-use Rattle.model.proofs.Occam.Paths.{leaves-apart}
-use Rattle.model.proofs.Occam.Paths.{same-path, par-after, same-par}
+use Rattle.model.proofs.Occam.Paths.{leaves-apart, same-path, par-after, same-par}
 use Rattle.model.proofs.Words.Parts.{Part, Within}
 use Rattle.model.proofs.Quiet.Marks.{Own}
 use Rattle.model.proofs.Invariant.Trees.{some-same, Label, alone, alone-part, alone-info, alone-parted, Info, Sits, Tree, labelAt}
-use Rattle.model.proofs.Invariant.Trees.{kept}
-use Rattle.model.proofs.Invariant.Trees.{Kept, running}
+use Rattle.model.proofs.Invariant.Trees.{kept, Kept, running}
 use Rattle.model.proofs.Invariant.Zones.{zoneOf}
 use Rattle.model.proofs.Invariant.Stays.{Intact, held-stays}
 use Rattle.model.proofs.Invariant.Kernel.{Loaded, S, root, LeafAt, NodeAt, Owned, owned, Rest, whose, Lined}

@@ -25,16 +25,16 @@ use Rattle.model.proofs.Invariant.Leaves.{member, Unmarked, Held, h-que
 use Rattle.model.proofs.Invariant.Stays.{Intact}
 use Rattle.model.proofs.Effects.OneWord.{cpuOf}
 use Rattle.model.proofs.Effects.Queues.{LinksIn, Apart, apart, released, joined, lastOf, release-queue, released-queue}
-use Rattle.model.proofs.Effects.Queues.{release-queue-none}
-use Rattle.model.proofs.Effects.Queues.{idle-queue, join-queue, joined-queue, apart-snoc, link-injective, last-in}
+use Rattle.model.proofs.Effects.Queues.{release-queue-none, idle-queue, join-queue, joined-queue, apart-snoc, link-injective}
+use Rattle.model.proofs.Effects.Queues.{last-in}
 use Rattle.model.proofs.Invariant.Kernel.{Loaded, S, root, size, LeafAt, Rest, whose, Lined, Real}
 use Rattle.model.proofs.Invariant.Writes.{node, apart-zones, part-small, sits-at, write-own, link}
 use Rattle.model.proofs.Invariant.Puts.{putting, treeThen, here-then, lined-then, rest-then, moved}
 use Rattle.model.proofs.Invariant.Grounds.{small-size, sound-at}
 use Rattle.model.proofs.Invariant.Traces.{Trace, t-none, Moves, moves, skip-moves}
 use Rattle.model.proofs.Invariant.Running.{Only, Nobody, fresh, Now, now-goes, now-alt, Inv, runs, idle}
-use Rattle.model.proofs.Invariant.Moving.{other-w, same-leaf, member-cons, member-snoc, member-head, member-last}
-use Rattle.model.proofs.Invariant.Moving.{settled-silent, skips-silent, settled-leaf}
+use Rattle.model.proofs.Invariant.Moving.{other-w, same-leaf, member-cons, member-snoc, member-head, member-last, settled-silent}
+use Rattle.model.proofs.Invariant.Moving.{skips-silent, settled-leaf}
 use Rattle.model.proofs.Invariant.Reals.{size-is, mirrored, real-state, real-queue, real-memory, links-in}
 
 module _ (L : Loaded) where

@@ -6,8 +6,8 @@ use mathlib.Core.Logic.{_≢_, _⊎_, inl, inr, ⊎-elim}
 use mathlib.Core.Bool.{Bool, cond, not}
 use mathlib.Core.List.{List, List·Memᴰ}
 use lib.Dec.{eqb}
-use Rattle.model.specs.Syntax.{Site, Expr, constant, variable, NOT, binary, Pairs, noPair, pair, Guard, inputGuard}
-use Rattle.model.specs.Syntax.{skipGuard, condition, Guards}
+use Rattle.model.specs.Syntax.{Site, Expr, constant, variable, NOT, binary, Pairs, noPair, pair, Guard, inputGuard, skipGuard}
+use Rattle.model.specs.Syntax.{condition, Guards}
 use Rattle.model.specs.Machine.{resumeWord, linkWord, stateWord, nameOf}
 use Rattle.model.specs.Occam.{Store, eval, isTrue, Frame, Process, firstTrue, deny, operate, State, Sender, Ready, by-input, by-skip}
 use Rattle.model.proofs.Quiet.Ways.{Regs, Mem, way-stable}
@@ -16,12 +16,8 @@ use Rattle.model.proofs.Quiet.Setting.{Setting}
 use Rattle.model.proofs.Words.Parts.{Part, guardRoom, FineWhole, FineInput, FinePairs, FineGuards}
 use Rattle.model.proofs.Quiet.Continuations.{cont-low}
 use Rattle.model.proofs.Quiet.Marks.{Own, own-name, AnyReady, r-first, r-later, Picks, p-first, p-later, Guarded, g-first, g-later}
-use Rattle.model.proofs.Quiet.Marks.{Unready}
-use Rattle.model.proofs.Quiet.Marks.{Noticed, n-none, n-later}
-use Rattle.model.proofs.Quiet.Marks.{Marked}
-use Rattle.model.proofs.Quiet.Marks.{Disabling, Point, pt-stop, pt-assign, pt-var, pt-chan, pt-taken, pt-none, pt-while, pt-in}
-use Rattle.model.proofs.Quiet.Marks.{pt-out}
-use Rattle.model.proofs.Quiet.Marks.{pt-par-place, pt-par-count, pt-end, pt-alt}
+use Rattle.model.proofs.Quiet.Marks.{Unready, Noticed, n-none, n-later, Marked, Disabling, Point, pt-stop, pt-assign, pt-var}
+use Rattle.model.proofs.Quiet.Marks.{pt-chan, pt-taken, pt-none, pt-while, pt-in, pt-out, pt-par-place, pt-par-count, pt-end, pt-alt}
 use Rattle.model.proofs.Quiet.Arrivals.{Goes, Comes, comes}
 use Rattle.model.proofs.Quiet.Onwards.{guarded-fine}
 use Rattle.model.proofs.Invariant.Trees.{Info, Sits}

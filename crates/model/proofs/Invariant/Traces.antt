@@ -5,8 +5,8 @@ use mathlib.Core.Path.{_≡_, refl, ap, subst}
 use mathlib.Core.List.{List, [], _∷_, _++_}
 use mathlib.Core.Option.{some}
 use Rattle.model.specs.Syntax.{SKIP, PAR, noStmt, Stmt}
-use Rattle.model.specs.Occam.{Frame, Process, before, resume, look, put, moved, go, State, Communication, Step, begins}
-use Rattle.model.specs.Occam.{Event, Outside}
+use Rattle.model.specs.Occam.{Frame, Process, before, resume, look, put, moved, go, State, Communication, Step, begins, Event}
+use Rattle.model.specs.Occam.{Outside}
 use Rattle.model.specs.Demand.{step, outside, Segment, Valid, reaches, steps, eventsOf, communications}
 use Rattle.model.proofs.Occam.Paths.{look-put-same, put-put-same, put-found}
 use Rattle.model.proofs.Occam.Live.{most, step-most, outside-most}

@@ -8,13 +8,12 @@ use mathlib.Core.List.{List, [], _∷_, _++_, append-nil}
 use mathlib.Core.Option.{Option, none, some}
 use Rattle.model.specs.Syntax.{Site, Stmt, Stmts, noStmt, stmt}
 use Rattle.model.specs.Counts.{need, sumNeed}
-use Rattle.model.specs.Occam.{Frame, Process, inPar, Branches, noBranch, branch, over, branches}
-use Rattle.model.specs.Occam.{branchAt, setBranch, endBranch, look, put}
+use Rattle.model.specs.Occam.{Frame, Process, inPar, Branches, noBranch, branch, over, branches, branchAt, setBranch, endBranch, look}
+use Rattle.model.specs.Occam.{put}
 use Rattle.model.proofs.Cases.{never}
 use Rattle.model.proofs.Occam.Paths.{Apart as Diverge, here, later, Leaf, l-before, l-input, l-output, l-stop, l-alt, l-finished}
-use Rattle.model.proofs.Occam.Paths.{leaf-par}
-use Rattle.model.proofs.Occam.Paths.{leaf-begin, leaf-ends, put-in}
-use Rattle.model.proofs.Occam.Paths.{under, look-under, stmtAt, Compared, equal, below, above, apart, compare}
+use Rattle.model.proofs.Occam.Paths.{leaf-par, leaf-begin, leaf-ends, put-in, under, look-under, stmtAt, Compared, equal, below}
+use Rattle.model.proofs.Occam.Paths.{above, apart, compare}
 use Rattle.model.proofs.Occam.Live.{leaves, leavesIn}
 use Rattle.model.proofs.Quiet.Setting.{Setting, whole}
 use Rattle.model.proofs.Words.Parts.{need-two, sum-first, need-next, Part, joins, partOf, Apart, Inside, FineBranches, Beside}

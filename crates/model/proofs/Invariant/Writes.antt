@@ -19,8 +19,7 @@ use Rattle.model.proofs.Words.Parts as Parts
 use Rattle.model.proofs.Words.Parts.{Part}
 use Rattle.model.proofs.Quiet.Marks.{Own}
 use Rattle.model.proofs.Invariant.Trees.{some-same, Label, alone, parted, alone-info, alone-parted, Info, Sits, Tree, labelAt}
-use Rattle.model.proofs.Invariant.Trees.{parts-apart}
-use Rattle.model.proofs.Invariant.Trees.{label-sits}
+use Rattle.model.proofs.Invariant.Trees.{parts-apart, label-sits}
 use Rattle.model.proofs.Invariant.Zones.{zoneOf, Distant, zones-distant, zone-under, Differ, names-differ}
 use Rattle.model.proofs.Invariant.Stays.{Intact, held-stays}
 use Rattle.model.proofs.Invariant.Kernel.{Loaded, S, root, LeafAt, NodeAt, Owned, owned, Rest, whose, Lined}

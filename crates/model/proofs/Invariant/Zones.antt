@@ -16,8 +16,7 @@ use Rattle.model.proofs.Occam.Paths.{same-path}
 use Rattle.model.proofs.Words.Parts.{Part, Apart, Inside, FineBranches, Beside}
 use Rattle.model.proofs.Quiet.Continuations.{Scoped, scoped-up, Placed}
 use Rattle.model.proofs.Invariant.Trees.{some-same, Label, alone, parted, Tree, t-leaf, t-par, Forest, f-none, f-live, f-over}
-use Rattle.model.proofs.Invariant.Trees.{labelAt}
-use Rattle.model.proofs.Invariant.Trees.{labelIn}
+use Rattle.model.proofs.Invariant.Trees.{labelAt, labelIn}
 
 -- the words from lo up to hi, and the names in scope
 pub record Zone : Type 0 where

@@ -4,8 +4,7 @@ use mathlib.Core.Path.{_≡_, refl}
 use mathlib.Core.Bool.{Bool, true, false, cond}
 use lib.Dec.{ltb, leb, eqb}
 use Rattle.model.specs.Machine.{World, Result, done, faults, Act, next, _>>=_, _>>_, return, setRegisters, memorySize, peek, poke}
-use Rattle.model.specs.Machine.{spaceOf}
-use Rattle.model.specs.Machine.{testPlace, queueing, resumeWord, linkWord, resume, takeFront, join}
+use Rattle.model.specs.Machine.{spaceOf, testPlace, queueing, resumeWord, linkWord, resume, takeFront, join}
 use Rattle.model.specs.declared.Cpu.{Cpu}
 use Rattle.model.proofs.Cases.{by-bool, of-cond}
 

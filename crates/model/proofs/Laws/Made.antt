@@ -6,10 +6,10 @@ use mathlib.Core.Bool.{Bool, cond}
 use mathlib.Core.List.{List}
 use mathlib.Core.Option.{Option, none, some}
 use Rattle.model.specs.Instruction.{Operation, rev, endp, diff, «in», prod, gt, startp, outword, stopp, ldpi, disc, diss, xor, mint}
-use Rattle.model.specs.Instruction.{alt, altwt, altend, and, enbc, enbs, or, sum, operationOf}
-use Rattle.model.specs.Instruction.{Function, j, ldlp, ldc, ldl, cj, ajw, eqc, stl, opr, functionOf}
-use Rattle.model.specs.Machine.{Act, _>>=_, _>>_, return, fault, registers, setRegisters, setup, communicate}
-use Rattle.model.specs.Machine.{peek, poke, testPlace, release, join}
+use Rattle.model.specs.Instruction.{alt, altwt, altend, and, enbc, enbs, or, sum, operationOf, Function, j, ldlp, ldc, ldl, cj, ajw}
+use Rattle.model.specs.Instruction.{eqc, stl, opr, functionOf}
+use Rattle.model.specs.Machine.{Act, _>>=_, _>>_, return, fault, registers, setRegisters, setup, communicate, peek, poke, testPlace}
+use Rattle.model.specs.Machine.{release, join}
 use Rattle.model.specs.Execute.{jump, loadLocal, storeLocal, conditionalJump, startProcess, endProcess, stopProcess, waitAt}
 use Rattle.model.specs.Execute.{dropOffer, receive, received, heldAt, inputWord, inputMessage, notify, deliver, outputWord, beginAlt}
 use Rattle.model.specs.Execute.{setReady, enableReady, enableChannel, enableSkip, waitAlt, select, disableReady, disableChannel}

@@ -14,8 +14,8 @@ use Rattle.model.specs.Accept.{answerOf}
 use Rattle.model.specs.Code.{Compilation, compiled, refused, compiledAnswer}
 use Rattle.model.specs.Run.{Finish, shortMemory, worldOf, keptOrRun, start, run}
 use Rattle.model.specs.Outside.{offering, offerUnless, offer, taking, takeUnless, take}
-use Rattle.model.specs.Refusals.{readRefusal, compileRefusal, startRefusal, keptOr, ranInto, cameTo, runRefusal}
-use Rattle.model.specs.Refusals.{offerRefusal, takeRefusal}
+use Rattle.model.specs.Refusals.{readRefusal, compileRefusal, startRefusal, keptOr, ranInto, cameTo, runRefusal, offerRefusal}
+use Rattle.model.specs.Refusals.{takeRefusal}
 use Rattle.model.specs.declared.Machine.{Machine}
 use Rattle.model.specs.declared.Kept.{Kept}
 use Rattle.model.specs.declared.Kept.the-variants.{Nothing, Fault as KeptFault}

@@ -17,8 +17,8 @@ use Rattle.model.specs.declared.Cpu.{Cpu}
 use Rattle.model.specs.declared.FaultKind.{FaultKind}
 use Rattle.model.proofs.Cases.{by-bool, of-cond}
 use Rattle.model.proofs.Laws.Made.{Made, binds, reads, sets, returns, fails, reads-setup, communicates, drops, asks, holds, outputs}
-use Rattle.model.proofs.Laws.Made.{peeks, pokes, tests, releases, joins}
-use Rattle.model.proofs.Laws.Made.{of-byte as made-byte, of-offering as made-offering, of-taking as made-taking}
+use Rattle.model.proofs.Laws.Made.{peeks, pokes, tests, releases, joins, of-byte as made-byte, of-offering as made-offering}
+use Rattle.model.proofs.Laws.Made.{of-taking as made-taking}
 
 -- a world with the communications t before its own
 abbrev pub behind : List Talk → World → World

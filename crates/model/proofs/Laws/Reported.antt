@@ -21,12 +21,10 @@ use Rattle.model.specs.Execute.{receive, received}
 use Rattle.model.specs.Run.{land, byte, ended, waits, runFrom, shortMemory, After, unchanged, worldOf, finished, fresh, blank}
 use Rattle.model.specs.Run.{cleared, start}
 use Rattle.model.specs.Outside.{waking, outputWordOf, looking, taken, taking, took as tookBy, take}
-use Rattle.model.specs.Bench.{line, codeLine, outLine, tookOne, takes, benchBudget, benchSlice, onTakes, onRun, rounds}
-use Rattle.model.specs.Bench.{ofCompilation}
+use Rattle.model.specs.Bench.{line, codeLine, outLine, tookOne, takes, benchBudget, benchSlice, onTakes, onRun, rounds, ofCompilation}
 use Rattle.model.specs.Bench.{bench}
 use Rattle.model.specs.Laws.{Out, outLines, Standing, ended as stoodEnded, waiting, spent, fault, standingName, Report, one-refusal}
-use Rattle.model.specs.Laws.{full}
-use Rattle.model.specs.Laws.{counted, Took, AlwaysReports}
+use Rattle.model.specs.Laws.{full, counted, Took, AlwaysReports}
 use Rattle.model.specs.declared.Cpu.{Cpu}
 use Rattle.model.specs.declared.Machine.{Machine}
 use Rattle.model.specs.declared.Outcome.{Outcome}
@@ -36,8 +34,7 @@ use Rattle.model.specs.declared.TakeAnswer.{TakeAnswer}
 use Rattle.model.specs.declared.TakeAnswer.the-variants.{Taken, Nothing, Short as TakeShort, Fault as TakeFault, NoChannel}
 use Rattle.model.proofs.Cases.{by-bool, by-option, never}
 use Rattle.model.proofs.Laws.Keeping.{Keeps, Brings, brings-keeps, bind, at-first, at-last, returning, picks, of-peek, of-testPlace}
-use Rattle.model.proofs.Laws.Keeping.{Runs}
-use Rattle.model.proofs.Laws.Keeping.{join-runs}
+use Rattle.model.proofs.Laws.Keeping.{Runs, join-runs}
 use Rattle.model.proofs.Laws.Regular.{by-alike, of-taking as regular-taking}
 use Rattle.model.proofs.Laws.Runs.{by-result, run-goes, by-run, took, bytes-same, NoValue, by-take, by-start}
 use Rattle.model.proofs.Laws.Recorded.{run-anew}

@@ -8,8 +8,7 @@ use mathlib.Core.Option.{Option}
 use lib.ListN as L
 use lib.ListN.{drop}
 use Rattle.model.specs.Word.{low}
-use Rattle.model.specs.Machine.{World, Result, done, faults, Act}
-use Rattle.model.specs.Machine.{release}
+use Rattle.model.specs.Machine.{World, Result, done, faults, Act, release}
 use Rattle.model.specs.Run.{byte, ended, waits, runFrom, After, worldOf, run, fresh, blank, start}
 use Rattle.model.specs.Outside.{offering, offered, offer, taking, took, take}
 use Rattle.model.specs.History.{Call, callRun, callOffer, callTake, Moment, bytes, during, call, history}
@@ -21,8 +20,7 @@ use Rattle.model.specs.declared.OfferAnswer.{OfferAnswer}
 use Rattle.model.specs.declared.TakeAnswer.{TakeAnswer}
 use Rattle.model.proofs.Cases.{by-bool, never}
 use Rattle.model.proofs.Laws.Keeping.{Left, Keeps, brings-keeps, bind, returning, setting, of-peek, of-poke, of-testPlace}
-use Rattle.model.proofs.Laws.Keeping.{brings-weaker, Runs}
-use Rattle.model.proofs.Laws.Keeping.{takeFront-runs, join-runs}
+use Rattle.model.proofs.Laws.Keeping.{brings-weaker, Runs, takeFront-runs, join-runs}
 use Rattle.model.proofs.Laws.Made.{Made, binds, reads, sets, returns, fails, reads-setup, communicates, drops, asks, holds, outputs}
 use Rattle.model.proofs.Laws.Made.{peeks, pokes, tests, releases, joins, of-byte, of-offering, of-taking}
 use Rattle.model.proofs.Laws.Runs.{by-result, run-goes, by-run, by-offer, by-take, by-start}

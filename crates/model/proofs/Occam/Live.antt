@@ -11,8 +11,8 @@ use Rattle.model.specs.Counts.{processes, mostProcesses, sumProcesses, p
 use Rattle.model.specs.Occam.{Store, isTrue, Frame, inSeq, inVar, inWhile, enter, enterAll, resume, begin, branches, firstTrue, go}
 use Rattle.model.specs.Occam.{Process, before, atInput, atOutput, atStop, atAlt, inPar, finished, Branches, noBranch, branch, over}
 use Rattle.model.specs.Occam.{branchAt, setBranch, endBranch, allOver, closed, branchesOf, framesOf, look, put, State, Communication}
-use Rattle.model.specs.Occam.{branchOf, Choice, first-guard, later-guard, Step, begins, ends, chooses, communicates, receives}
-use Rattle.model.specs.Occam.{Event, Outside, offered, held, taken, nobody, initial}
+use Rattle.model.specs.Occam.{branchOf, Choice, first-guard, later-guard, Step, begins, ends, chooses, communicates, receives, Event}
+use Rattle.model.specs.Occam.{Outside, offered, held, taken, nobody, initial}
 use Rattle.model.proofs.Cases.{never, of-cond}
 use Rattle.model.proofs.Occam.Paths.{under, look-under, put-in, par-whole, l-input, l-output, leaves-differ, look-put-other}
 

@@ -7,12 +7,12 @@ use mathlib.Core.Logic.{_≢_, _⊎_, inl, inr, ⊎-elim}
 use mathlib.Core.Bool.{true, false}
 use mathlib.Core.List.{List, [], _∷_, _++_, append-nil, List·Memᴰ, Memᴰ·append-right}
 use mathlib.Core.Option.{Option, none, some}
-use Rattle.model.specs.Syntax.{Site, Stmt, SKIP, STOP, assign, input, output, VAR, CHAN, SEQ, PAR, IF, WHILE, ALT, Stmts}
-use Rattle.model.specs.Syntax.{noStmt, stmt, Guards}
+use Rattle.model.specs.Syntax.{Site, Stmt, SKIP, STOP, assign, input, output, VAR, CHAN, SEQ, PAR, IF, WHILE, ALT, Stmts, noStmt}
+use Rattle.model.specs.Syntax.{stmt, Guards}
 use Rattle.model.specs.Scheme.{howMany}
-use Rattle.model.specs.Occam.{Frame, inSeq, inVar, inWhile, enter, enterAll, resume, begin, branches, closed}
-use Rattle.model.specs.Occam.{Process, before, atInput, atOutput, atStop, atAlt, inPar, finished, Branches, noBranch, branch, over}
-use Rattle.model.specs.Occam.{branchAt, setBranch, endBranch, allOver, branchesOf, framesOf, look, put}
+use Rattle.model.specs.Occam.{Frame, inSeq, inVar, inWhile, enter, enterAll, resume, begin, branches, closed, Process, before}
+use Rattle.model.specs.Occam.{atInput, atOutput, atStop, atAlt, inPar, finished, Branches, noBranch, branch, over, branchAt}
+use Rattle.model.specs.Occam.{setBranch, endBranch, allOver, branchesOf, framesOf, look, put}
 use Rattle.model.specs.Demand.{liveIn}
 use Rattle.model.proofs.Cases.{never, by-option, is-none}
 

@@ -15,21 +15,18 @@ use Rattle.model.specs.Machine.{World, stateWord, nameOf}
 use Rattle.model.specs.Occam.{Store, Frame, Process, atOutput, begin, look, State}
 use Rattle.model.proofs.Cases.{never}
 use Rattle.model.proofs.Quiet.Ways.{Regs, regsOf, Mem, upd, upd-other, Way, arrived, through, quiet, loads, stores, reloads, jumps}
-use Rattle.model.proofs.Quiet.Ways.{falls}
-use Rattle.model.proofs.Quiet.Ways.{way-stable}
+use Rattle.model.proofs.Quiet.Ways.{falls, way-stable}
 use Rattle.model.proofs.Quiet.Setting.{Setting}
 use Rattle.model.proofs.Occam.Paths.{same-path, silent-begin}
 use Rattle.model.proofs.Words.Parts.{Part, joins, partOf, FineGuards}
 use Rattle.model.proofs.Quiet.Continuations.{cont-low}
 use Rattle.model.proofs.Quiet.Marks.{Own, AltCode, Enabling, Enables, e-input, e-skip, Disables, d-input, d-skip, AltPoint, own-name}
-use Rattle.model.proofs.Quiet.Marks.{pt-enable}
-use Rattle.model.proofs.Quiet.Marks.{pt-wait, pt-disable, pt-choose}
+use Rattle.model.proofs.Quiet.Marks.{pt-enable, pt-wait, pt-disable, pt-choose}
 use Rattle.model.proofs.Quiet.Arrivals.{Goes, comes}
 use Rattle.model.proofs.Quiet.Onwards.{AltGoes, alt-goes, Starts, rest-fine, guarded-fine}
 use Rattle.model.proofs.Invariant.Trees.{some-same, Info, newInfo, Sits, Tree, bytesLeft}
 use Rattle.model.proofs.Invariant.Stays.{value-same, Intact, goes-stays, comes-stays, unmarked-stays, noticed-stays, marked-stays}
-use Rattle.model.proofs.Invariant.Stays.{ready-stays}
-use Rattle.model.proofs.Invariant.Stays.{disabling-stays}
+use Rattle.model.proofs.Invariant.Stays.{ready-stays, disabling-stays}
 use Rattle.model.proofs.Effects.OneWord.{cpuOf}
 use Rattle.model.proofs.Effects.Queues.{apart-none}
 use Rattle.model.proofs.Quiet.PathEnds.{Moving, begins, alters, ends, alt-kind, alt-moving}
@@ -37,8 +34,7 @@ use Rattle.model.proofs.Invariant.Kernel.{Loaded, S, root, LeafAt, Rest
 use Rattle.model.proofs.Invariant.Writes.{part-small, sits-at}
 use Rattle.model.proofs.Invariant.Grounds.{small-size}
 use Rattle.model.proofs.Invariant.Running.{Only, Nobody, StartsLeft, Later, l-here, l-next, NotStarted, not-started, Starting, Here}
-use Rattle.model.proofs.Invariant.Running.{ToStart, Now, now-goes}
-use Rattle.model.proofs.Invariant.Running.{now-alt, NowStarts, Inv, runs, starts, idle}
+use Rattle.model.proofs.Invariant.Running.{ToStart, Now, now-goes, now-alt, NowStarts, Inv, runs, starts, idle}
 use Rattle.model.proofs.Invariant.Moving.{same-leaf, settled-silent, skips-silent}
 
 -- what holds of the memory at the significant instruction of a path without jumps, and is not told by spare words, holds on it

@@ -18,8 +18,8 @@ use Rattle.model.specs.Machine.{World, done, resumeWord, stateWord, name
 use Rattle.model.specs.Execute.{isAltState, notify, waiting, ready, noneSelected}
 use Rattle.model.specs.Run.{land}
 use Rattle.model.specs.Outside.{offering}
-use Rattle.model.specs.Occam.{store, Frame, Process, atInput, atAlt, resume, State, over-channel, process, outside, receives}
-use Rattle.model.specs.Occam.{offers, Outside, offered}
+use Rattle.model.specs.Occam.{store, Frame, Process, atInput, atAlt, resume, State, over-channel, process, outside, receives, offers}
+use Rattle.model.specs.Occam.{Outside, offered}
 use Rattle.model.specs.Demand as Demand
 use Rattle.model.specs.declared.Setup.{Setup}
 use Rattle.model.specs.declared.OfferAnswer.the-variants.{Offered}
@@ -35,8 +35,8 @@ use Rattle.model.proofs.Invariant.Stays.{Intact, intact-trans}
 use Rattle.model.proofs.Effects.OneWord.{cpuOf, stored}
 use Rattle.model.proofs.Effects.Acts.{notify-waiting, notify-other}
 use Rattle.model.proofs.Invariant.Kernel.{Loaded, S, root, size, LeafAt, Rest, Lined, Real}
-use Rattle.model.proofs.Invariant.Writes.{changed, after-leaf, after-lined, node, apart-parts, own-one, part-small}
-use Rattle.model.proofs.Invariant.Writes.{sits-at, write-var, change-offers}
+use Rattle.model.proofs.Invariant.Writes.{changed, after-leaf, after-lined, node, apart-parts, own-one, part-small, sits-at}
+use Rattle.model.proofs.Invariant.Writes.{write-var, change-offers}
 use Rattle.model.proofs.Invariant.Puts.{putting}
 use Rattle.model.proofs.Invariant.Grounds.{var-in, small-size}
 use Rattle.model.proofs.Invariant.Traces.{Trace, t-none, t-step, t-event}
@@ -46,15 +46,13 @@ use Rattle.model.proofs.Invariant.Reals.{size-is, mirrored, real-state,
 use Rattle.model.proofs.Steps.Channels.{Holder, holds-input, holds-output, holds-wait, holds-woken, holds-out, holder, input-at}
 use Rattle.model.proofs.Steps.Meets.{not-own, clear-chan, var-above, chan-above, rest-below, real-below}
 use Rattle.model.proofs.Steps.Outword.{ready-more, picks-more, no-alt-state}
-use Rattle.model.proofs.Outside.Bystanders.{SameRegs, Keeps, Ground, runs-ground, starts-unmarked, starts-ground}
-use Rattle.model.proofs.Outside.Bystanders.{idle-ground}
+use Rattle.model.proofs.Outside.Bystanders.{SameRegs, Keeps, Ground, runs-ground, starts-unmarked, starts-ground, idle-ground}
 use Rattle.model.proofs.Outside.Wakings.{With, Answers, answers, inv-lands, intact-var, intact-chan, intact-own, intact-offers}
-use Rattle.model.proofs.Outside.Wakings.{Joins, goes-on}
-use Rattle.model.proofs.Outside.Wakings.{waited-goes, answers-talk, answers-silent, input-named, outside-chan, outside-in, part-of}
+use Rattle.model.proofs.Outside.Wakings.{Joins, goes-on, waited-goes, answers-talk, answers-silent, input-named, outside-chan}
+use Rattle.model.proofs.Outside.Wakings.{outside-in, part-of}
 use Rattle.model.proofs.Outside.Offerings.{holding, offer-holds, offer-tells, offer-delivers, withOffer, passedOffer, passed-same}
 use Rattle.model.proofs.Outside.Offerings.{more-senders, fewer-senders, offer-sends, same-senders, senders-same, real-offers}
-use Rattle.model.proofs.Outside.Offerings.{real-held}
-use Rattle.model.proofs.Outside.Offerings.{unheld}
+use Rattle.model.proofs.Outside.Offerings.{real-held, unheld}
 use Rattle.model.proofs.Outside.Notified.{Stood, stood, told-way}
 
 module _ (L : Loaded) {s : World} {st : State} {μ : Mem} {t : Tree (S L) (root L) (st .process)} {Out : List ℕ → Type 0} {ws : List ℕ}

@@ -14,8 +14,8 @@ use Rattle.model.specs.Reader.{numbered}
 use Rattle.model.specs.Usage.{same}
 use Rattle.model.specs.Machine.{Talk, World, done, return, testPlace, join, resumeWord, nameOf}
 use Rattle.model.specs.Run.{land}
-use Rattle.model.specs.Occam.{store, Frame, Process, Branches, atOutput, framesOf, put, resume, State, Sender, process}
-use Rattle.model.specs.Occam.{Communication, over-channel, Event}
+use Rattle.model.specs.Occam.{store, Frame, Process, Branches, atOutput, framesOf, put, resume, State, Sender, process, Communication}
+use Rattle.model.specs.Occam.{over-channel, Event}
 use Rattle.model.specs.Demand.{Segment, liveIn, talkOf}
 use Rattle.model.proofs.Cases.{never, by-bool}
 use Rattle.model.proofs.Tables.Sites.{same-eq}
@@ -27,8 +27,7 @@ use Rattle.model.proofs.Words.Parts as Parts
 use Rattle.model.proofs.Words.Parts.{Part, Target}
 use Rattle.model.proofs.Quiet.Marks.{Own}
 use Rattle.model.proofs.Invariant.Trees.{some-same, Label, alone, Info, Sits, Tree, t-leaf, t-par, Forest, f-none, f-live, f-over}
-use Rattle.model.proofs.Invariant.Trees.{labelAt}
-use Rattle.model.proofs.Invariant.Trees.{labelIn, part-inside, bytesLeft, leaf-bytes}
+use Rattle.model.proofs.Invariant.Trees.{labelAt, labelIn, part-inside, bytesLeft, leaf-bytes}
 use Rattle.model.proofs.Invariant.Zones.{zoneOf, Distant}
 use Rattle.model.proofs.Invariant.Leaves.{Unmarked, Waits, Held}
 use Rattle.model.proofs.Invariant.Stays.{Intact, intact-trans}
@@ -36,15 +35,13 @@ use Rattle.model.proofs.Effects.OneWord.{cpuOf}
 use Rattle.model.proofs.Effects.Acts.{when-true, when-false, testPlace-in}
 use Rattle.model.proofs.Effects.Queues.{joined, released, join-queue-free, free-queue}
 use Rattle.model.proofs.Invariant.Kernel.{Loaded, S, root, size, LeafAt, Owned, Rest, Lined, Real}
-use Rattle.model.proofs.Invariant.Writes.{changed, node, apart-zones, apart-parts, part-small, sits-at, sender-stored}
-use Rattle.model.proofs.Invariant.Writes.{sender-kept}
+use Rattle.model.proofs.Invariant.Writes.{changed, node, apart-zones, apart-parts, part-small, sits-at, sender-stored, sender-kept}
 use Rattle.model.proofs.Invariant.Puts.{putting, treeThen, here-then, other-then, lined-then, rest-then, moved, sender-then}
 use Rattle.model.proofs.Invariant.Puts.{sender-before}
 use Rattle.model.proofs.Invariant.Grounds.{chan-in, small-size, sound-at, code-end}
 use Rattle.model.proofs.Words.FineParts.{outsideNames}
 use Rattle.model.proofs.Invariant.Traces.{Trace, t-none, trace-then}
-use Rattle.model.proofs.Invariant.Running.{Only, Here, within, at-end, off-small, Now, now-goes, now-alt, Inv, runs, starts}
-use Rattle.model.proofs.Invariant.Running.{idle}
+use Rattle.model.proofs.Invariant.Running.{Only, Here, within, at-end, off-small, Now, now-goes, now-alt, Inv, runs, starts, idle}
 use Rattle.model.proofs.Invariant.Moving.{rest-out, lined-in}
 use Rattle.model.proofs.Invariant.Reals.{size-is, mirrored, real-state, real-queue, real-talk}
 use Rattle.model.proofs.Invariant.Scheduling.{got, Given, gets, linkedTo, wakes}

@@ -19,14 +19,13 @@ use Rattle.model.specs.Reader.{names}
 use Rattle.model.specs.Instruction.{ldc, ldlp, cj, ajw, stl, Instruction, plain, distance, operation}
 use Rattle.model.specs.Instruction as I
 use Rattle.model.specs.Scheme.{initialise, howMany, wholeSize, size, sizePairs, sizeEnds, sizeEnable, sizeDisable, sizeBranches}
-use Rattle.model.specs.Scheme.{local, wholeCode, inputCode, code, codeAll, codePairs, codeStarts, codeEnds, codeEnable}
-use Rattle.model.specs.Scheme.{codeDisable, codeBranches}
-use Rattle.model.specs.Occam.{Store, eval, Frame, inWhile, Process, before, finished, framesOf, resume, begin}
-use Rattle.model.specs.Occam.{enter, enterAll, firstTrue}
+use Rattle.model.specs.Scheme.{local, wholeCode, inputCode, code, codeAll, codePairs, codeStarts, codeEnds, codeEnable, codeDisable}
+use Rattle.model.specs.Scheme.{codeBranches}
+use Rattle.model.specs.Occam.{Store, eval, Frame, inWhile, Process, before, finished, framesOf, resume, begin, enter, enterAll}
+use Rattle.model.specs.Occam.{firstTrue}
 use Rattle.model.specs.Demand.{liveIn}
 use Rattle.model.proofs.Quiet.Ways.{Regs, Quiet, pushing, pointing, reversing, placing, moving, Mem, Way, arrived, through, quiet}
-use Rattle.model.proofs.Quiet.Ways.{jumps}
-use Rattle.model.proofs.Quiet.Ways.{falls, quiet-ldc, quiet-ajw, quiet-ldlp, quiet-rev, quiet-mint, quiet-ldpi}
+use Rattle.model.proofs.Quiet.Ways.{jumps, falls, quiet-ldc, quiet-ajw, quiet-ldlp, quiet-rev, quiet-mint, quiet-ldpi}
 use Rattle.model.proofs.Words.Values.{eval-word}
 use Rattle.model.proofs.Quiet.Stretches.{Seg, nil, at, cut, seg-length, local-word}
 use Rattle.model.proofs.Quiet.ExprPaths.{evaluates-whole}

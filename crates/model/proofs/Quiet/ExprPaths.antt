@@ -9,7 +9,10 @@ use lib.Dec.{eqb, ltb}
 use borrow.Author.Tests.{eqb-true, eqb-false, ltb-true, ltb-false}
 use Rattle.model.specs.Word.{low, less, minus, truth}
 use Rattle.model.specs.Limits.{registerLimit}
-use Rattle.model.specs.Syntax.{Site, Operator, PLUS, MINUS, TIMES, GT, EQ, AND, OR, XOR, Expr, constant, variable, NOT, binary}
+use Rattle.model.specs.Syntax.{Site, Expr, constant, variable, NOT, binary}
+use Rattle.model.specs.declared.kinds.Operator.{Operator}
+use Rattle.model.specs.declared.kinds.Operator.the-variants.{Plus as PLUS, Minus as MINUS, Times as TIMES, Gt as GT, Eq as EQ}
+use Rattle.model.specs.declared.kinds.Operator.the-variants.{And as AND, Or as OR, Xor as XOR}
 use Rattle.model.specs.Instruction.{ajw, eqc, ldl, stl, Instruction, plain, operation, opr}
 use Rattle.model.specs.Instruction as I
 use Rattle.model.specs.Counts.{sidesNeed, registers, Order, leftFirst, rightFirst, rightStored, orderOf, order, sidesHold}
@@ -21,10 +24,8 @@ use Rattle.model.specs.Code.{functionIn, operandIn}
 use Rattle.model.proofs.Cases.{by-bool}
 use Rattle.model.proofs.Quiet.Stretches.{Seg, nil, at, split, apart, local-word}
 use Rattle.model.proofs.Quiet.Ways.{Regs, Quiet, pushing, reducing, popping, reversing, moving, testing, Mem, upd, upd-same}
-use Rattle.model.proofs.Quiet.Ways.{upd-other}
-use Rattle.model.proofs.Quiet.Ways.{Way}
-use Rattle.model.proofs.Quiet.Ways.{quiet, loads, stores, reloads, quiet-ldc, quiet-ajw, quiet-rev}
-use Rattle.model.proofs.Quiet.Ways.{quiet-eqc, quiet-sum, quiet-diff, quiet-prod, quiet-gt, quiet-and, quiet-or, quiet-xor}
+use Rattle.model.proofs.Quiet.Ways.{upd-other, Way, quiet, loads, stores, reloads, quiet-ldc, quiet-ajw, quiet-rev, quiet-eqc}
+use Rattle.model.proofs.Quiet.Ways.{quiet-sum, quiet-diff, quiet-prod, quiet-gt, quiet-and, quiet-or, quiet-xor}
 use Rattle.model.proofs.Words.Values.{FineExpr, eq-words, gt-words, eval-word}
 use Rattle.model.proofs.Words.Parts.{lowered}
 use Rattle.model.proofs.Tables.Needs.{sides-two, registers-pos, registers-three, both-two}

@@ -5,8 +5,8 @@ use mathlib.Core.Logic.{_≢_, _⊎_}
 use mathlib.Core.Bool.{true, false}
 use mathlib.Core.List.{List, _∷_, _++_, List·Memᴰ}
 use Rattle.model.specs.Word.{low, less, notProcess}
-use Rattle.model.specs.Syntax.{Site, Expr, Stmt, SKIP, STOP, assign, input, output, VAR, CHAN, SEQ, PAR, IF, WHILE, ALT}
-use Rattle.model.specs.Syntax.{Stmts, noStmt, stmt, Pairs, Guard, inputGuard, skipGuard, Guards, noGuard, guard}
+use Rattle.model.specs.Syntax.{Site, Expr, Stmt, SKIP, STOP, assign, input, output, VAR, CHAN, SEQ, PAR, IF, WHILE, ALT, Stmts}
+use Rattle.model.specs.Syntax.{noStmt, stmt, Pairs, Guard, inputGuard, skipGuard, Guards, noGuard, guard}
 use Rattle.model.specs.Reader.{names}
 use Rattle.model.specs.Counts.{need, sumNeed}
 use Rattle.model.specs.Instruction.{ldc, ldlp, cj, ajw, stl, Instruction, plain, distance, operation}
@@ -16,8 +16,8 @@ use Rattle.model.specs.Scheme.{sizeDisable, inputSize}
 use Rattle.model.specs.Code.{operandIn}
 use Rattle.model.specs.Execute.{enabling, ready, noneSelected}
 use Rattle.model.specs.Machine.{stateWord, nameOf, spaceOf}
-use Rattle.model.specs.Occam.{Store, eval, isTrue, Frame, inWhile, Process, before, atInput, atOutput, atStop, atAlt, inPar}
-use Rattle.model.specs.Occam.{finished, resume, begin, firstTrue, State, Sender, branchOf, Ready}
+use Rattle.model.specs.Occam.{Store, eval, isTrue, Frame, inWhile, Process, before, atInput, atOutput, atStop, atAlt, inPar, finished}
+use Rattle.model.specs.Occam.{resume, begin, firstTrue, State, Sender, branchOf, Ready}
 use Rattle.model.proofs.Quiet.Names.{name-back}
 use Rattle.model.proofs.Quiet.Ways.{Regs, Mem}
 use Rattle.model.proofs.Quiet.Stretches.{Seg}

@@ -9,36 +9,30 @@ use lib.ListN.{length, length-append}
 use Rattle.model.specs.Word.{low, less, minus}
 use Rattle.model.specs.Code.{functionIn, operandIn}
 use Rattle.model.specs.Counts.{temporaries, need, sumNeed}
-use Rattle.model.specs.Syntax.{Site, Expr, Stmt, input, ALT, Stmts, noStmt, stmt, Guard, inputGuard, skipGuard, Guards}
-use Rattle.model.specs.Syntax.{noGuard, guard}
+use Rattle.model.specs.Syntax.{Site, Expr, Stmt, input, ALT, Stmts, noStmt, stmt, Guard, inputGuard, skipGuard, Guards, noGuard}
+use Rattle.model.specs.Syntax.{guard}
 use Rattle.model.specs.Instruction.{ldc, ldlp, ajw, Instruction, plain, distance, operation}
 use Rattle.model.specs.Instruction as I
-use Rattle.model.specs.Scheme.{size, sizeEnable, sizeEnds, altWords, local, guardCode, code, codeAll}
-use Rattle.model.specs.Scheme.{codeStarts, codeEnds, codeEnable, codeDisable, codeBranches, inputSize, enableCode, disableCode}
-use Rattle.model.specs.Scheme.{guardInput}
+use Rattle.model.specs.Scheme.{size, sizeEnable, sizeEnds, altWords, local, guardCode, code, codeAll, codeStarts, codeEnds}
+use Rattle.model.specs.Scheme.{codeEnable, codeDisable, codeBranches, inputSize, enableCode, disableCode, guardInput}
 use Rattle.model.specs.Machine.{stateWord, nameOf}
-use Rattle.model.specs.Occam.{Store, eval, Sender, Frame, Process, before, atAlt, begin, State}
-use Rattle.model.specs.Occam.{branchOf, Ready, by-input, by-skip, Choice, first-guard, later-guard}
-use Rattle.model.proofs.Quiet.Ways.{Regs, pushing, pointing, reversing, moving, Mem, Way, arrived, quiet}
-use Rattle.model.proofs.Quiet.Ways.{quiet-ldc, quiet-ajw, quiet-ldlp, quiet-rev}
+use Rattle.model.specs.Occam.{Store, eval, Sender, Frame, Process, before, atAlt, begin, State, branchOf, Ready, by-input, by-skip}
+use Rattle.model.specs.Occam.{Choice, first-guard, later-guard}
+use Rattle.model.proofs.Quiet.Ways.{Regs, pushing, pointing, reversing, moving, Mem, Way, arrived, quiet, quiet-ldc, quiet-ajw}
+use Rattle.model.proofs.Quiet.Ways.{quiet-ldlp, quiet-rev}
 use Rattle.model.proofs.Quiet.Stretches.{Seg, nil, at, split, apart-first, cut, seg-length, local-word}
 use Rattle.model.proofs.Quiet.ExprPaths.{evaluates-whole}
 use Rattle.model.proofs.Coding.Sizes.{input-length, code-length}
 use Rattle.model.proofs.Quiet.Setting.{Setting, whole, At}
 use Rattle.model.proofs.Quiet.CodeParts.{inside, rises-le}
 use Rattle.model.proofs.Words.Parts.{need-two, sum-first, need-next, Part, Ending, the-end, joins, partOf, lowered, guardRoom}
-use Rattle.model.proofs.Words.Parts.{FineWhole}
-use Rattle.model.proofs.Words.Parts.{Fine, FineInput, FineGuards}
-use Rattle.model.proofs.Words.Parts.{FineBranches}
+use Rattle.model.proofs.Words.Parts.{FineWhole, Fine, FineInput, FineGuards, FineBranches}
 use Rattle.model.proofs.Quiet.Continuations.{Scoped, scoped-below, placed-down, Cont, c-end, c-join, c-chan, c-up, c-hop}
-use Rattle.model.proofs.Quiet.Continuations.{cont-inside, cont-low}
-use Rattle.model.proofs.Quiet.Continuations.{cont-placed, cont-scoped, cont-bound}
+use Rattle.model.proofs.Quiet.Continuations.{cont-inside, cont-low, cont-placed, cont-scoped, cont-bound}
 use Rattle.model.proofs.Quiet.Marks.{AnyReady, r-first, r-later, nextBranch, Picks, p-first, p-later, Rest, rest-all, rest-later}
-use Rattle.model.proofs.Quiet.Marks.{Unready, Noticed, n-none, n-later, AltCode, ParCode}
-use Rattle.model.proofs.Quiet.Marks.{Enabling}
-use Rattle.model.proofs.Quiet.Marks.{e-input, e-skip, Disabling, d-input, d-skip, AltPoint, pt-enable, pt-wait, pt-disable}
-use Rattle.model.proofs.Quiet.Marks.{pt-choose}
-use Rattle.model.proofs.Quiet.Marks.{Own, Spare, Marked, StartPoint, Guarded, g-first, g-later}
+use Rattle.model.proofs.Quiet.Marks.{Unready, Noticed, n-none, n-later, AltCode, ParCode, Enabling, e-input, e-skip, Disabling}
+use Rattle.model.proofs.Quiet.Marks.{d-input, d-skip, AltPoint, pt-enable, pt-wait, pt-disable, pt-choose, Own, Spare, Marked}
+use Rattle.model.proofs.Quiet.Marks.{StartPoint, Guarded, g-first, g-later}
 use Rattle.model.proofs.Cases.{never}
 use Rattle.model.proofs.Quiet.Arrivals.{spare-below, Sound, Comes, comes, enters, arrives}
 

@@ -13,8 +13,7 @@ use Rattle.model.proofs.Words.Parts.{Part}
 use Rattle.model.proofs.Quiet.Onwards.{AltAt, AltGoes, alt-goes}
 use Rattle.model.proofs.Quiet.Marks.{Enables, e-input, e-skip, Disables, d-input, d-skip, AltPoint, pt-enable, pt-wait, pt-disable}
 use Rattle.model.proofs.Quiet.Marks.{pt-choose, Point, pt-stop, pt-assign, pt-var, pt-chan, pt-taken, pt-none, pt-while, pt-in}
-use Rattle.model.proofs.Quiet.Marks.{pt-out}
-use Rattle.model.proofs.Quiet.Marks.{pt-par-place, pt-par-count, pt-end, pt-alt, StartPoint}
+use Rattle.model.proofs.Quiet.Marks.{pt-out, pt-par-place, pt-par-count, pt-end, pt-alt, StartPoint}
 
 -- a process that begins a statement, is at an ALT, or has finished
 pub data Moving : Process → Type 0 where

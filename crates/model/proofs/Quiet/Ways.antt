@@ -14,8 +14,8 @@ use borrow.Author.Tests.{eq-eqb, ne-eqb}
 use Rattle.model.specs.Word.{low, less, truth, notProcess}
 use Rattle.model.specs.Code.{functionIn, operandIn}
 use Rattle.model.specs.Syntax.{Site}
-use Rattle.model.specs.Instruction.{Function, ldlp, ldc, ldl, cj, ajw, eqc, stl, opr, Instruction, plain}
-use Rattle.model.specs.Instruction.{distance, operationOf, operationCode, coded}
+use Rattle.model.specs.Instruction.{Function, ldlp, ldc, ldl, cj, ajw, eqc, stl, opr, Instruction, plain, distance, operationOf}
+use Rattle.model.specs.Instruction.{operationCode, coded}
 use Rattle.model.specs.Instruction as I
 use Rattle.model.specs.Machine.{World, done, withCpu, stack, work}
 use Rattle.model.specs.Execute.{execute, operate, above}

@@ -16,8 +16,8 @@ use Rattle.model.specs.Code.{functionIn, operandIn}
 use Rattle.model.specs.Scheme.{code}
 use Rattle.model.specs.Machine.{World, withCpu, goto, resumeWord}
 use Rattle.model.specs.Execute.{pop}
-use Rattle.model.specs.Occam.{eval, store, Frame, inWhile, Process, before, atStop, resume, begin, moved, go, firstTrue}
-use Rattle.model.specs.Occam.{framesOf, State, begins}
+use Rattle.model.specs.Occam.{eval, store, Frame, inWhile, Process, before, atStop, resume, begin, moved, go, firstTrue, framesOf}
+use Rattle.model.specs.Occam.{State, begins}
 use Rattle.model.specs.Demand.{liveIn}
 use Rattle.model.proofs.Cases.{never, by-bool}
 use Rattle.model.proofs.Quiet.Ways.{upd-other, upd, Mem}

@@ -10,27 +10,23 @@ use Rattle.model.specs.Word.{notProcess}
 use Rattle.model.specs.Syntax.{Site, Stmt, Stmts, noStmt, stmt}
 use Rattle.model.specs.Counts.{sumNeed}
 use Rattle.model.specs.Machine.{linkWord}
-use Rattle.model.specs.Occam.{Frame, Process, finished, inPar, Branches, branchAt, endBranch, branchesOf, framesOf, resume}
-use Rattle.model.specs.Occam.{look, put, State, Sender, process, outside}
+use Rattle.model.specs.Occam.{Frame, Process, finished, inPar, Branches, branchAt, endBranch, branchesOf, framesOf, resume, look, put}
+use Rattle.model.specs.Occam.{State, Sender, process, outside}
 use Rattle.model.specs.Demand.{liveIn}
 use Rattle.model.proofs.Cases.{never}
 use Rattle.model.proofs.Quiet.Ways.{upd-same, upd-other, upd, Mem}
 use Rattle.model.proofs.Quiet.Setting.{Setting}
 use Rattle.model.proofs.Occam.Paths.{l-output, leaf-par, leaf-resume, leaf-below, leaf-found, look-append, look-prefix, prefixed}
 use Rattle.model.proofs.Occam.Paths.{look-under, under, par-whole, look-put-same, look-put-other, look-after, into, aside}
-use Rattle.model.proofs.Occam.Paths.{look-end-same}
-use Rattle.model.proofs.Occam.Paths.{look-end-other, Compared, equal, below, above, apart, compare, Apart, here, apart-append}
-use Rattle.model.proofs.Occam.Paths.{apart-under}
-use Rattle.model.proofs.Occam.Paths.{apart-differ, left, only-left, same-path, same-par, par-above, live-resume, silent-resume}
-use Rattle.model.proofs.Occam.Paths.{stmtAt}
+use Rattle.model.proofs.Occam.Paths.{look-end-same, look-end-other, Compared, equal, below, above, apart, compare, Apart, here}
+use Rattle.model.proofs.Occam.Paths.{apart-append, apart-under, apart-differ, left, only-left, same-path, same-par, par-above}
+use Rattle.model.proofs.Occam.Paths.{live-resume, silent-resume, stmtAt}
 use Rattle.model.proofs.Words.Parts.{sum-first, Part, joins}
 use Rattle.model.proofs.Quiet.Marks.{Own, ParCode}
 use Rattle.model.proofs.Quiet.Arrivals.{cont-live}
 use Rattle.model.proofs.Invariant.Trees.{some-same, distanceOf, BranchPart, Label, alone, parted, alone-parted, Info, Sits, Tree}
-use Rattle.model.proofs.Invariant.Trees.{t-leaf}
-use Rattle.model.proofs.Invariant.Trees.{t-par, Forest, labelAt, running, partAt, part-nil, parts-apart, label-alone, labelled}
-use Rattle.model.proofs.Invariant.Trees.{owner-of}
-use Rattle.model.proofs.Invariant.Trees.{owner, par-part, rebuild, Rebuilt, EndedAt, ended-at}
+use Rattle.model.proofs.Invariant.Trees.{t-leaf, t-par, Forest, labelAt, running, partAt, part-nil, parts-apart, label-alone}
+use Rattle.model.proofs.Invariant.Trees.{labelled, owner-of, owner, par-part, rebuild, Rebuilt, EndedAt, ended-at}
 use Rattle.model.proofs.Invariant.Zones.{zoneOf}
 use Rattle.model.proofs.Invariant.Leaves.{Unmarked}
 use Rattle.model.proofs.Invariant.Stays.{Intact, held-stays}

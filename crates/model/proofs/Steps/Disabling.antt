@@ -27,13 +27,10 @@ use Rattle.model.proofs.Quiet.CodeParts.{rises-le}
 use Rattle.model.proofs.Occam.Paths.{Leaf, leaf-begin, live-begin, silent-begin}
 use Rattle.model.proofs.Words.Parts.{Part, Within}
 use Rattle.model.proofs.Quiet.Marks.{Own, AnyReady, r-first, r-later, nextBranch, Picks, p-first, p-later, Rest as RestOf, Guarded}
-use Rattle.model.proofs.Quiet.Marks.{g-first, g-later, AltCode, Marked}
-use Rattle.model.proofs.Quiet.Marks.{Enabling}
-use Rattle.model.proofs.Quiet.Marks.{Enables, e-input, e-skip, Disabling, Disables, d-input, d-skip, AltPoint, pt-enable, pt-wait}
-use Rattle.model.proofs.Quiet.Marks.{pt-disable, pt-choose}
+use Rattle.model.proofs.Quiet.Marks.{g-first, g-later, AltCode, Marked, Enabling, Enables, e-input, e-skip, Disabling, Disables}
+use Rattle.model.proofs.Quiet.Marks.{d-input, d-skip, AltPoint, pt-enable, pt-wait, pt-disable, pt-choose}
 use Rattle.model.proofs.Quiet.Arrivals.{Comes, comes}
-use Rattle.model.proofs.Quiet.Onwards.{alt-goes, picks-choice, rest-picks, rest-past, disable-way}
-use Rattle.model.proofs.Quiet.Onwards.{branch-comes}
+use Rattle.model.proofs.Quiet.Onwards.{alt-goes, picks-choice, rest-picks, rest-past, disable-way, branch-comes}
 use Rattle.model.proofs.Invariant.Trees.{some-same, Info, Tree, bytesLeft}
 use Rattle.model.proofs.Invariant.Leaves.{Unmarked}
 use Rattle.model.proofs.Effects.OneWord.{cpuOf}
@@ -52,12 +49,9 @@ use Rattle.model.proofs.Steps.Quiets.{target}
 use Rattle.model.proofs.Steps.Advance.{advances}
 use Rattle.model.proofs.Steps.Channels.{HeldAt, held-at, not-held, held-here}
 use Rattle.model.proofs.Steps.Enabling.{true-when, false-when, alt-silent, offer-sends, space, w-some, base-mine, state-mine}
-use Rattle.model.proofs.Steps.Enabling.{base-state}
-use Rattle.model.proofs.Steps.Enabling.{mine-size, mine-holds, placed, chan-off, chan-size, chan-holds, none-own, Free, free-none}
-use Rattle.model.proofs.Steps.Enabling.{free-w}
-use Rattle.model.proofs.Steps.Enabling.{Shows, shown, own-write, chan-write, own-chan, onward, fine-rest, ChannelIs, is-empty}
-use Rattle.model.proofs.Steps.Enabling.{is-ours}
-use Rattle.model.proofs.Steps.Enabling.{is-sent, channel-is, unsent, does-enbc, does-enbs, does-altwt}
+use Rattle.model.proofs.Steps.Enabling.{base-state, mine-size, mine-holds, placed, chan-off, chan-size, chan-holds, none-own, Free}
+use Rattle.model.proofs.Steps.Enabling.{free-none, free-w, Shows, shown, own-write, chan-write, own-chan, onward, fine-rest}
+use Rattle.model.proofs.Steps.Enabling.{ChannelIs, is-empty, is-ours, is-sent, channel-is, unsent, does-enbc, does-enbs, does-altwt}
 
 -- a guarded channel, or a ready guard, that is not the first guard's is one of the rest
 past-guarded : {σ : Store} {e : Expr} {d y z : Site} {g : Stmt} {hs : Guards} → Guarded σ d (guard (inputGuard e y z) g hs)

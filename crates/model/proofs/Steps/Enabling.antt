@@ -18,8 +18,8 @@ use Rattle.model.specs.Code.{functionIn, operandIn}
 use Rattle.model.specs.Scheme.{sizeEnable, codeEnable}
 use Rattle.model.specs.Machine.{World, withCpu, withMemory, stack, resumeWord, stateWord, isHeld, nameOf}
 use Rattle.model.specs.Execute.{enabling, waiting, ready, noneSelected}
-use Rattle.model.specs.Occam.{Store, eval, isTrue, Frame, Process, before, atAlt, look, State, Sender, process, outside}
-use Rattle.model.specs.Occam.{by-input, by-skip, Step, begins, go}
+use Rattle.model.specs.Occam.{Store, eval, isTrue, Frame, Process, before, atAlt, look, State, Sender, process, outside, by-input}
+use Rattle.model.specs.Occam.{by-skip, Step, begins, go}
 use Rattle.model.specs.Demand.{step}
 use Rattle.model.proofs.Cases.{never}
 use Rattle.model.proofs.Quiet.Names.{name-given}
@@ -31,8 +31,7 @@ use Rattle.model.proofs.Occam.Paths.{l-alt, same-path}
 use Rattle.model.proofs.Words.Parts.{Part, FineGuards}
 use Rattle.model.proofs.Quiet.Continuations.{Placed, placed-down, cont-placed, cont-low}
 use Rattle.model.proofs.Quiet.Marks.{Own, AnyReady, r-first, Rest as RestOf, rest-all, Unready, Noticed, n-none, n-later, own-name}
-use Rattle.model.proofs.Quiet.Marks.{Guarded}
-use Rattle.model.proofs.Quiet.Marks.{g-first, AltCode, Marked, Enabling, Disabling}
+use Rattle.model.proofs.Quiet.Marks.{Guarded, g-first, AltCode, Marked, Enabling, Disabling}
 use Rattle.model.proofs.Quiet.Onwards.{AltGoes, alt-goes, rest-past, rest-ready, rest-guarded, rest-fine, noticed-past}
 use Rattle.model.proofs.Quiet.Onwards.{noticed-unready, noticed-marked, enable-way, enable-first, disable-first}
 use Rattle.model.proofs.Invariant.Trees.{Info, Sits, Tree, bytesLeft, part-inside}
@@ -42,8 +41,7 @@ use Rattle.model.proofs.Effects.OneWord.{cpuOf, sizeOf, stored}
 use Rattle.model.proofs.Effects.Acts.{exec-alt, enabled, exec-enbc-off, exec-enbc-held, exec-enbc-empty, exec-enbc-marked}
 use Rattle.model.proofs.Effects.Acts.{exec-enbc-sender, exec-enbs-off, exec-enbs, exec-altwt-ready, exec-altwt-wait}
 use Rattle.model.proofs.Invariant.Kernel.{Loaded, S, root, size, LeafAt, owned, Rest, Real}
-use Rattle.model.proofs.Invariant.Writes.{node, apart-parts, own-one, part-small, sits-at, write-own, write-chan}
-use Rattle.model.proofs.Invariant.Writes.{left-out}
+use Rattle.model.proofs.Invariant.Writes.{node, apart-parts, own-one, part-small, sits-at, write-own, write-chan, left-out}
 use Rattle.model.proofs.Invariant.Puts.{putting, treeThen, here-then, lined-then, rest-then, sender-then, sender-before}
 use Rattle.model.proofs.Invariant.Grounds.{chan-in, sound-at}
 use Rattle.model.proofs.Invariant.Traces.{t-none, t-step}

@@ -25,8 +25,7 @@ use Rattle.model.proofs.Quiet.Continuations.{cont-placed, cont-inside}
 use Rattle.model.proofs.Quiet.Marks.{ParCode}
 use Rattle.model.proofs.Quiet.Arrivals.{arrives}
 use Rattle.model.proofs.Invariant.Trees.{distanceOf, branch-part, parted, Info, Sits, Tree, Forest, f-none, f-live, f-over, labelAt}
-use Rattle.model.proofs.Invariant.Trees.{partAt}
-use Rattle.model.proofs.Invariant.Trees.{bytesLeft}
+use Rattle.model.proofs.Invariant.Trees.{partAt, bytesLeft}
 use Rattle.model.proofs.Invariant.Zones.{zone-under}
 use Rattle.model.proofs.Invariant.Leaves.{Unmarked}
 use Rattle.model.proofs.Effects.OneWord.{cpuOf, stored}
@@ -38,8 +37,8 @@ use Rattle.model.proofs.Invariant.Running.{Only, Did, Executes, execute
 use Rattle.model.proofs.Invariant.Reals.{size-is, mirrored, real-state, real-cpu, real-stored}
 use Rattle.model.proofs.Invariant.Scheduling.{settle, lets-go}
 use Rattle.model.proofs.Invariant.Finish.{step-settles, step-lets-go, silent}
-use Rattle.model.proofs.Steps.BranchEnds.{father, father-of, distance-in, par-node, last-leaf, last-rest, last-lined}
-use Rattle.model.proofs.Steps.BranchEnds.{last-clean, more-rest, more-lined, link-off}
+use Rattle.model.proofs.Steps.BranchEnds.{father, father-of, distance-in, par-node, last-leaf, last-rest, last-lined, last-clean}
+use Rattle.model.proofs.Steps.BranchEnds.{more-rest, more-lined, link-off}
 
 -- each branch needs words
 few-left : {S : Setting} {vars chans : List Site} {w d : ℕ} {ss : Stmts} {bs : Branches}

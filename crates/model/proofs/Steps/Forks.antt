@@ -16,16 +16,13 @@ use Rattle.model.proofs.Cases.{never}
 use Rattle.model.proofs.Quiet.Ways.{Mem}
 use Rattle.model.proofs.Quiet.Setting.{Setting}
 use Rattle.model.proofs.Occam.Paths.{l-output, leaf-par, leaf-begin, live-begin, silent-begin, left, left-branches, same-path}
-use Rattle.model.proofs.Occam.Paths.{stmtAt}
-use Rattle.model.proofs.Occam.Paths.{begun, started-found, look-started, look-put-same, look-put-other, look-put-below, look-after}
-use Rattle.model.proofs.Occam.Paths.{into}
-use Rattle.model.proofs.Occam.Paths.{aside, Compared, equal, below, above, apart, compare, leaves-apart, Apart, apart-differ}
-use Rattle.model.proofs.Occam.Paths.{same-par}
-use Rattle.model.proofs.Occam.Paths.{par-above, leaf-below}
+use Rattle.model.proofs.Occam.Paths.{stmtAt, begun, started-found, look-started, look-put-same, look-put-other, look-put-below}
+use Rattle.model.proofs.Occam.Paths.{look-after, into, aside, Compared, equal, below, above, apart, compare, leaves-apart, Apart}
+use Rattle.model.proofs.Occam.Paths.{apart-differ, same-par, par-above, leaf-below}
 use Rattle.model.proofs.Words.Parts.{Part, joins, partOf}
 use Rattle.model.proofs.Quiet.Marks.{Own, ParCode}
-use Rattle.model.proofs.Invariant.Trees.{some-same, distanceOf, Label, alone, parted, Info, newInfo, Tree, labelAt, rebuild}
-use Rattle.model.proofs.Invariant.Trees.{Rebuilt, started, started-label, started-scope, started-alone}
+use Rattle.model.proofs.Invariant.Trees.{some-same, distanceOf, Label, alone, parted, Info, newInfo, Tree, labelAt, rebuild, Rebuilt}
+use Rattle.model.proofs.Invariant.Trees.{started, started-label, started-scope, started-alone}
 use Rattle.model.proofs.Invariant.Zones.{Zone, zoneOf}
 use Rattle.model.proofs.Invariant.Leaves.{Unmarked}
 use Rattle.model.proofs.Invariant.Stays.{Intact, held-stays}

@@ -18,8 +18,8 @@ use Rattle.model.specs.Instruction as I
 use Rattle.model.specs.Code.{functionIn, operandIn}
 use Rattle.model.specs.Layout.{base}
 use Rattle.model.specs.Machine.{World, isHeld, resumeWord, stateWord, nameOf}
-use Rattle.model.specs.Occam.{store, Frame, before, atInput, atOutput, resume, go, look, put, State}
-use Rattle.model.specs.Occam.{over-channel, Sender, process, outside, Step, begins, communicates, receives}
+use Rattle.model.specs.Occam.{store, Frame, before, atInput, atOutput, resume, go, look, put, State, over-channel, Sender, process}
+use Rattle.model.specs.Occam.{outside, Step, begins, communicates, receives}
 use Rattle.model.specs.Demand.{step, talkOf}
 use Rattle.model.specs.declared.Setup.{Setup}
 use Rattle.model.proofs.Cases.{never, by-bool}
@@ -28,8 +28,7 @@ use Rattle.model.proofs.Quiet.Ways.{upd-same, upd-other, upd, Mem}
 use Rattle.model.proofs.Quiet.Setting.{whole}
 use Rattle.model.proofs.Quiet.CodeParts.{inside}
 use Rattle.model.proofs.Occam.Paths.{l-input, l-output, leaf-resume, live-resume, silent-resume, same-path, look-put-same}
-use Rattle.model.proofs.Occam.Paths.{put-put-same}
-use Rattle.model.proofs.Occam.Paths.{Apart, apart-sym as path-apart-sym, leaves-apart, look-put-other, put-put-apart}
+use Rattle.model.proofs.Occam.Paths.{put-put-same, Apart, apart-sym as path-apart-sym, leaves-apart, look-put-other, put-put-apart}
 use Rattle.model.proofs.Words.Parts.{Part, Fine}
 use Rattle.model.proofs.Quiet.Continuations.{Placed, Cont, cont-placed}
 use Rattle.model.proofs.Quiet.Marks.{Own, own-name}
@@ -39,8 +38,8 @@ use Rattle.model.proofs.Invariant.Leaves.{member, Unmarked, Waits, h-in
 use Rattle.model.proofs.Effects.OneWord.{cpuOf, stored}
 use Rattle.model.proofs.Effects.Acts.{dropped, parked, exec-in-held, exec-in-wait, exec-in-sender}
 use Rattle.model.proofs.Invariant.Kernel.{Loaded, S, root, size, setup, LeafAt, Rest, Lined, Real}
-use Rattle.model.proofs.Invariant.Writes.{changed, after-leaf, after-lined, node, apart-parts, apart-zones, part-small}
-use Rattle.model.proofs.Invariant.Writes.{sits-at, write-var, change-offers}
+use Rattle.model.proofs.Invariant.Writes.{changed, after-leaf, after-lined, node, apart-parts, apart-zones, part-small, sits-at}
+use Rattle.model.proofs.Invariant.Writes.{write-var, change-offers}
 use Rattle.model.proofs.Invariant.Puts.{putting, treeThen, here-then, other-then, lined-then, rest-then, sender-before}
 use Rattle.model.proofs.Invariant.Grounds.{var-in, chan-in, small-size, sound-at}
 use Rattle.model.proofs.Invariant.Traces.{Trace, t-none, t-step}

@@ -35,8 +35,8 @@ use Rattle.model.proofs.Invariant.Zones.{zoneOf}
 use Rattle.model.proofs.Invariant.Leaves.{Unmarked}
 use Rattle.model.proofs.Effects.OneWord.{cpuOf, stored, exec-stl}
 use Rattle.model.proofs.Invariant.Kernel.{Loaded, S, root, LeafAt, NodeAt, Owned, Rest, Real}
-use Rattle.model.proofs.Invariant.Writes.{changed, after-leaf, after-lined, node, apart-zones, part-small, rest-same}
-use Rattle.model.proofs.Invariant.Writes.{sender-stored, sender-kept}
+use Rattle.model.proofs.Invariant.Writes.{changed, after-leaf, after-lined, node, apart-zones, part-small, rest-same, sender-stored}
+use Rattle.model.proofs.Invariant.Writes.{sender-kept}
 use Rattle.model.proofs.Invariant.Puts.{putting, here-then}
 use Rattle.model.proofs.Invariant.Grounds.{small-size, sound-at}
 use Rattle.model.proofs.Invariant.Running.{Only, Did, Executes, executes, Acting}

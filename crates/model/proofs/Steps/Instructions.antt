@@ -19,8 +19,7 @@ use Rattle.model.proofs.Quiet.Setting.{At}
 use Rattle.model.proofs.Quiet.CodeParts.{inside}
 use Rattle.model.proofs.Words.Parts.{Part}
 use Rattle.model.proofs.Quiet.Marks.{Point, pt-stop, pt-assign, pt-var, pt-chan, pt-taken, pt-none, pt-while, pt-in, pt-out}
-use Rattle.model.proofs.Quiet.Marks.{pt-par-place}
-use Rattle.model.proofs.Quiet.Marks.{pt-par-count, pt-end, pt-alt, Spare, Settled}
+use Rattle.model.proofs.Quiet.Marks.{pt-par-place, pt-par-count, pt-end, pt-alt, Spare, Settled}
 use Rattle.model.proofs.Quiet.Arrivals.{Goes, Comes}
 use Rattle.model.proofs.Quiet.Onwards.{AltGoes, alt-goes, Starts}
 use Rattle.model.proofs.Invariant.Trees.{Info, Tree, bytesLeft}
@@ -30,8 +29,7 @@ use Rattle.model.proofs.Invariant.Kernel.{Loaded, S, root, LeafAt, Rest
 use Rattle.model.proofs.Invariant.Writes.{sits-at}
 use Rattle.model.proofs.Invariant.Traces.{t-none}
 use Rattle.model.proofs.Invariant.Running.{Only, StartsLeft, Later, Starting, Here, fresh, off-small, ToStart, starts, Did, came}
-use Rattle.model.proofs.Invariant.Running.{Executes, executes}
-use Rattle.model.proofs.Invariant.Running.{Acting}
+use Rattle.model.proofs.Invariant.Running.{Executes, executes, Acting}
 use Rattle.model.proofs.Invariant.Moving.{relabelled, relabel}
 use Rattle.model.proofs.Invariant.Reals.{real-cpu}
 use Rattle.model.proofs.Quiet.PathEnds.{way-bound, start-in}

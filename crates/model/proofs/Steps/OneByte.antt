@@ -33,8 +33,7 @@ use Rattle.model.proofs.Invariant.Writes.{sits-at}
 use Rattle.model.proofs.Invariant.Grounds.{code-end}
 use Rattle.model.proofs.Invariant.Traces.{t-none}
 use Rattle.model.proofs.Invariant.Running.{Only, StartsLeft, Starting, Here, within, at-end, off-small, Now, now-goes, now-alt}
-use Rattle.model.proofs.Invariant.Running.{NowStarts, Inv}
-use Rattle.model.proofs.Invariant.Running.{runs, starts, idle, Did, came, Executes, executes, Acting}
+use Rattle.model.proofs.Invariant.Running.{NowStarts, Inv, runs, starts, idle, Did, came, Executes, executes, Acting}
 use Rattle.model.proofs.Invariant.Moving.{relaid, relabelled, relabel}
 use Rattle.model.proofs.Invariant.Reals.{real-cpu}
 use Rattle.model.proofs.Quiet.PathEnds.{way-far, point-in, alt-far, start-in}

@@ -23,8 +23,7 @@ use Rattle.model.proofs.Quiet.Ways.{upd-same, upd-other, upd, Mem}
 use Rattle.model.proofs.Quiet.Setting.{whole, At}
 use Rattle.model.proofs.Quiet.CodeParts.{inside, up}
 use Rattle.model.proofs.Occam.Paths.{l-input, l-output, leaf-resume, live-resume, silent-resume, same-path, look-put-same}
-use Rattle.model.proofs.Occam.Paths.{put-put-same}
-use Rattle.model.proofs.Occam.Paths.{Apart, apart-sym as path-apart-sym, leaves-apart, look-put-other, put-put-apart}
+use Rattle.model.proofs.Occam.Paths.{put-put-same, Apart, apart-sym as path-apart-sym, leaves-apart, look-put-other, put-put-apart}
 use Rattle.model.proofs.Words.Parts.{Part, Target, Fine}
 use Rattle.model.proofs.Quiet.Continuations.{Placed, Cont, c-up, cont-low, cont-placed}
 use Rattle.model.proofs.Quiet.Marks.{Own, AnyReady, r-first, r-later, Picks, p-first, p-later, Guarded, AltCode, Marked, Disabling}
@@ -35,8 +34,8 @@ use Rattle.model.proofs.Invariant.Leaves.{member, Unmarked, Resumes, Wa
 use Rattle.model.proofs.Effects.OneWord.{cpuOf, stored}
 use Rattle.model.proofs.Effects.Acts.{parked, exec-out-wait, exec-out-alt, exec-out-receiver, notify-waiting, notify-other}
 use Rattle.model.proofs.Invariant.Kernel.{Loaded, S, root, size, LeafAt, owned, Rest, Lined, Real}
-use Rattle.model.proofs.Invariant.Writes.{changed, after-leaf, after-lined, node, apart-parts, apart-zones, own-one}
-use Rattle.model.proofs.Invariant.Writes.{part-small, sits-at, write-var, write-chan}
+use Rattle.model.proofs.Invariant.Writes.{changed, after-leaf, after-lined, node, apart-parts, apart-zones, own-one, part-small}
+use Rattle.model.proofs.Invariant.Writes.{sits-at, write-var, write-chan}
 use Rattle.model.proofs.Invariant.Puts.{putting, treeThen, here-then, other-then, lined-then, rest-then, sender-then}
 use Rattle.model.proofs.Invariant.Grounds.{var-in, chan-in, small-size, sound-at}
 use Rattle.model.proofs.Invariant.Traces.{Trace, t-none, t-step}

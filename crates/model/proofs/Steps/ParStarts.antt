@@ -37,8 +37,7 @@ use Rattle.model.proofs.Invariant.Writes.{part-small}
 use Rattle.model.proofs.Invariant.Grounds.{small-size, sound-at}
 use Rattle.model.proofs.Invariant.Traces.{t-none, t-step}
 use Rattle.model.proofs.Invariant.Running.{Only, StartsLeft, Later, l-here, l-next, not-started, Starting, fresh, ToStart, starts}
-use Rattle.model.proofs.Invariant.Running.{Did}
-use Rattle.model.proofs.Invariant.Running.{came, Executes, executes, Acting}
+use Rattle.model.proofs.Invariant.Running.{Did, came, Executes, executes, Acting}
 use Rattle.model.proofs.Invariant.Moving.{rest-narrow, lined-in}
 use Rattle.model.proofs.Invariant.Reals.{size-is, real-state, real-cpu}
 use Rattle.model.proofs.Invariant.Scheduling.{settle}

@@ -36,8 +36,7 @@ use Rattle.model.proofs.Invariant.Writes.{part-small, sits-at}
 use Rattle.model.proofs.Invariant.Grounds.{small-size, sound-at}
 use Rattle.model.proofs.Invariant.Traces.{t-none}
 use Rattle.model.proofs.Invariant.Running.{Only, StartsLeft, Later, l-here, l-next, not-started, Starting, fresh, ToStart, starts}
-use Rattle.model.proofs.Invariant.Running.{Did}
-use Rattle.model.proofs.Invariant.Running.{came, Executes, executes, Acting}
+use Rattle.model.proofs.Invariant.Running.{Did, came, Executes, executes, Acting}
 use Rattle.model.proofs.Invariant.Moving.{relaid, relabelled, relabel}
 use Rattle.model.proofs.Invariant.Reals.{size-is}
 use Rattle.model.proofs.Invariant.Scheduling.{settles, settle, wakes, Woken, linkedTo}

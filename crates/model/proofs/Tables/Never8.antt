@@ -10,13 +10,15 @@ use Rattle.model.specs.Limits.{tableLimit, codeLimit, wordLimit}
 use Rattle.model.specs.Number.{number}
 use Rattle.model.specs.Syntax.{Site, Expr, Program}
 use Rattle.model.specs.Reader.{Parsed, parsed, fails, Reader, onward, _>>=_, pure, refuse, here, readNumber, oneOf, readCount, Scope}
-use Rattle.model.specs.Reader.{readName, anySite, canInput, canOutput, readVariable, tooDeep, ExprKind, isConstant, isVariable}
-use Rattle.model.specs.Reader.{isNot, isBinary, exprOf, readExpr, readMany}
-use Rattle.model.specs.Reader.{StmtKind, isSkip, isStop, isAssign, isInput, isOutput, isVar, isChan, isSeq, isPar, isIf, isWhile}
-use Rattle.model.specs.Reader.{isAlt}
-use Rattle.model.specs.Reader.{GuardKind, isInputGuard, isSkipGuard, Inner, readPair, guardOf, readGuard, stmtOf, readStmt}
-use Rattle.model.specs.Reader.{readProgram}
-use Rattle.model.specs.Reader.{Read, program, refused as unread, whole, readTable}
+use Rattle.model.specs.Reader.{readName, anySite, canInput, canOutput, readVariable, tooDeep, exprOf, readExpr, readMany, Inner}
+use Rattle.model.specs.Reader.{readPair, guardOf, readGuard, stmtOf, readStmt, readProgram, Read, program, refused as unread, whole}
+use Rattle.model.specs.Reader.{readTable}
+use Rattle.model.specs.declared.kinds.ExprKind.{ExprKind}
+use Rattle.model.specs.declared.kinds.ExprKind.the-variants.{Constant, Variable, Not, Binary}
+use Rattle.model.specs.declared.kinds.StmtKind.{StmtKind}
+use Rattle.model.specs.declared.kinds.StmtKind.the-variants.{Skip, Stop, Assign, Input, Output, Var, Chan, Seq, Par, If, While, Alt}
+use Rattle.model.specs.declared.kinds.GuardKind.{GuardKind}
+use Rattle.model.specs.declared.kinds.GuardKind.the-variants.{Input as InputGuard, Skip as SkipGuard}
 use Rattle.model.specs.Usage.{firstClash}
 use Rattle.model.specs.Counts.{processes}
 use Rattle.model.specs.Accept.{limit, checks, onRead, accept, memoryWords}
@@ -90,10 +92,10 @@ ruleset parts = (bind, gives, of-here, of-readNumber, of-oneOf, of-readCount, of
 
 of-exprOf : (scope : Scope) (inner : Reader Expr) → Tells inner → (k : ExprKind) → Tells (exprOf scope inner k)
 unfolding exprOf
-of-exprOf scope inner h isConstant = search parts
-of-exprOf scope inner h isVariable = search parts
-of-exprOf scope inner h isNot = search parts
-of-exprOf scope inner h isBinary = search parts
+of-exprOf scope inner h Constant = search parts
+of-exprOf scope inner h Variable = search parts
+of-exprOf scope inner h Not = search parts
+of-exprOf scope inner h Binary = search parts
 
 of-readExpr : (d : ℕ) (scope : Scope) → Tells (readExpr d scope)
 unfolding readExpr
@@ -116,8 +118,8 @@ module _ (scope : Scope) (inner : Inner) (expr : Tells (inner .expr)) (body : (s
 
   of-guardOf : (k : GuardKind) → Tells (guardOf scope (inner .expr) k)
   unfolding guardOf
-  of-guardOf isInputGuard = bind expr (λ e. bind (of-readName canInput _) (λ c. bind of-variable (λ x. gives _)))
-  of-guardOf isSkipGuard = bind expr (λ e. gives _)
+  of-guardOf InputGuard = bind expr (λ e. bind (of-readName canInput _) (λ c. bind of-variable (λ x. gives _)))
+  of-guardOf SkipGuard = bind expr (λ e. gives _)
 
   of-readGuard : Tells (readGuard scope inner)
   unfolding readGuard
@@ -125,18 +127,18 @@ module _ (scope : Scope) (inner : Inner) (expr : Tells (inner .expr)) (body : (s
 
   of-stmtOf : (p : ℕ) (k : StmtKind) → Tells (stmtOf p scope inner k)
   unfolding stmtOf
-  of-stmtOf p isSkip = gives _
-  of-stmtOf p isStop = gives _
-  of-stmtOf p isAssign = bind of-variable (λ x. bind expr (λ e. gives _))
-  of-stmtOf p isInput = bind (of-readName canInput _) (λ c. bind of-variable (λ x. gives _))
-  of-stmtOf p isOutput = bind (of-readName canOutput _) (λ c. bind expr (λ e. gives _))
-  of-stmtOf p isVar = bind (of-readCount _ _) (λ n. bind (body _) (λ s. gives _))
-  of-stmtOf p isChan = bind (of-readCount _ _) (λ n. bind (body _) (λ s. gives _))
-  of-stmtOf p isSeq = bind (of-readCount _ _) (λ n. bind (of-readMany _ _ _ (body scope) n) (λ ss. gives _))
-  of-stmtOf p isPar = bind (of-readCount _ _) (λ n. bind (of-readMany _ _ _ (body scope) n) (λ ss. gives _))
-  of-stmtOf p isIf = bind (of-readCount _ _) (λ n. bind (of-readMany _ _ _ of-readPair n) (λ ps. gives _))
-  of-stmtOf p isWhile = bind expr (λ e. bind (body scope) (λ s. gives _))
-  of-stmtOf p isAlt = bind (of-readCount _ _) (λ n. bind (of-readMany _ _ _ of-readGuard n) (λ gs. gives _))
+  of-stmtOf p Skip = gives _
+  of-stmtOf p Stop = gives _
+  of-stmtOf p Assign = bind of-variable (λ x. bind expr (λ e. gives _))
+  of-stmtOf p Input = bind (of-readName canInput _) (λ c. bind of-variable (λ x. gives _))
+  of-stmtOf p Output = bind (of-readName canOutput _) (λ c. bind expr (λ e. gives _))
+  of-stmtOf p Var = bind (of-readCount _ _) (λ n. bind (body _) (λ s. gives _))
+  of-stmtOf p Chan = bind (of-readCount _ _) (λ n. bind (body _) (λ s. gives _))
+  of-stmtOf p Seq = bind (of-readCount _ _) (λ n. bind (of-readMany _ _ _ (body scope) n) (λ ss. gives _))
+  of-stmtOf p Par = bind (of-readCount _ _) (λ n. bind (of-readMany _ _ _ (body scope) n) (λ ss. gives _))
+  of-stmtOf p If = bind (of-readCount _ _) (λ n. bind (of-readMany _ _ _ of-readPair n) (λ ps. gives _))
+  of-stmtOf p While = bind expr (λ e. bind (body scope) (λ s. gives _))
+  of-stmtOf p Alt = bind (of-readCount _ _) (λ n. bind (of-readMany _ _ _ of-readGuard n) (λ gs. gives _))
 
 of-readStmt : (d : ℕ) (scope : Scope) → Tells (readStmt d scope)
 unfolding readStmt

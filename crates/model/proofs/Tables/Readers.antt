@@ -12,16 +12,19 @@ use Rattle.model.specs.Limits.{tableLimit}
 use Rattle.model.specs.Number.{Number, groups, number}
 use Rattle.model.specs.Syntax.{Site, Expr, Stmt, Stmts, noStmt, stmt, Pairs, Guard, Guards, Program}
 use Rattle.model.specs.Reader.{Parsed, parsed, fails, Reader, onward, pure, refuse, readNumber, oneOf, readCount, Scope, readName}
-use Rattle.model.specs.Reader.{canInput, canOutput, anySite, withVariables, withChannels, ExprKind, isConstant, isVariable, isNot}
-use Rattle.model.specs.Reader.{isBinary, exprKinds, operators, tooDeep, exprOf, readExpr, readMany, StmtKind, isSkip}
-use Rattle.model.specs.Reader.{isStop, isAssign, isInput, isOutput, isVar, isChan, isSeq, isPar, isIf, isWhile, isAlt, stmtKinds}
-use Rattle.model.specs.Reader.{GuardKind, isInputGuard, isSkipGuard, guardKinds, Inner, readPair, guardOf, readGuard, stmtOf}
-use Rattle.model.specs.Reader.{readStmt, readProgram, program, readTable}
+use Rattle.model.specs.Reader.{canInput, canOutput, anySite, withVariables, withChannels, exprKinds, operators, tooDeep, exprOf}
+use Rattle.model.specs.Reader.{readExpr, readMany, stmtKinds, guardKinds, Inner, readPair, guardOf, readGuard, stmtOf, readStmt}
+use Rattle.model.specs.Reader.{readProgram, program, readTable}
+use Rattle.model.specs.declared.kinds.ExprKind.{ExprKind}
+use Rattle.model.specs.declared.kinds.ExprKind.the-variants.{Constant, Variable, Not, Binary}
+use Rattle.model.specs.declared.kinds.StmtKind.{StmtKind}
+use Rattle.model.specs.declared.kinds.StmtKind.the-variants.{Skip, Stop, Assign, Input, Output, Var, Chan, Seq, Par, If, While, Alt}
+use Rattle.model.specs.declared.kinds.GuardKind.{GuardKind}
+use Rattle.model.specs.declared.kinds.GuardKind.the-variants.{Input as InputGuard, Skip as SkipGuard}
 use Rattle.model.specs.Scheme.{howMany}
 use Rattle.model.proofs.Cases.{by-bool, by-option, by-parsed, never, is-true}
 use Rattle.model.proofs.Tables.WellFormed.{WellExpr, Well, WellAll, WellPairs, WellGuard, WellGuards, WellProgram, Placed, PlacedAll}
-use Rattle.model.proofs.Tables.WellFormed.{PlacedPairs}
-use Rattle.model.proofs.Tables.WellFormed.{PlacedGuards}
+use Rattle.model.proofs.Tables.WellFormed.{PlacedPairs, PlacedGuards}
 
 -- a number at the front of k bytes
 abbrev Sized : ℕ → Option Number → Type 0
@@ -142,10 +145,10 @@ module _ {end : ℕ} where
   expr-of : {sc : Scope} {inner : Reader Expr} → ((at : ℕ) → Sound end Expr at (λ to e. WellExpr sc e) (inner at))
       → (k : ExprKind) (at : ℕ) → Sound end Expr at (λ to e. WellExpr sc e) (exprOf sc inner k at)
   unfolding exprOf
-  expr-of h isConstant at = next (number-reads at) λ to n le g. done (g .1)
-  expr-of {sc} h isVariable at = next (variable-reads sc at) λ to x le g. done g
-  expr-of h isNot at = next (h at) λ to e le g. done g
-  expr-of h isBinary at =
+  expr-of h Constant at = next (number-reads at) λ to n le g. done (g .1)
+  expr-of {sc} h Variable at = next (variable-reads sc at) λ to x le g. done g
+  expr-of h Not at = next (h at) λ to e le g. done g
+  expr-of h Binary at =
       next (one-reads operators at) λ to₁ op le₁ g. next (h to₁) λ to₂ l le₂ gl. next (h to₂) λ to₃ r le₃ gr. done (gl, gr)
 
   expr-reads : (d : ℕ) (sc : Scope) (at : ℕ) → Sound end Expr at (λ to e. WellExpr sc e) (readExpr d sc at)
@@ -202,10 +205,10 @@ module _ {end : ℕ} {sc : Scope} {inner : Inner} (i : InnerSound end sc inner) 
 
   guard-of : (k : GuardKind) (at : ℕ) → Sound end Guard at (λ to g. WellGuard sc g) (guardOf sc (inner .expr) k at)
   unfolding guardOf
-  guard-of isInputGuard at =
+  guard-of InputGuard at =
       next (i .whole at) λ at₁ e le₁ ge. next (name-reads canInput (sc .channels) at₁) λ at₂ c le₂ gc.
       next (variable-reads sc at₂) λ at₃ x le₃ gx. done (ge, gc, gx)
-  guard-of isSkipGuard at = next (i .whole at) λ at₁ e le₁ ge. done ge
+  guard-of SkipGuard at = next (i .whole at) λ at₁ e le₁ ge. done ge
 
   guard-reads : (at : ℕ) → Sound end (Guards → Guards) at (Extends (ReadGuards sc) at) (readGuard sc inner at)
   unfolding readGuard
@@ -216,34 +219,34 @@ module _ {end : ℕ} {sc : Scope} {inner : Inner} (i : InnerSound end sc inner) 
   -- what follows the kind of a statement at p
   stmt-of : (p at : ℕ) → p < at → (k : StmtKind) → Sound end Stmt at (ReadStmt sc p) (stmtOf p sc inner k at)
   unfolding stmtOf
-  stmt-of p at lt isSkip = done (tt, λ lo l. omega arith)
-  stmt-of p at lt isStop = done (tt, λ lo l. omega arith)
-  stmt-of p at lt isAssign =
+  stmt-of p at lt Skip = done (tt, λ lo l. omega arith)
+  stmt-of p at lt Stop = done (tt, λ lo l. omega arith)
+  stmt-of p at lt Assign =
       next (variable-reads sc at) λ at₁ x le₁ gx. next (i .whole at₁) λ to e le₂ ge. done ((gx, ge), λ lo l. omega arith)
-  stmt-of p at lt isInput =
+  stmt-of p at lt Input =
       next (name-reads canInput (sc .channels) at) λ at₁ c le₁ gc. next (variable-reads sc at₁) λ to x le₂ gx.
       done ((gc, gx), λ lo l. omega arith)
-  stmt-of p at lt isOutput =
+  stmt-of p at lt Output =
       next (name-reads canOutput (sc .channels) at) λ at₁ c le₁ gc. next (i .whole at₁) λ to e le₂ ge.
       done ((gc, ge), λ lo l. omega arith)
-  stmt-of p at lt isVar =
+  stmt-of p at lt Var =
       next (count-reads 1 32 at) λ at₁ n le₁ gn. next (i .body (withVariables p n sc) at₁) λ to s le₂ gs.
       done ((gn .0, gn .1, gs .0), λ lo l. (l, gs .1 (suc p) (omega arith)))
-  stmt-of p at lt isChan =
+  stmt-of p at lt Chan =
       next (count-reads 1 32 at) λ at₁ n le₁ gn. next (i .body (withChannels p n sc) at₁) λ to s le₂ gs.
       done ((gn .0, gn .1, gs .0), λ lo l. (l, gs .1 (suc p) (omega arith)))
-  stmt-of p at lt isSeq =
+  stmt-of p at lt Seq =
       next (count-reads 0 32 at) λ at₁ n le₁ gn. next (all-reads n at₁) λ to ss le₂ g. done (g .1, λ lo l. g .2 lo (omega arith))
-  stmt-of p at lt isPar =
+  stmt-of p at lt Par =
       next (count-reads 0 16 at) λ at₁ n le₁ gn. next (all-reads n at₁) λ to ss le₂ g.
       done ((omega arith, g .1), λ lo l. g .2 lo (omega arith))
-  stmt-of p at lt isIf =
+  stmt-of p at lt If =
       next (count-reads 0 32 at) λ at₁ n le₁ gn.
       next (many-reads (λ n. ReadPairs sc) (λ at. (tt, λ lo h. h)) (λ k. pair-reads) n at₁) λ to ps le₂ g.
       done (g .0, λ lo l. g .1 lo (omega arith))
-  stmt-of p at lt isWhile =
+  stmt-of p at lt While =
       next (i .whole at) λ at₁ e le₁ ge. next (i .body sc at₁) λ to s le₂ gs. done ((ge, gs .0), λ lo l. gs .1 lo (omega arith))
-  stmt-of p at lt isAlt =
+  stmt-of p at lt Alt =
       next (count-reads 0 32 at) λ at₁ n le₁ gn.
       next (many-reads (λ n. ReadGuards sc) (λ at. (tt, λ lo h. h)) (λ k. guard-reads) n at₁) λ to ps le₂ g.
       done (g .0, λ lo l. g .1 lo (omega arith))

@@ -7,30 +7,27 @@ use mathlib.Core.Bool.{false}
 use mathlib.Core.List.{List, [], _++_, List·Memᴰ, List·Memᴰ·append-cases, Memᴰ·append-left, Memᴰ·append-right, List·Memᴰ·not-nil}
 use mathlib.Core.List.{List·Memᴰ·head, List·Memᴰ·tail, List·Memᴰ·eq-of-singleton}
 use mathlib.Core.Option.{none}
-use Rattle.model.specs.Syntax.{Site, inputOf, outputOf, declared, Expr, constant, variable, NOT, binary, Stmt, SKIP, STOP}
-use Rattle.model.specs.Syntax.{assign, input, output, VAR, CHAN, SEQ, PAR, IF, WHILE, ALT, Stmts, noStmt, stmt, Pairs, noPair, pair}
-use Rattle.model.specs.Syntax.{Guard, inputGuard, skipGuard, condition, Guards, noGuard, guard, Program}
+use Rattle.model.specs.Syntax.{Site, inputOf, outputOf, declared, Expr, constant, variable, NOT, binary, Stmt, SKIP, STOP, assign}
+use Rattle.model.specs.Syntax.{input, output, VAR, CHAN, SEQ, PAR, IF, WHILE, ALT, Stmts, noStmt, stmt, Pairs, noPair, pair, Guard}
+use Rattle.model.specs.Syntax.{inputGuard, skipGuard, condition, Guards, noGuard, guard, Program}
 use Rattle.model.specs.Reader.{Scope, canInput, canOutput, names, numbered, withVariables, withChannels, program}
-use Rattle.model.specs.Usage.{Usage, _⊕_, reads, reading, usage, usageAll, usagePairs, guardUsage, usageGuards}
-use Rattle.model.specs.Usage.{clash}
-use Rattle.model.specs.Usage.{clashesLater, anyClash, firstClash, firstClashAll, firstClashPairs, firstClashGuards}
+use Rattle.model.specs.Usage.{Usage, _⊕_, reads, reading, usage, usageAll, usagePairs, guardUsage, usageGuards, clash, clashesLater}
+use Rattle.model.specs.Usage.{anyClash, firstClash, firstClashAll, firstClashPairs, firstClashGuards}
 use Rattle.model.specs.Counts.{temporaries, guardWords, need, mostNeed, sumNeed, pairNeed, guardNeed}
 use Rattle.model.specs.Layout.{base, wordOf, workspaceOf, layout}
 use Rattle.model.specs.Accept.{accept}
 use Rattle.model.proofs.Cases.{never}
 use Rattle.model.proofs.Tables.WellFormed.{WellExpr, Well, WellAll, WellPairs, WellGuard, WellGuards, WellProgram, outermost, Placed}
-use Rattle.model.proofs.Tables.WellFormed.{PlacedAll}
-use Rattle.model.proofs.Tables.WellFormed.{PlacedPairs, PlacedGuards, Laid, LaidAll, LaidBranches, LaidPairs, LaidGuards}
+use Rattle.model.proofs.Tables.WellFormed.{PlacedAll, PlacedPairs, PlacedGuards, Laid, LaidAll, LaidBranches, LaidPairs, LaidGuards}
 use Rattle.model.proofs.Tables.Readers.{read-well}
 use Rattle.model.proofs.Tables.Accepts.{Passed, accept-reads, accept-passed, orElse-none, clash-par}
 use Rattle.model.proofs.Coding.Layouts.{program-laid}
 use Rattle.model.proofs.Words.Values.{FineExpr}
 use Rattle.model.proofs.Words.Parts.{Part, Ending, the-end, joins, declares, declaresAll, declaresPairs, declaresGuards, partOf}
-use Rattle.model.proofs.Words.Parts.{Disjoint}
-use Rattle.model.proofs.Words.Parts.{need-two, lowered, guardRoom, Apart, Within, FineWhole, Fine, FineAll, FineBranches, Beside}
-use Rattle.model.proofs.Words.Parts.{FineInput, FinePairs, FineGuards}
-use Rattle.model.proofs.Words.Uses.{Between, between-wider, between-apart, names-between, placed-le}
-use Rattle.model.proofs.Words.Uses.{declares-from, uses-from, neither, clash-disjoint}
+use Rattle.model.proofs.Words.Parts.{Disjoint, need-two, lowered, guardRoom, Apart, Within, FineWhole, Fine, FineAll, FineBranches}
+use Rattle.model.proofs.Words.Parts.{Beside, FineInput, FinePairs, FineGuards}
+use Rattle.model.proofs.Words.Uses.{Between, between-wider, between-apart, names-between, placed-le, declares-from, uses-from}
+use Rattle.model.proofs.Words.Uses.{neither, clash-disjoint}
 
 -- a part may do what a usage says, and change the names that are declared
 pub record Covers (a : Part) (u : Usage) (ds : List Site) : Type 0 where

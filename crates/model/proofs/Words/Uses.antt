@@ -6,9 +6,9 @@ use mathlib.Core.Logic.{_⊎_, inl, inr, ⊎-elim}
 use mathlib.Core.Bool.{Bool, true, false, _||_}
 use mathlib.Core.List.{List, [], _∷_, _++_, List·Memᴰ, List·Memᴰ·append-cases, List·Memᴰ·cases-cons, List·Memᴰ·not-nil}
 use mathlib.Core.List.{List·Memᴰ·eq-of-singleton, Memᴰ·cast}
-use Rattle.model.specs.Syntax.{Site, declared, Expr, constant, variable, NOT, binary, Stmt, SKIP, STOP, assign}
-use Rattle.model.specs.Syntax.{input, output, VAR, CHAN, SEQ, PAR, IF, WHILE, ALT, Stmts, noStmt, stmt, Pairs, noPair, pair}
-use Rattle.model.specs.Syntax.{Guard, inputGuard, skipGuard, Guards, noGuard, guard}
+use Rattle.model.specs.Syntax.{Site, declared, Expr, constant, variable, NOT, binary, Stmt, SKIP, STOP, assign, input, output, VAR}
+use Rattle.model.specs.Syntax.{CHAN, SEQ, PAR, IF, WHILE, ALT, Stmts, noStmt, stmt, Pairs, noPair, pair, Guard, inputGuard, skipGuard}
+use Rattle.model.specs.Syntax.{Guards, noGuard, guard}
 use Rattle.model.specs.Reader.{Scope, names, numbered, withVariables, withChannels}
 use Rattle.model.specs.Usage.{Usage, reads, usage, usageAll, usagePairs, guardUsage, usageGuards, isIn, share, clash}
 use Rattle.model.proofs.Cases.{never}

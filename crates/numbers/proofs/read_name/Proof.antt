@@ -10,20 +10,20 @@ returns : tie.Need-returns
 unfolding nameAt
 returns c =
     let v = c .before .before in
-    simp (sym (v .before .before .read-groups .ensures) ∙ v .v .given .1, le-leb _ _ (c .if1 .taken))
+    simp (sym (v .before .before .read-number .ensures) ∙ v .v .given .1, le-leb _ _ (c .if1 .taken))
 
 returns-2 : tie.Need-returns-2
 unfolding nameAt
 returns-2 c =
     let v = c .before .before .before in
-    simp (sym (v .before .before .read-groups .ensures) ∙ v .v .given .1, lt-leb _ _ (c .before .if1 .left), lt-ltb _ _ (c .if2 .taken))
+    simp (sym (v .before .before .read-number .ensures) ∙ v .v .given .1, lt-leb _ _ (c .before .if1 .left), lt-ltb _ _ (c .if2 .taken))
 
 returns-3 : tie.Need-returns-3
 unfolding nameAt
 returns-3 c =
     let v = c .before .before .before .before in
     simp (
-      sym (v .before .before .read-groups .ensures) ∙ v .v .given .1,
+      sym (v .before .before .read-number .ensures) ∙ v .v .given .1,
       lt-leb _ _ (c .before .before .if1 .left),
       le-ltb _ _ (c .before .if2 .left),
       lt-ltb _ _ (c .if3 .taken),
@@ -34,7 +34,7 @@ unfolding nameAt
 returns-4 c =
     let v = c .before .before .before .before in
     simp (
-      sym (v .before .before .read-groups .ensures) ∙ v .v .given .1,
+      sym (v .before .before .read-number .ensures) ∙ v .v .given .1,
       lt-leb _ _ (c .before .before .if1 .left),
       le-ltb _ _ (c .before .if2 .left),
       le-ltb _ _ (c .if3 .left),
@@ -42,7 +42,7 @@ returns-4 c =
 
 returns-5 : tie.Need-returns-5
 unfolding nameAt
-returns-5 c = simp (sym (c .before .before .read-groups .ensures) ∙ c .enum-told .given .1)
+returns-5 c = simp (sym (c .before .before .read-number .ensures) ∙ c .enum-told .given .1)
 
 pub read-name-spec : {M : Type 1} → statement M
 read-name-spec =

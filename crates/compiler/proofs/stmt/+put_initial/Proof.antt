@@ -15,14 +15,15 @@ use native.Mathlib.Omega.{arith}
 use mathlib.Core.Path.{_≡_, refl, sym}
 use Rattle.model.specs.Word.{low}
 use Rattle.emitter.specs.Emits.{Code, plainInto}
+use Rattle.numbers.specs.declared.kinds.Declared.{Declared}
 use Rattle.compiler.specs.Stmts.{firstInto, initialInto}
 
-none : (n k j : ℕ) (c : Code) → n ≡ 0 → initialInto n k j c ≡ c
+none : (n : ℕ) (k : Declared) (j : ℕ) (c : Code) → n ≡ 0 → initialInto n k j c ≡ c
 unfolding initialInto
 none n k j c e = rw e
 
 -- `initialInto` unrolled once where a word is left
-turn : (n k j : ℕ) (c : Code) → (n ≡ 0 → ⊥)
+turn : (n : ℕ) (k : Declared) (j : ℕ) (c : Code) → (n ≡ 0 → ⊥)
     → initialInto n k j c ≡ initialInto (n - 1) k (low (j + 1)) (plainInto 0xd0 j (firstInto k c))
 unfolding initialInto
 turn zero k j c p = absurd (p refl)

@@ -13,27 +13,30 @@ use Rattle.emitter.proofs.expr.gen_sides.Reads as gen-sides
 use Rattle.emitter.proofs.expr.gen_sides.Kinds as gen-sides-kinds
 use Rattle.emitter.proofs.expr.+gen_binary+gen_expr+gen_sides.Lts-gen_sides as gen-sides-lts
 use Rattle.emitter.proofs.emit.plain.Reads as plain-reads
-use Rattle.emitter.proofs.expr.gen_leaf.Reads as gen-leaf-reads
+use Rattle.emitter.proofs.expr.gen_constant.Reads as gen-constant-reads
 use Rattle.emitter.proofs.expr.gen_operator.Reads as gen-operator-reads
+use Rattle.emitter.proofs.expr.gen_variable.Reads as gen-variable-reads
 use Rattle.emitter.proofs.sides.arrange.Reads as arrange-reads
 use Rattle.emitter.proofs.sides.put_behind.Reads as put-behind-reads
 use Rattle.emitter.proofs.sides.put_between.Reads as put-between-reads
+use Rattle.numbers.proofs.kinds.expr_kind.Reads as expr-kind-reads
+use Rattle.numbers.proofs.kinds.operator_of.Reads as operator-of-reads
 use Rattle.numbers.proofs.value_at.Reads as value-at-reads
 use Rattle.emitter.proofs.expr.+gen_binary+gen_expr+gen_sides.{statement}
 use Rattle.emitter.proofs.expr.+gen_binary+gen_expr+gen_sides.Tie.{close}
 use borrow.Author.Needs.{needs}
-use borrow.Author.Tests.{lt-ltb, le-ltb, eq-eqb, ne-eqb}
 use native.Mathlib.Omega.{arith}
 use mathlib.Core.List.{List}
 use mathlib.Core.Path.{_≡_, refl, sym, ap, _∙_}
-use mathlib.Core.Bool.{cond}
-use lib.Dec.{ltb, eqb}
+use Rattle.model.specs.declared.kinds.ExprKind.{ExprKind}
+use Rattle.model.specs.declared.kinds.Operator.{Operator}
 use Rattle.numbers.specs.Items.{valueAt}
+use Rattle.numbers.specs.Kinds.{exprKind, byExpr, operatorOf}
 use Rattle.numbers.specs.declared.Value.{Value}
 use Rattle.emitter.specs.declared.sides.Sides.{Sides}
 use Rattle.emitter.specs.Emits.{Code, at}
-use Rattle.emitter.specs.Exprs.{Wrote, written, codeOf, notInto, leafInto, operatorInto, arranged, betweenInto, behindInto}
-use Rattle.emitter.specs.Exprs.{exprInto, sidesAt, binaryInto}
+use Rattle.emitter.specs.Exprs.{Wrote, written, codeOf, notInto, constantInto, variableInto, operatorInto, arranged, betweenInto}
+use Rattle.emitter.specs.Exprs.{behindInto, exprInto, sidesAt, binaryInto}
 
 module _ (d w : ℕ) (vs p s : List ℕ) (h i : ℕ) (c : Code) where
   none : d ≡ 0 → exprInto d w vs p s h i c ≡ written i c
@@ -44,21 +47,21 @@ module _ (d w : ℕ) (vs p s : List ℕ) (h i : ℕ) (c : Code) where
   sided : binaryInto d w vs p s h i c
       ≡ (let o = valueAt s i in
       let r = sidesAt d w vs p s h (o .next) c in
-      written (r .next) (operatorInto (o .value) (codeOf r)))
+      written (r .next) (operatorInto (operatorOf (o .value)) (codeOf r)))
   unfolding binaryInto sidesAt
   sided = refl
 
-  operated : {o : Value} {r : Wrote} {e : Code} → o ≡ valueAt s i → r ≡ sidesAt d w vs p s h (o .next) c
-      → e ≡ operatorInto (o .value) (codeOf r) → written (r .next) e ≡ binaryInto d w vs p s h i c
-  operated f q e = simp (sided, ← f, ← q, ← e)
+  operated : {o : Value} {r : Wrote} {k : Operator} {e : Code} → o ≡ valueAt s i → r ≡ sidesAt d w vs p s h (o .next) c
+      → k ≡ operatorOf (o .value) → e ≡ operatorInto k (codeOf r) → written (r .next) e ≡ binaryInto d w vs p s h i c
+  operated f q g e = simp (sided, ← f, ← q, ← g, ← e)
 
 -- what follows a kind, and `exprInto` unrolled once where there is depth left
-abbrev byKind : (d w : ℕ) → (vs plan s : List ℕ) → (h : ℕ) → Code → Value → Wrote
-byKind d w vs p s h c k =
-    cond (ltb (k .value) 2) (leafInto (k .value) w vs s (k .next) c)
-    (cond (eqb (k .value) 2) (notInto (exprInto (d - 1) w vs p s h (k .next) c)) (binaryInto (d - 1) w vs p s h (k .next) c))
+abbrev byKind : (d w : ℕ) → (vs plan s : List ℕ) → (h : ℕ) → Code → ExprKind → (at : ℕ) → Wrote
+byKind d w vs p s h c k at =
+    byExpr k (constantInto s at c) (variableInto w vs s at c) (notInto (exprInto (d - 1) w vs p s h at c)) (binaryInto (d - 1) w vs p s h at c)
 
-turn : (d w : ℕ) (vs p s : List ℕ) (h i : ℕ) (c : Code) → (d ≡ 0 → ⊥) → exprInto d w vs p s h i c ≡ byKind d w vs p s h c (valueAt s i)
+turn : (d w : ℕ) (vs p s : List ℕ) (h i : ℕ) (c : Code) → (d ≡ 0 → ⊥)
+    → exprInto d w vs p s h i c ≡ (let v = valueAt s i in byKind d w vs p s h c (exprKind (v .value)) (v .next))
 unfolding exprInto binaryInto
 turn zero w vs p s h i c z = absurd (z refl)
 turn (suc d) w vs p s h i c z = let e : suc d - 1 ≡ d = omega arith in rw e
@@ -116,6 +119,8 @@ gen-binary-claims t = (
   value-at-reads.Learnt,
   gen-sides-below t,
   gen-sides.Post,
+  operator-of-reads.Asked,
+  operator-of-reads.Learnt,
   gen-operator-reads.Asked,
   gen-operator-reads.Learnt,
 )
@@ -124,8 +129,12 @@ abbrev gen-expr-claims : ℕ → gen-expr-lts.Claims
 gen-expr-claims t = (
   value-at-reads.Asked,
   value-at-reads.Learnt,
-  gen-leaf-reads.Asked,
-  gen-leaf-reads.Learnt,
+  expr-kind-reads.Asked,
+  expr-kind-reads.Learnt,
+  gen-constant-reads.Asked,
+  gen-constant-reads.Learnt,
+  gen-variable-reads.Asked,
+  gen-variable-reads.Learnt,
   gen-expr-below t,
   gen-expr.Post,
   plain-reads.Asked,
@@ -155,16 +164,22 @@ gen-binary-gen-sides-requires t c κs =
 gen-binary-returns : (t : ℕ) → gen-binary-lts.Need-returns (gen-binary-claims t) (gen-binary-at t) gen-binary.Post
 gen-binary-returns t c =
     let g = c .before .before in
-    let r = g .before .before .before .before in
-    operated _ _ _ _ _ _ _ _ (r .before .before .value-at .ensures) (r .gen-sides .ensures) (g .gen-operator .ensures)
+    let o = g .before .before in
+    let r = o .before .before .before .before in
+    operated _ _ _ _ _ _ _ _ (r .before .before .value-at .ensures) (r .gen-sides .ensures) (o .operator-of .ensures)
+    (g .gen-operator .ensures)
 
 -- what is to be answered once the kind is read
-kinded : {t : ℕ} (c : gen-expr-lts.After-value-at (gen-expr-claims t) (gen-expr-at t) gen-expr.Post)
-    → let a = c .before .before .before .before .args in
+kinded : {t : ℕ} {k : ExprKind} (c : gen-expr-lts.After-expr-kind (gen-expr-claims t) (gen-expr-at t) gen-expr.Post)
+    → c .expr-kind .result ≡ k
+    → let v = c .before .before in
+    let a = v .before .before .before .before .args in
     exprInto (a .depth) (a .w) (a .variables .now) (a .plan .now) (a .table .now) (a .held) (a .at) (at (a .here) (a .out .now))
-    ≡ byKind (a .depth) (a .w) (a .variables .now) (a .plan .now) (a .table .now) (a .held) (at (a .here) (a .out .now))
-    (c .value-at .result)
-kinded c = turn _ _ _ _ _ _ _ _ (c .before .if1 .left) ∙ simp (← c .value-at .ensures)
+    ≡ byKind (a .depth) (a .w) (a .variables .now) (a .plan .now) (a .table .now) (a .held) (at (a .here) (a .out .now)) k
+    (v .value-at .result .next)
+kinded c e =
+    let v = c .before .before in
+    turn _ _ _ _ _ _ _ _ (v .before .if1 .left) ∙ simp (← v .value-at .ensures, sym (c .expr-kind .ensures) ∙ e)
 
 gen-expr-returns : (t : ℕ) → gen-expr-lts.Need-returns (gen-expr-claims t) (gen-expr-at t) gen-expr.Post
 gen-expr-returns t c = sym (none _ _ _ _ _ _ _ _ (c .if1 .taken))
@@ -172,8 +187,12 @@ gen-expr-returns t c = sym (none _ _ _ _ _ _ _ _ (c .if1 .taken))
 gen-expr-returns-2 : (t : ℕ) → gen-expr-lts.Need-returns-2 (gen-expr-claims t) (gen-expr-at t) gen-expr.Post
 gen-expr-returns-2 t c =
     let g = c .before .before in
-    let i = g .before .before in
-    simp (kinded (i .before .before), lt-ltb _ _ (i .if2 .taken)) (g .gen-leaf .ensures)
+    let k = g .before .before in g .gen-constant .ensures ∙ sym (kinded (k .before .before) (k .enum-told .given .1))
+
+gen-expr-returns-3 : (t : ℕ) → gen-expr-lts.Need-returns-3 (gen-expr-claims t) (gen-expr-at t) gen-expr.Post
+gen-expr-returns-3 t c =
+    let g = c .before .before in
+    let k = g .before .before in g .gen-variable .ensures ∙ sym (kinded (k .before .before) (k .enum-told2 .given .1))
 
 gen-expr-gen-expr-requires : (t : ℕ)
     → gen-expr-lts.Need-gen-expr-requires (gen-expr-claims t) (gen-expr-at t) gen-expr.Post
@@ -181,19 +200,12 @@ gen-expr-gen-expr-requires t c κs =
     let p = c .before .before .before .before .before .before .before .before .before .pre in
     (omega (arith, p .0), p .1)
 
-gen-expr-returns-3 : (t : ℕ) → gen-expr-lts.Need-returns-3 (gen-expr-claims t) (gen-expr-at t) gen-expr.Post
-gen-expr-returns-3 t c =
+gen-expr-returns-4 : (t : ℕ) → gen-expr-lts.Need-returns-4 (gen-expr-claims t) (gen-expr-at t) gen-expr.Post
+gen-expr-returns-4 t c =
     let p = c .before .before in
     let e = p .before .before .before .before in
-    let i = e .before .before in
-    let k = i .before .before in
-    simp (
-      kinded (k .before .before),
-      le-ltb _ _ (k .if2 .left),
-      eq-eqb _ _ (i .if3 .taken),
-      ← e .gen-expr .ensures,
-      ← p .plain .ensures,
-    )
+    let k = e .before .before in
+    simp (kinded (k .before .before) (k .enum-told3 .given .1), ← e .gen-expr .ensures, ← p .plain .ensures)
 
 gen-expr-gen-binary-requires : (t : ℕ)
     → gen-expr-lts.Need-gen-binary-requires (gen-expr-claims t) (gen-expr-at t) gen-expr.Post
@@ -201,12 +213,10 @@ gen-expr-gen-binary-requires t c κs =
     let p = c .before .before .before .before .before .before .before .before .before .pre in
     (omega (arith, p .0), p .1)
 
-gen-expr-returns-4 : (t : ℕ) → gen-expr-lts.Need-returns-4 (gen-expr-claims t) (gen-expr-at t) gen-expr.Post
-gen-expr-returns-4 t c =
+gen-expr-returns-5 : (t : ℕ) → gen-expr-lts.Need-returns-5 (gen-expr-claims t) (gen-expr-at t) gen-expr.Post
+gen-expr-returns-5 t c =
     let b = c .before .before in
-    let i = b .before .before in
-    let k = i .before .before in
-    simp (kinded (k .before .before), le-ltb _ _ (k .if2 .left), ne-eqb _ _ (i .if3 .left)) (b .gen-binary .ensures)
+    let k = b .before .before in b .gen-binary .ensures ∙ sym (kinded (k .before .before) (k .enum-told4 .given .1))
 
 gen-sides-gen-expr-requires : (t : ℕ)
     → gen-sides-lts.Need-gen-expr-requires (gen-sides-claims t) (gen-sides-at t) gen-sides.Post
@@ -237,6 +247,8 @@ pub +gen-binary+gen-expr+gen-sides-spec : {M : Type 1} → statement M
     gen-binary.Post
     (λ c κs. search needs)
     (gen-binary-gen-sides-requires t)
+    (λ c. search needs)
+    (λ c κs. search needs)
     (λ c κs. search needs)
     (λ c. search needs)
     (gen-binary-returns t))
@@ -245,18 +257,27 @@ pub +gen-binary+gen-expr+gen-sides-spec : {M : Type 1} → statement M
     gen-expr.Post
     (gen-expr-returns t)
     (λ c κs. search needs)
+    (λ c. search needs)
     (λ c κs. search needs)
     (λ c. search needs)
-    (gen-expr-returns-2 t)
+    (λ c κs. search needs)
+    (λ c. search needs)
+    (λ c κs. search needs)
+    (λ c. search needs)
     (λ c. search needs)
     (gen-expr-gen-expr-requires t)
     (λ c κs. search needs)
     (λ c. search needs)
-    (gen-expr-returns-3 t)
     (λ c. search needs)
     (gen-expr-gen-binary-requires t)
     (λ c. search needs)
-    (gen-expr-returns-4 t))
+    (gen-expr-returns-2 t)
+    (λ c. search needs)
+    (gen-expr-returns-3 t)
+    (λ c. search needs)
+    (gen-expr-returns-4 t)
+    (λ c. search needs)
+    (gen-expr-returns-5 t))
     λ t. gen-sides-lts.spec (gen-sides-claims t)
     (gen-sides-at t)
     gen-sides.Post

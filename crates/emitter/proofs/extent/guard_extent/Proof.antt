@@ -1,20 +1,21 @@
 -- `emitter::extent::guard_extent` meets its contract. Assumes nothing.
 use borrow.Author.Needs.{needs}
-use borrow.Author.Tests.{eq-eqb, ne-eqb}
-use Rattle.emitter.specs.Extents.{guardExtent}
 use Rattle.emitter.proofs.extent.guard_extent.Statement.{statement}
 use Rattle.emitter.proofs.extent.guard_extent.Tie as tie
+use mathlib.Core.Path.{sym, _∙_}
+use Rattle.emitter.specs.Extents.{guardExtent}
 
 returns : tie.Need-returns
 unfolding guardExtent
 returns c =
-    let g = c .before .before .before .before in
+    let k = c .before .before in
+    let g = k .before .before .before .before in
     simp (
       ← g .before .before .before .value-at .ensures,
       ← g .before .before .entry-at .ensures,
       ← g .before .next-in .ensures,
       ← g .guard-words .ensures,
-      eq-eqb _ _ (c .before .before .if1 .taken),
+      sym (k .before .before .guard-kind .ensures) ∙ k .enum-told .given .1,
       ← c .before .skip .ensures,
       ← c .skip2 .ensures,
     )
@@ -22,13 +23,13 @@ returns c =
 returns-2 : tie.Need-returns-2
 unfolding guardExtent
 returns-2 c =
-    let g = c .before .before in
+    let g = c .before .before .before .before in
     simp (
       ← g .before .before .before .value-at .ensures,
       ← g .before .before .entry-at .ensures,
       ← g .before .next-in .ensures,
       ← g .guard-words .ensures,
-      ne-eqb _ _ (c .if1 .left),
+      sym (c .before .before .guard-kind .ensures) ∙ c .enum-told2 .given .1,
     )
 
 pub guard-extent-spec : {M : Type 1} → statement M
@@ -39,7 +40,11 @@ guard-extent-spec =
     (λ c κs. search needs)
     (λ c κs. search needs)
     (λ c κs. search needs)
+    (λ c. search needs)
+    (λ c κs. search needs)
+    (λ c. search needs)
     (λ c κs. search needs)
     (λ c κs. search needs)
+    (λ c. search needs)
     returns
     returns-2)

@@ -1,26 +1,24 @@
 -- `emitter::extent::head_extent` meets its contract. Assumes nothing.
 use borrow.Author.Needs.{needs}
-use borrow.Author.Tests.{lt-ltb, le-ltb}
+use Rattle.emitter.proofs.extent.head_extent.Statement.{statement}
+use Rattle.emitter.proofs.extent.head_extent.Tie as tie
 use native.Mathlib.Omega.{arith}
 use Rattle.emitter.specs.Plans.{storedIn}
 use Rattle.emitter.specs.Extents.{headExtent}
-use Rattle.emitter.proofs.extent.head_extent.Statement.{statement}
-use Rattle.emitter.proofs.extent.head_extent.Tie as tie
+
+add-t9 : tie.Need-add-t9
+unfolding storedIn
+add-t9 c = omega arith
 
 returns : tie.Need-returns
 unfolding headExtent
-returns c = simp (lt-ltb _ _ (c .if1 .taken))
-
-add-need : tie.Need-add-t9
-unfolding storedIn
-add-need c = omega arith
+returns c = simp (c .enum-told .given .1)
 
 returns-2 : tie.Need-returns-2
 unfolding headExtent
 returns-2 c =
     simp (
-      le-ltb _ _ (c .before .before .before .before .if1 .left),
-      lt-ltb _ _ (c .before .before .before .if2 .taken),
+      c .before .before .before .enum-told2 .given .1,
       ← c .before .before .entry-at .ensures,
       ← c .before .next-in .ensures,
       ← c .stored-in .ensures,
@@ -28,17 +26,20 @@ returns-2 c =
 
 returns-3 : tie.Need-returns-3
 unfolding headExtent
-returns-3 c = simp (le-ltb _ _ (c .before .before .if1 .left), le-ltb _ _ (c .before .if2 .left)) (c .guard-extent .ensures)
+returns-3 c = simp (c .before .enum-told3 .given .1) (c .guard-extent .ensures)
 
 pub head-extent-spec : {M : Type 1} → statement M
 head-extent-spec =
     tie.close
     (tie.spec
+    (λ c. search needs)
+    (λ c. search needs)
+    (λ c κs. search needs)
+    (λ c κs. search needs)
+    (λ c κs. search needs)
+    add-t9
+    (λ c. search needs)
+    (λ c κs. search needs)
     returns
-    (λ c κs. search needs)
-    (λ c κs. search needs)
-    (λ c κs. search needs)
-    add-need
     returns-2
-    (λ c κs. search needs)
     returns-3)

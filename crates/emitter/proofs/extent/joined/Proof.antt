@@ -2,13 +2,12 @@
 use borrow.Author.Needs.{needs}
 use Rattle.emitter.proofs.extent.joined.Statement.{statement}
 use Rattle.emitter.proofs.extent.joined.Tie as tie
-use borrow.Author.Tests.{eq-eqb, ne-eqb}
 
 returns : tie.Need-returns
-returns c = simp (eq-eqb _ _ (c .before .if1 .taken)) (c .plus .ensures)
+returns c = simp (c .before .if1 .taken) (c .plus .ensures)
 
 returns-2 : tie.Need-returns-2
-returns-2 c = simp (ne-eqb _ _ (c .before .if1 .left)) (c .larger .ensures)
+returns-2 c = simp (c .before .if1 .left) (c .larger .ensures)
 
 pub joined-spec : {M : Type 1} → statement M
 joined-spec = tie.close (tie.spec (λ c κs. search needs) returns (λ c κs. search needs) returns-2)

@@ -1,6 +1,6 @@
 -- `table::expr::read_expr` and `table::expr::read_sides`, which call each other, meet their contracts. The measures are twice the depth
--- left, and one less for the sides. Assumes nothing.
-use Prim.Native.Nat.{ℕ, _<_, zero, suc, _-_, _*_}
+-- left, and one more for the sides. Assumes nothing.
+use Prim.Native.Nat.{ℕ, _<_, zero, suc, _+_, _-_, _*_}
 use borrow.Fn.Kinds.{In}
 use borrow.Fn.PlainCycle.{Measures, is, falls, and}
 use Rattle.table.proofs.expr.read_expr.Reads as read-expr
@@ -11,20 +11,20 @@ use Rattle.table.proofs.expr.read_sides.Kinds as read-sides-kinds
 use Rattle.table.proofs.expr.+read_expr+read_sides.Lts-read_sides as read-sides-lts
 use Rattle.table.proofs.expr.join.Reads as join-reads
 use Rattle.table.proofs.expr.no_expr.Reads as no-expr-reads
-use Rattle.table.proofs.expr.read_leaf.Reads as read-leaf-reads
+use Rattle.table.proofs.expr.read_used.Reads as read-used-reads
+use Rattle.numbers.proofs.kinds.expr_kind.Reads as expr-kind-reads
 use Rattle.numbers.proofs.read_between.Reads as read-between-reads
 use Rattle.numbers.proofs.read_deep.Reads as read-deep-reads
 use Rattle.table.proofs.expr.+read_expr+read_sides.{statement}
 use Rattle.table.proofs.expr.+read_expr+read_sides.Tie.{close}
 use borrow.Author.Needs.{needs}
-use borrow.Author.Tests.{lt-ltb, le-ltb, eq-eqb, ne-eqb}
 use native.Mathlib.Omega.{arith}
-use mathlib.Core.Bool.{cond}
 use mathlib.Core.List.{List}
 use mathlib.Core.Path.{_≡_, refl, sym, _∙_}
-use lib.Dec.{ltb, eqb}
 use Rattle.numbers.specs.Items.{betweenAt, nameAt, deepAt, groupsAt, withNumber, withItem}
-use Rattle.table.specs.Exprs.{single, joined, exprAt, leafAt, sidesAt, kept, leafUses, exprUses, sidesUse, Within}
+use Rattle.numbers.specs.Kinds.{exprKind, byExpr}
+use Rattle.model.specs.declared.kinds.ExprKind.{ExprKind}
+use Rattle.table.specs.Exprs.{single, joined, exprAt, constantAt, usedAt, sidesAt, kept, usedUses, exprUses, sidesUse, Within}
 use Rattle.numbers.specs.declared.Item.{Item}
 use Rattle.numbers.specs.declared.Item.the-variants.{Item as Found, Refused}
 use Rattle.numbers.specs.declared.NumberRead.{NumberRead}
@@ -42,19 +42,15 @@ unfolding exprAt exprUses
 none d vs s at l e = (rw e, rw e)
 
 -- what follows a kind, and `exprAt` and `exprUses` unrolled once where there is depth left
-abbrev byKind : (d vs : ℕ) → List ℕ → ℕ → ℕ → ExprRead
-byKind d vs s k n =
-    cond (ltb k 2) (leafAt k vs s n)
-    (cond (eqb k 2) (exprAt (d - 1) vs s n) (withItem NoExpr (betweenAt 0 7 s n) (λ o m. sidesAt d vs s m)))
+abbrev byKind : (d vs : ℕ) → List ℕ → ExprKind → ℕ → ExprRead
+byKind d vs s k n = byExpr k (constantAt s n) (usedAt vs s n) (exprAt (d - 1) vs s n) (sidesAt (d - 1) vs s n)
 
-abbrev usesByKind : (d vs : ℕ) → List ℕ → List ℕ → ℕ → ℕ → List ℕ
-usesByKind d vs s l k n =
-    cond (ltb k 2) (leafUses k vs s n l)
-    (cond (eqb k 2) (exprUses (d - 1) vs s n l) (withItem (kept l) (betweenAt 0 7 s n) (λ o m. sidesUse d vs s m l)))
+abbrev usesByKind : (d vs : ℕ) → List ℕ → List ℕ → ExprKind → ℕ → List ℕ
+usesByKind d vs s l k n = byExpr k l (usedUses vs s n l) (exprUses (d - 1) vs s n l) (sidesUse (d - 1) vs s n l)
 
 turn : (d vs : ℕ) (s : List ℕ) (at : ℕ) (l : List ℕ) → (d ≡ 0 → ⊥)
-    → (exprAt d vs s at ≡ withItem NoExpr (betweenAt 0 3 s at) (λ k n. byKind d vs s k n))
-    × (exprUses d vs s at l ≡ withItem (kept l) (betweenAt 0 3 s at) (λ k n. usesByKind d vs s l k n))
+    → (exprAt d vs s at ≡ withItem NoExpr (betweenAt 0 3 s at) (λ k n. byKind d vs s (exprKind k) n))
+    × (exprUses d vs s at l ≡ withItem (kept l) (betweenAt 0 3 s at) (λ k n. usesByKind d vs s l (exprKind k) n))
 unfolding exprAt sidesAt exprUses sidesUse
 turn zero vs s at l p = absurd (p refl)
 turn (suc d) vs s at l p = let e : suc d - 1 ≡ d = omega arith in (rw e, rw e)
@@ -68,16 +64,11 @@ item-within : (d : ℕ) (i : Item) → (d ≡ 0 → ⊥) → Within (withItem No
 item-within d (Found v n) p = (omega arith, omega arith)
 item-within d (Refused k a) p = tt
 
-leaf-within : (d k vs : ℕ) (s : List ℕ) (at : ℕ) → (d ≡ 0 → ⊥) → Within (leafAt k vs s at) d
-unfolding leafAt
-leaf-within d k vs s at p =
-    item-within d (cond (eqb k 0) (betweenAt 0 4294967295 s at) (nameAt vs 0 0 s at)) p
-
 within-more : (d : ℕ) (x : ExprRead) → Within x (d - 1) → Within x d
 within-more d (Expr e) p = (p .0, omega (arith, p .1))
 within-more d (NoExpr k a) p = tt
 
-joined-within : (d : ℕ) (l r : Term) → Within (Expr l) (d - 1) → Within (Expr r) (d - 1) → Within (joined l r) d
+joined-within : (d : ℕ) (l r : Term) → Within (Expr l) d → Within (Expr r) d → Within (joined l r) (d + 1)
 joined-within d l r p q =
     let o = orderOf (l .registers) (r .registers) in
     (sides-three (l .registers) (r .registers), omega (arith, p .1, q .1, sides-hold o (l .stored) (r .stored)))
@@ -86,7 +77,7 @@ abbrev μ-read-expr : Measures 2 read-expr-kinds.ps ℕ
 μ-read-expr κs a = 2 * a .1 .1 .0
 
 abbrev μ-read-sides : Measures 2 read-sides-kinds.ps ℕ
-μ-read-sides κs a = 2 * a .1 .1 .0 - 1
+μ-read-sides κs a = 2 * a .1 .1 .0 + 1
 
 abbrev read-expr-at : ℕ → In 2 read-expr-kinds.ps
 read-expr-at t = and 2 read-expr-kinds.ps (is 2 read-expr-kinds.ps μ-read-expr t) read-expr.Pre
@@ -111,8 +102,10 @@ read-expr-claims t = (
   no-expr-reads.Learnt,
   read-between-reads.Asked,
   read-between-reads.Learnt,
-  read-leaf-reads.Asked,
-  read-leaf-reads.Learnt,
+  expr-kind-reads.Asked,
+  expr-kind-reads.Learnt,
+  read-used-reads.Asked,
+  read-used-reads.Learnt,
   read-expr-below t,
   read-expr.Post,
   read-sides-below t,
@@ -120,32 +113,37 @@ read-expr-claims t = (
 )
 
 abbrev read-sides-claims : ℕ → read-sides-lts.Claims
-read-sides-claims t = (read-expr-below t, read-expr.Post, join-reads.Asked, join-reads.Learnt)
+read-sides-claims t = (
+  read-between-reads.Asked,
+  read-between-reads.Learnt,
+  read-expr-below t,
+  read-expr.Post,
+  join-reads.Asked,
+  join-reads.Learnt,
+)
 
--- what is to be answered once the first number is read, and once an operator's is
+-- what is to be answered once the first number is read, and once its kind is known
 first : {t : ℕ} {x : Item} (c : read-expr-lts.After-read-between (read-expr-claims t) (read-expr-at t) read-expr.Post)
     → c .read-between .result ≡ x
     → let a = c .before .before .before .args in
-    (exprAt (a .depth) (a .variables) (a .table .now) (a .at) ≡ withItem NoExpr x (byKind (a .depth) (a .variables) (a .table .now)))
+    (exprAt (a .depth) (a .variables) (a .table .now) (a .at)
+    ≡ withItem NoExpr x (λ k n. byKind (a .depth) (a .variables) (a .table .now) (exprKind k) n))
     × (exprUses (a .depth) (a .variables) (a .table .now) (a .at) (a .sets .now)
-    ≡ withItem (kept (a .sets .now)) x (usesByKind (a .depth) (a .variables) (a .table .now) (a .sets .now)))
+    ≡ withItem (kept (a .sets .now)) x (λ k n. usesByKind (a .depth) (a .variables) (a .table .now) (a .sets .now) (exprKind k) n))
 first c e =
     let u = turn _ _ _ _ _ (c .before .if1 .left) in
     let f = sym (c .read-between .ensures) ∙ e in (u .0 ∙ simp f, u .1 ∙ simp f)
 
-second : {t : ℕ} {x : Item} (c : read-expr-lts.After-read-between2 (read-expr-claims t) (read-expr-at t) read-expr.Post)
-    → c .read-between2 .result ≡ x
-    → let a = c .before .before .before .before .before .before .before .before .before .args in
-    (exprAt (a .depth) (a .variables) (a .table .now) (a .at)
-    ≡ withItem NoExpr x (λ o m. sidesAt (a .depth) (a .variables) (a .table .now) m))
+second : {t : ℕ} {k : ExprKind} (c : read-expr-lts.After-expr-kind (read-expr-claims t) (read-expr-at t) read-expr.Post)
+    → c .expr-kind .result ≡ k
+    → let a = c .before .before .before .before .before .before .before .args in
+    let n = c .before .before .number .given .0 .1 .0 in
+    (exprAt (a .depth) (a .variables) (a .table .now) (a .at) ≡ byKind (a .depth) (a .variables) (a .table .now) k n)
     × (exprUses (a .depth) (a .variables) (a .table .now) (a .at) (a .sets .now)
-    ≡ withItem (kept (a .sets .now)) x (λ o m. sidesUse (a .depth) (a .variables) (a .table .now) m (a .sets .now)))
+    ≡ usesByKind (a .depth) (a .variables) (a .table .now) (a .sets .now) k n)
 second c e =
-    let k = c .before .before .before .before in
-    let h = first (k .before .before) (k .kind .given .1) in
-    let f = le-ltb _ _ (c .before .before .if2 .left) in
-    let g = ne-eqb _ _ (c .before .if3 .left) in
-    let o = sym (c .read-between2 .ensures) ∙ e in (h .0 ∙ simp (f, g, o), h .1 ∙ simp (f, g, o))
+    let h = first (c .before .before .before .before) (c .before .before .number .given .1) in
+    let f = sym (c .expr-kind .ensures) ∙ e in (h .0 ∙ simp f, h .1 ∙ simp f)
 
 read-expr-returns : (t : ℕ) → read-expr-lts.Need-returns (read-expr-claims t) (read-expr-at t) read-expr.Post
 unfolding deepAt
@@ -158,62 +156,65 @@ read-expr-returns t c =
 
 read-expr-returns-2 : (t : ℕ) → read-expr-lts.Need-returns-2 (read-expr-claims t) (read-expr-at t) read-expr.Post
 read-expr-returns-2 t c =
-    let k = c .before .before .before .before in
-    let h = first (k .before .before) (k .kind .given .1) in
-    let f = lt-ltb _ _ (c .before .before .if2 .taken) in (
-      c .read-leaf .ensures .0 ∙ sym (h .0 ∙ simp f),
-      (
-        c .read-leaf .ensures .1 ∙ sym (h .1 ∙ simp f),
-        rw (c .read-leaf .ensures .0) (leaf-within _ _ _ _ _ (k .before .before .before .if1 .left)),
-      ),
+    let k = c .before .before in
+    let h = second (k .before .before) (k .enum-told .given .1) in
+    let e = rw (c .before .read-between2 .ensures) at (c .no-expr2 .ensures) in (
+      e ∙ sym (h .0),
+      (sym (h .1), rw e (item-within _ (betweenAt 0 4294967295 _ _) (k .before .before .before .before .before .before .before .if1 .left))),
+    )
+
+read-expr-returns-3 : (t : ℕ) → read-expr-lts.Need-returns-3 (read-expr-claims t) (read-expr-at t) read-expr.Post
+unfolding usedAt
+read-expr-returns-3 t c =
+    let k = c .before .before in
+    let h = second (k .before .before) (k .enum-told2 .given .1) in
+    let r = c .read-used .ensures in (
+      r .0 ∙ sym (h .0),
+      (r .1 ∙ sym (h .1), rw (r .0) (item-within _ (nameAt _ 0 0 _ _) (k .before .before .before .before .before .before .before .if1 .left))),
     )
 
 read-expr-read-expr-requires : (t : ℕ) → read-expr-lts.Need-read-expr-requires (read-expr-claims t) (read-expr-at t) read-expr.Post
 read-expr-read-expr-requires t c κs =
-    (omega (arith, c .before .before .before .before .before .before .before .before .before .pre .0), omega arith)
-
-read-expr-returns-3 : (t : ℕ) → read-expr-lts.Need-returns-3 (read-expr-claims t) (read-expr-at t) read-expr.Post
-read-expr-returns-3 t c =
-    let k = c .before .before .before .before .before in
-    let h = first (k .before .before) (k .kind .given .1) in
-    let f = le-ltb _ _ (c .before .before .before .if2 .left) in
-    let g = eq-eqb _ _ (c .before .before .if3 .taken) in (
-      c .read-expr .ensures .0 ∙ sym (h .0 ∙ simp (f, g)),
-      (
-        c .read-expr .ensures .1 .0 ∙ sym (h .1 ∙ simp (f, g)),
-        within-more (k .before .before .before .before .before .args .depth) (c .read-expr .result) (c .read-expr .ensures .1 .1),
-      ),
-    )
-
-read-expr-read-sides-requires : (t : ℕ) → read-expr-lts.Need-read-sides-requires (read-expr-claims t) (read-expr-at t) read-expr.Post
-read-expr-read-sides-requires t c κs =
-    let k = c .before .before .before .before .before .before .before .before .before .before .before .before .before in
-    (omega (arith, k .pre .0), (omega arith, omega arith, omega arith))
+    (omega (arith, c .before .before .before .before .before .before .before .before .before .before .pre .0), omega arith)
 
 read-expr-returns-4 : (t : ℕ) → read-expr-lts.Need-returns-4 (read-expr-claims t) (read-expr-at t) read-expr.Post
 read-expr-returns-4 t c =
-    let o = c .before .before .before in
-    let h = second (o .before .before) (o .operator .given .1) in
-    let r = c .read-sides .ensures in (r .0 ∙ sym (h .0), (r .1 .0 ∙ sym (h .1), r .1 .1))
+    let k = c .before .before in
+    let h = second (k .before .before) (k .enum-told3 .given .1) in
+    let r = c .read-expr .ensures in (r .0 ∙ sym (h .0), (r .1 .0 ∙ sym (h .1), within-more _ (c .read-expr .result) (r .1 .1)))
+
+read-expr-read-sides-requires : (t : ℕ) → read-expr-lts.Need-read-sides-requires (read-expr-claims t) (read-expr-at t) read-expr.Post
+read-expr-read-sides-requires t c κs =
+    (omega (arith, c .before .before .before .before .before .before .before .before .before .before .pre .0), (omega arith, omega arith))
 
 read-expr-returns-5 : (t : ℕ) → read-expr-lts.Need-returns-5 (read-expr-claims t) (read-expr-at t) read-expr.Post
 read-expr-returns-5 t c =
-    let h = second (c .before .before .before) (c .before .n .given .1) in (sym (h .0), (sym (h .1), tt))
+    let k = c .before .before in
+    let h = second (k .before .before) (k .enum-told4 .given .1) in
+    let r = c .read-sides .ensures in
+    let e : k .before .before .before .before .before .before .before .before .before .args .depth - 1 + 1
+    ≡ k .before .before .before .before .before .before .before .before .before .args .depth = omega arith in
+    (r .0 ∙ sym (h .0), (r .1 .0 ∙ sym (h .1), rw e at (r .1 .1)))
 
 read-expr-returns-6 : (t : ℕ) → read-expr-lts.Need-returns-6 (read-expr-claims t) (read-expr-at t) read-expr.Post
 read-expr-returns-6 t c =
-    let h = first (c .before .before .before) (c .before .n2 .given .1) in (sym (h .0), (sym (h .1), tt))
+    let h = first (c .before .before .before) (c .before .n .given .1) in (sym (h .0), (sym (h .1), tt))
 
 read-sides-read-expr-requires : (t : ℕ) → read-sides-lts.Need-read-expr-requires (read-sides-claims t) (read-sides-at t) read-sides.Post
-read-sides-read-expr-requires t c κs = (omega (arith, c .before .before .pre .0), omega arith)
+read-sides-read-expr-requires t c κs = (omega (arith, c .before .before .before .before .before .before .pre .0), omega arith)
 
 read-sides-read-expr-requires-2 : (t : ℕ) → read-sides-lts.Need-read-expr-requires-2 (read-sides-claims t) (read-sides-at t) read-sides.Post
 read-sides-read-expr-requires-2 t c κs =
-    (omega (arith, c .before .before .before .before .before .before .before .pre .0), omega arith)
+    (omega (arith, c .before .before .before .before .before .before .before .before .before .before .before .pre .0), omega arith)
 
--- what is counted of the left side
+-- the operator that was read, and what is counted of the left side
+operator-is : {t : ℕ} (c : read-sides-lts.After-operator (read-sides-claims t) (read-sides-at t) read-sides.Post)
+    → let a = c .before .before .before .before .args in
+    betweenAt 0 7 (a .table .now) (a .at) ≡ Found (c .operator .given .0 .0) (c .operator .given .0 .1 .0)
+operator-is c = sym (c .before .before .read-between .ensures) ∙ c .operator .given .1
+
 left-within : {t : ℕ} (c : read-sides-lts.After-left (read-sides-claims t) (read-sides-at t) read-sides.Post)
-    → Within (Expr (c .left .given .0 .0)) (c .before .before .before .before .before .args .depth - 1)
+    → Within (Expr (c .left .given .0 .0)) (c .before .before .before .before .before .before .before .before .before .args .depth)
 left-within c = rw (c .left .given .1) at (c .before .before .read-expr .ensures .1 .1)
 
 read-sides-join-requires : (t : ℕ) → read-sides-lts.Need-join-requires (read-sides-claims t) (read-sides-at t) read-sides.Post
@@ -225,15 +226,16 @@ read-sides-returns : (t : ℕ) → read-sides-lts.Need-returns (read-sides-claim
 unfolding sidesAt sidesUse
 read-sides-returns t c =
     let k = c .before .before .before .before .before .before .before in
+    let o = operator-is (k .before .before .before .before .before) in
     let i = k .before .before .read-expr .ensures in
     let j = c .before .before .before .before .read-expr2 .ensures in
     let e = sym (i .0) ∙ k .left .given .1 in
     let f = c .before .before .right .given .1 in
     let l = left-within k in
     let r = rw f at (j .1 .1) in (
-      simp (e, ← j .0, f, c .join .ensures),
+      simp (o, e, ← j .0, f, c .join .ensures),
       (
-        simp (e, j .1 .0, i .1 .0),
+        simp (o, e, j .1 .0, i .1 .0),
         rw (c .join .ensures) (joined-within _ (k .left .given .0 .0) (c .before .before .right .given .0 .0) l r),
       ),
     )
@@ -242,16 +244,24 @@ read-sides-returns-2 : (t : ℕ) → read-sides-lts.Need-returns-2 (read-sides-c
 unfolding sidesAt sidesUse
 read-sides-returns-2 t c =
     let k = c .before .before .before .before .before .before in
+    let o = operator-is (k .before .before .before .before .before) in
     let i = k .before .before .read-expr .ensures in
     let j = c .before .before .before .read-expr2 .ensures in
     let e = sym (i .0) ∙ k .left .given .1 in
-    (simp (e, ← j .0, c .before .n .given .1), (simp (e, j .1 .0, i .1 .0), tt))
+    (simp (o, e, ← j .0, c .before .n .given .1), (simp (o, e, j .1 .0, i .1 .0), tt))
 
 read-sides-returns-3 : (t : ℕ) → read-sides-lts.Need-returns-3 (read-sides-claims t) (read-sides-at t) read-sides.Post
 unfolding sidesAt sidesUse
 read-sides-returns-3 t c =
-    let i = c .before .before .before .read-expr .ensures in
-    let e = sym (i .0) ∙ c .before .n2 .given .1 in (simp e, (simp (e, i .1 .0), tt))
+    let k = c .before in
+    let o = operator-is (k .before .before .before .before .before) in
+    let i = k .before .before .read-expr .ensures in
+    let e = sym (i .0) ∙ k .n2 .given .1 in (simp (o, e), (simp (o, e, i .1 .0), tt))
+
+read-sides-returns-4 : (t : ℕ) → read-sides-lts.Need-returns-4 (read-sides-claims t) (read-sides-at t) read-sides.Post
+unfolding sidesAt sidesUse
+read-sides-returns-4 t c =
+    let e = sym (c .before .before .before .read-between .ensures) ∙ c .before .n3 .given .1 in (simp e, (simp e, tt))
 
 pub +read-expr+read-sides-spec : {M : Type 1} → statement M
 +read-expr+read-sides-spec = close μ-read-expr μ-read-sides (λ t. read-expr-lts.spec (read-expr-claims t)
@@ -263,30 +273,37 @@ pub +read-expr+read-sides-spec : {M : Type 1} → statement M
     (λ c κs. search needs)
     (λ c. search needs)
     (λ c κs. search needs)
-    (read-expr-returns-2 t)
+    (λ c. search needs)
+    (λ c κs. search needs)
+    (λ c κs. search needs)
+    (λ c. search needs)
+    (λ c κs. search needs)
+    (λ c. search needs)
     (λ c. search needs)
     (read-expr-read-expr-requires t)
-    (read-expr-returns-3 t)
-    (λ c κs. search needs)
+    (λ c. search needs)
     (λ c. search needs)
     (read-expr-read-sides-requires t)
     (λ c. search needs)
-    (λ c. search needs)
+    (read-expr-returns-2 t)
+    (read-expr-returns-3 t)
     (read-expr-returns-4 t)
     (read-expr-returns-5 t)
     (read-expr-returns-6 t))
     λ t. read-sides-lts.spec (read-sides-claims t)
     (read-sides-at t)
     read-sides.Post
+    (λ c κs. search needs)
     (λ c. search needs)
     (read-sides-read-expr-requires t)
-    (λ c. search needs)
     (λ c. search needs)
     (read-sides-read-expr-requires-2 t)
     (λ c. search needs)
     (read-sides-join-requires t)
     (λ c. search needs)
     (λ c. search needs)
+    (λ c. search needs)
     (read-sides-returns t)
     (read-sides-returns-2 t)
     (read-sides-returns-3 t)
+    (read-sides-returns-4 t)

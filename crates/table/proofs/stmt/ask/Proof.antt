@@ -4,7 +4,6 @@ use Rattle.table.proofs.stmt.ask.Statement.{statement}
 use Rattle.table.proofs.stmt.ask.Tie as tie
 use Prim.Native.Nat.{ℕ, zero, suc, _+_}
 use mathlib.Core.Path.{_≡_, refl}
-use borrow.Author.Tests.{lt-ltb, le-ltb, eq-eqb, ne-eqb}
 use Rattle.model.specs.Counts.{guardWords}
 use Rattle.table.specs.Stmts.{asked}
 
@@ -20,20 +19,31 @@ some (suc t) e = refl
 
 returns : tie.Need-returns
 unfolding asked
-returns c = simp (eq-eqb _ _ (c .if1 .taken))
+returns c = simp (c .enum-told .given .1)
 
 returns-2 : tie.Need-returns-2
 unfolding asked
-returns-2 c = simp (ne-eqb _ _ (c .before .if1 .left), lt-ltb _ _ (c .if2 .taken))
+returns-2 c = simp (c .enum-told2 .given .1)
 
 returns-3 : tie.Need-returns-3
 unfolding asked
-returns-3 c = simp (ne-eqb _ _ (c .before .before .if1 .left), le-ltb _ _ (c .before .if2 .left), none _ (c .if3 .taken))
+returns-3 c = simp (c .before .enum-told3 .given .1, none _ (c .if1 .taken))
 
 returns-4 : tie.Need-returns-4
 unfolding asked
-returns-4 c = simp (ne-eqb _ _ (c .before .before .if1 .left), le-ltb _ _ (c .before .if2 .left), some _ (c .if3 .left))
+returns-4 c = simp (c .before .enum-told3 .given .1, some _ (c .if1 .left))
 
 pub ask-spec : {M : Type 1} → statement M
 ask-spec =
-    tie.close (tie.spec (λ c. search needs) returns (λ c. search needs) returns-2 (λ c. search needs) returns-3 returns-4)
+    tie.close
+    (tie.spec
+    (λ c. search needs)
+    (λ c. search needs)
+    (λ c. search needs)
+    (λ c. search needs)
+    (λ c. search needs)
+    (λ c. search needs)
+    returns
+    returns-2
+    returns-3
+    returns-4)

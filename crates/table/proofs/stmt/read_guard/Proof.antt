@@ -2,43 +2,43 @@
 use borrow.Author.Needs.{needs}
 use Rattle.table.proofs.stmt.read_guard.Statement.{statement}
 use Rattle.table.proofs.stmt.read_guard.Tie as tie
-use borrow.Author.Tests.{eq-eqb, ne-eqb}
 use mathlib.Core.Path.{_≡_, sym, _∙_}
 use Rattle.numbers.specs.Items.{betweenAt}
 use Rattle.numbers.specs.declared.Item.the-variants.{Item as Found}
 use Rattle.table.specs.Stmts.{guardAt, guardUses}
 
--- the kind that was read
-kind-is : (c : tie.After-kind)
+-- the number that was read
+number-is : (c : tie.After-number)
     → let a = c .before .before .before .before .args in
-    betweenAt 0 1 (a .table .now) (a .at) ≡ Found (c .kind .given .0 .0) (c .kind .given .0 .1 .0)
-kind-is c = sym (c .before .before .read-between .ensures) ∙ c .kind .given .1
+    betweenAt 0 1 (a .table .now) (a .at) ≡ Found (c .number .given .0 .0) (c .number .given .0 .1 .0)
+number-is c = sym (c .before .before .read-between .ensures) ∙ c .number .given .1
 
 returns : tie.Need-returns
 unfolding guardAt guardUses
 returns c =
-    let l = c .before .before .before .before in
+    let t = c .before .before in
+    let l = t .before .before .before .before in
     let r = l .before .before .read-whole .ensures in
-    let e = kind-is (l .before .before .before .before .before) in
+    let e = number-is (l .before .before .before .before .before) in
     let f = sym (r .0) ∙ l .last .given .1 in
-    let g = eq-eqb _ _ (c .before .before .if1 .taken) in
+    let g = sym (t .before .before .guard-kind .ensures) ∙ t .enum-told .given .1 in
     (simp (e, f, g, c .read-input .ensures .0), simp (e, f, g, c .read-input .ensures .1, r .1))
 
 returns-2 : tie.Need-returns-2
 unfolding guardAt guardUses
 returns-2 c =
-    let l = c .before .before in
+    let l = c .before .before .before .before in
     let r = l .before .before .read-whole .ensures in
-    let e = kind-is (l .before .before .before .before .before) in
+    let e = number-is (l .before .before .before .before .before) in
     let f = sym (r .0) ∙ l .last .given .1 in
-    let g = ne-eqb _ _ (c .if1 .left) in (simp (e, f, g), simp (e, f, g, r .1))
+    let g = sym (c .before .before .guard-kind .ensures) ∙ c .enum-told2 .given .1 in (simp (e, f, g), simp (e, f, g, r .1))
 
 returns-3 : tie.Need-returns-3
 unfolding guardAt guardUses
 returns-3 c =
     let l = c .before in
     let r = l .before .before .read-whole .ensures in
-    let e = kind-is (l .before .before .before .before .before) in
+    let e = number-is (l .before .before .before .before .before) in
     let f = sym (r .0) ∙ l .n .given .1 in (simp (e, f), simp (e, f, r .1))
 
 returns-4 : tie.Need-returns-4
@@ -54,6 +54,9 @@ read-guard-spec =
     (λ c κs. search needs)
     (λ c. search needs)
     (λ c κs. search needs)
+    (λ c. search needs)
+    (λ c κs. search needs)
+    (λ c. search needs)
     (λ c. search needs)
     (λ c. search needs)
     returns

@@ -1,27 +1,30 @@
--- The functions of `table::stmt` that call each other meet their contracts. The measures are six times the depth left, one less for what
--- follows a kind, and up to two more for the parts. Assumes nothing.
+-- The functions of `table::stmt` that call each other meet their contracts. The measures are six times the depth left, and more for what
+-- has statements of that depth. Assumes nothing.
 use Rattle.table.proofs.stmt as cycle
 use Prim.Native.Nat.{ℕ, _<_, zero, suc, _+_, _-_, _*_, _≤_}
 use borrow.Fn.Kinds.{In}
 use borrow.Fn.PlainCycle.{Measures, is, falls, and}
 use Rattle.table.proofs.stmt.read_declaration.Reads as read-declaration
 use Rattle.table.proofs.stmt.read_declaration.Kinds as read-declaration-kinds
-use cycle.+read_declaration+read_most+read_par+read_part+read_parts+read_stmt.Lts-read_declaration as read-declaration-lts
+use cycle.+read_declaration+read_inside+read_most+read_par+read_part+read_stmt.Lts-read_declaration as read-declaration-lts
+use Rattle.table.proofs.stmt.read_inside.Reads as read-inside
+use Rattle.table.proofs.stmt.read_inside.Kinds as read-inside-kinds
+use cycle.+read_declaration+read_inside+read_most+read_par+read_part+read_stmt.Lts-read_inside as read-inside-lts
 use Rattle.table.proofs.stmt.read_most.Reads as read-most
 use Rattle.table.proofs.stmt.read_most.Kinds as read-most-kinds
-use cycle.+read_declaration+read_most+read_par+read_part+read_parts+read_stmt.Lts-read_most as read-most-lts
+use cycle.+read_declaration+read_inside+read_most+read_par+read_part+read_stmt.Lts-read_most as read-most-lts
 use Rattle.table.proofs.stmt.read_par.Reads as read-par
 use Rattle.table.proofs.stmt.read_par.Kinds as read-par-kinds
-use cycle.+read_declaration+read_most+read_par+read_part+read_parts+read_stmt.Lts-read_par as read-par-lts
+use cycle.+read_declaration+read_inside+read_most+read_par+read_part+read_stmt.Lts-read_par as read-par-lts
 use Rattle.table.proofs.stmt.read_part.Reads as read-part
 use Rattle.table.proofs.stmt.read_part.Kinds as read-part-kinds
-use cycle.+read_declaration+read_most+read_par+read_part+read_parts+read_stmt.Lts-read_part as read-part-lts
-use Rattle.table.proofs.stmt.read_parts.Reads as read-parts
-use Rattle.table.proofs.stmt.read_parts.Kinds as read-parts-kinds
-use cycle.+read_declaration+read_most+read_par+read_part+read_parts+read_stmt.Lts-read_parts as read-parts-lts
+use cycle.+read_declaration+read_inside+read_most+read_par+read_part+read_stmt.Lts-read_part as read-part-lts
 use Rattle.table.proofs.stmt.read_stmt.Reads as read-stmt
 use Rattle.table.proofs.stmt.read_stmt.Kinds as read-stmt-kinds
-use cycle.+read_declaration+read_most+read_par+read_part+read_parts+read_stmt.Lts-read_stmt as read-stmt-lts
+use cycle.+read_declaration+read_inside+read_most+read_par+read_part+read_stmt.Lts-read_stmt as read-stmt-lts
+use Rattle.numbers.proofs.kinds.read_count.Reads as read-count-reads
+use Rattle.numbers.proofs.kinds.shape_of.Reads as shape-of-reads
+use Rattle.numbers.proofs.kinds.stmt_kind.Reads as stmt-kind-reads
 use Rattle.numbers.proofs.read_between.Reads as read-between-reads
 use Rattle.numbers.proofs.read_deep.Reads as read-deep-reads
 use Rattle.table.proofs.stmt.add.Reads as add-reads
@@ -29,6 +32,7 @@ use Rattle.table.proofs.stmt.behind_head.Reads as behind-head-reads
 use Rattle.table.proofs.stmt.close_par.Reads as close-par-reads
 use Rattle.table.proofs.stmt.gather.Reads as gather-reads
 use Rattle.table.proofs.stmt.in_scope.Reads as in-scope-reads
+use Rattle.table.proofs.stmt.more_names.Reads as more-names-reads
 use Rattle.table.proofs.stmt.no_parts.Reads as no-parts-reads
 use Rattle.table.proofs.stmt.no_stmt.Reads as no-stmt-reads
 use Rattle.table.proofs.stmt.read_head.Reads as read-head-reads
@@ -36,24 +40,27 @@ use Rattle.table.proofs.stmt.read_simple.Reads as read-simple-reads
 use Rattle.table.proofs.usage.clash.Reads as clash-reads
 use Rattle.table.proofs.usage.leave.Reads as leave-reads
 use Rattle.table.proofs.usage.merge.Reads as merge-reads
-use cycle.+read_declaration+read_most+read_par+read_part+read_parts+read_stmt.{statement}
-use cycle.+read_declaration+read_most+read_par+read_part+read_parts+read_stmt.Tie.{close}
+use cycle.+read_declaration+read_inside+read_most+read_par+read_part+read_stmt.{statement}
+use cycle.+read_declaration+read_inside+read_most+read_par+read_part+read_stmt.Tie.{close}
 use borrow.Author.Needs.{needs}
-use borrow.Author.Tests.{lt-ltb, le-ltb, eq-eqb, ne-eqb}
 use native.Mathlib.Omega.{arith}
-use mathlib.Core.Bool.{cond, _||_, or-true, or-false}
+use mathlib.Core.Bool.{_||_, or-true, or-false}
 use mathlib.Core.List.{List}
 use mathlib.Core.Logic.{⊎-elim}
 use mathlib.Core.Path.{_≡_, refl, sym, _∙_}
-use lib.Dec.{ltb, eqb}
 use lib.ListN.{length}
 use Rattle.table.specs.Uses.{noNames, clashing}
 use Rattle.table.specs.Exprs.{kept}
 use Rattle.numbers.specs.Items.{betweenAt, deepAt, withItem}
-use Rattle.table.specs.Stmts.{stmtAt, partIn, partAt, mostAt, parAt, declaredAt, partsAt, simpleAt, mostFrom, withStmt}
-use Rattle.table.specs.Stmts.{stmtUses, partUsesIn, partUses, mostUsesAt, parUsesAt, declaredUses, partsUse, simpleUses, mostUse}
-use Rattle.table.specs.Stmts.{branchesAt, branchesFrom, all, stopped, Branches, joinedBy, noBranches}
-use Rattle.table.specs.Stmts.{leaf, nothing, added, moreNames, Fits, SmallWords}
+use Rattle.numbers.specs.Kinds.{stmtKind, countAt, byShape}
+use Rattle.numbers.specs.declared.kinds.Declared.{Declared}
+use Rattle.numbers.specs.declared.kinds.Declared.the-variants.{Variables, Channels}
+use Rattle.numbers.specs.declared.kinds.Head.{Head}
+use Rattle.numbers.specs.declared.kinds.Shape.{Shape}
+use Rattle.table.specs.Stmts.{stmtAt, partIn, partAt, mostAt, parAt, declaredAt, insideAt, simpleAt, mostFrom, withStmt, stmtUses}
+use Rattle.table.specs.Stmts.{partUsesIn, partUses, mostUsesAt, parUsesAt, declaredUses, insideUses, simpleUses, mostUse, branchesAt}
+use Rattle.table.specs.Stmts.{branchesFrom, all, stopped, Branches, joinedBy, noBranches, leaf, nothing, added, moreNames, Fits}
+use Rattle.table.specs.Stmts.{SmallWords}
 use Rattle.numbers.specs.declared.Item.{Item}
 use Rattle.table.specs.declared.stmt.Names.{Names}
 use Rattle.table.specs.declared.stmt.StmtRead.{StmtRead}
@@ -61,23 +68,20 @@ use Rattle.table.specs.declared.stmt.StmtRead.the-variants.{Stmt, Refuse
 use Rattle.table.specs.declared.stmt.Sum.{Sum}
 use Rattle.table.specs.declared.stmt.SumRead.{SumRead}
 use Rattle.table.specs.declared.stmt.SumRead.the-variants.{Sum as Total, Refused as NoSum}
-use Rattle.model.proofs.Cases.{of-cond}
 use Rattle.table.specs.Sets.{Exact}
 use Rattle.table.proofs.SameStmt.{exact-uses}
-use Rattle.table.proofs.Small.{Small, count-most, stmt-small, stmt-counts, part-counts}
+use Rattle.table.proofs.Small.{Small, count-most, FewIn, few, count-few, stmt-small, stmt-counts, part-counts}
 
 -- more names fit where there is depth left, and what is counted in a table fits
-more-fits : (k n d : ℕ) (w : Names) → 0 < d → n ≤ 32 → Fits w d → Fits (moreNames k n w) (d - 1)
-more-fits k n d w p q f = (
-  omega arith,
-  of-cond (λ m. m + 32 * (d - 1) ≤ 1024) (eqb k 5) (omega arith) (omega arith),
-  of-cond (λ m. m + 32 * (d - 1) ≤ 1040) (eqb k 5) (omega arith) (omega arith),
-  omega arith,
-  omega arith,
-)
+more-fits : (x : Declared) (n d : ℕ) (w : Names) → n ≤ 32 → Fits w (d + 1) → Fits (moreNames x n w) d
+more-fits Variables n d w q f = (omega arith, omega arith, omega arith, omega arith, omega arith)
+more-fits Channels n d w q f = (omega arith, omega arith, omega arith, omega arith, omega arith)
 
-less-fits : (d : ℕ) (w : Names) → Fits w d → Fits w (d - 1)
+less-fits : (d : ℕ) (w : Names) → Fits w (d + 1) → Fits w d
 less-fits d w f = (omega arith, omega arith, omega arith, omega arith, omega arith)
+
+same-fits : (d : ℕ) (w : Names) → (d ≡ 0 → ⊥) → Fits w d → Fits w (d - 1 + 1)
+same-fits d w p f = let e : d - 1 + 1 ≡ d = omega arith in rw e f
 
 small-words : (x : StmtRead) (at len : ℕ) → len ≤ 16384 → Small at len x → SmallWords x
 small-words (Stmt p) at len h f = omega arith
@@ -89,34 +93,39 @@ none : (d : ℕ) (w : Names) (s : List ℕ) (at : ℕ) (l : List ℕ) → d ≡ 
 unfolding stmtAt stmtUses
 none d w s at l e = (rw e, rw e)
 
-abbrev byKind : (d : ℕ) → Names → List ℕ → (at : ℕ) → ℕ → ℕ → StmtRead
-byKind d w s at k n =
-    cond (ltb k 5) (simpleAt k (d - 1) w s n) (cond (ltb k 7) (declaredAt k d w s n) (partsAt at k d w s n))
-
-abbrev usesByKind : (d : ℕ) → Names → List ℕ → List ℕ → ℕ → ℕ → List ℕ
-usesByKind d w s l k n =
-    cond (ltb k 5) (simpleUses k (d - 1) w s n l) (cond (ltb k 7) (declaredUses k d w s n l) (partsUse k d w s n l))
-
 turn : (d : ℕ) (w : Names) (s : List ℕ) (at : ℕ) (l : List ℕ) → (d ≡ 0 → ⊥)
-    → (stmtAt d w s at ≡ withItem NoStmt (betweenAt 0 11 s at) (λ k n. byKind d w s at k n))
-    × (stmtUses d w s at l ≡ withItem (kept l) (betweenAt 0 11 s at) (λ k n. usesByKind d w s l k n))
-unfolding stmtAt stmtUses declaredAt declaredUses partsAt partsUse mostAt mostUsesAt parAt parUsesAt branchesAt
+    → (stmtAt d w s at ≡ withItem NoStmt (betweenAt 0 11 s at) (λ k n. insideAt at (stmtKind k) (d - 1) w s n))
+    × (stmtUses d w s at l ≡ withItem (kept l) (betweenAt 0 11 s at) (λ k n. insideUses (stmtKind k) (d - 1) w s n l))
+unfolding stmtAt stmtUses insideAt insideUses
 turn zero w s at l p = absurd (p refl)
 turn (suc d) w s at l p = let e : suc d - 1 ≡ d = omega arith in (rw e, rw e)
 
+-- what follows a kind, by its shape
+abbrev byKind : (place : ℕ) → Shape → (d : ℕ) → Names → List ℕ → (at : ℕ) → StmtRead
+byKind place x d w s at =
+    byShape x (λ y. simpleAt y d w s at) (λ y. withItem NoStmt (betweenAt 1 32 s at) (λ c n. declaredAt y c d w s n))
+    (λ m. withItem NoStmt (countAt m s at) (λ c n. parAt place c d w s n))
+    (λ h m. withItem NoStmt (countAt m s at) (λ c n. mostAt h c d w s n))
+
+abbrev usesByKind : Shape → (d : ℕ) → Names → List ℕ → List ℕ → (at : ℕ) → List ℕ
+usesByKind x d w s l at =
+    byShape x (λ y. simpleUses y d w s at l) (λ y. withItem (kept l) (betweenAt 1 32 s at) (λ c n. declaredUses y c d w s n l))
+    (λ m. withItem (kept l) (countAt m s at) (λ c n. parUsesAt c d w s n l))
+    (λ h m. withItem (kept l) (countAt m s at) (λ c n. mostUsesAt h c d w s n l))
+
 -- the parts and the branches that are left: none, or one and the others
-abbrev mostLeft : (left kind depth : ℕ) → Names → List ℕ → Sum → SumRead
+abbrev mostLeft : (left : ℕ) → Head → (depth : ℕ) → Names → List ℕ → Sum → SumRead
 mostLeft i k d w s t = mostFrom i k d w (λ j. stmtAt d w s j) s t
 
-abbrev usesLeft : (left kind depth : ℕ) → Names → List ℕ → (at : ℕ) → List ℕ → List ℕ
+abbrev usesLeft : (left : ℕ) → Head → (depth : ℕ) → Names → List ℕ → (at : ℕ) → List ℕ → List ℕ
 usesLeft i k d w s at l = mostUse i k d w (λ j. stmtAt d w s j) (λ j m. stmtUses d w s j m) s at l
 
-most-none : (i k d : ℕ) (w : Names) (s : List ℕ) (t : Sum) (l : List ℕ) → i ≡ 0
+most-none : (i : ℕ) (k : Head) (d : ℕ) (w : Names) (s : List ℕ) (t : Sum) (l : List ℕ) → i ≡ 0
     → (mostLeft i k d w s t ≡ Total t) × (usesLeft i k d w s (t .next) l ≡ l)
 unfolding mostFrom mostUse
 most-none i k d w s t l e = (rw e, rw e)
 
-most-turn : (i k d : ℕ) (w : Names) (s : List ℕ) (t : Sum) (l : List ℕ) → 0 < i
+most-turn : (i : ℕ) (k : Head) (d : ℕ) (w : Names) (s : List ℕ) (t : Sum) (l : List ℕ) → 0 < i
     → (mostLeft i k d w s t ≡ withStmt NoSum (partIn k d w s (t .next)) (λ p. mostLeft (i - 1) k d w s (added t p)))
     × (usesLeft i k d w s (t .next) l
     ≡ withStmt (kept (partUsesIn k d w s (t .next) l)) (partIn k d w s (t .next)) (λ p.
@@ -138,7 +147,10 @@ branches-turn zero d w s b h = absurd (omega arith)
 branches-turn (suc i) d w s b h = let e : suc i - 1 ≡ i = omega arith in rw e
 
 abbrev μ-read-declaration : Measures 2 read-declaration-kinds.ps ℕ
-μ-read-declaration κs a = 6 * a .1 .1 .1 .0 - 1
+μ-read-declaration κs a = 6 * a .1 .1 .1 .1 .0 + 1
+
+abbrev μ-read-inside : Measures 2 read-inside-kinds.ps ℕ
+μ-read-inside κs a = 6 * a .1 .1 .1 .1 .0 + 3
 
 abbrev μ-read-most : Measures 2 read-most-kinds.ps ℕ
 μ-read-most κs a = 6 * a .1 .1 .1 .1 .0 + 2
@@ -149,22 +161,19 @@ abbrev μ-read-par : Measures 2 read-par-kinds.ps ℕ
 abbrev μ-read-part : Measures 2 read-part-kinds.ps ℕ
 μ-read-part κs a = 6 * a .1 .1 .1 .0 + 1
 
-abbrev μ-read-parts : Measures 2 read-parts-kinds.ps ℕ
-μ-read-parts κs a = 6 * a .1 .1 .1 .1 .0 - 1
-
 abbrev μ-read-stmt : Measures 2 read-stmt-kinds.ps ℕ
 μ-read-stmt κs a = 6 * a .1 .1 .0
 
 abbrev read-most-Inv-loop : read-most-lts.InvT-loop
-read-most-Inv-loop table at kind count depth names sets₀ sum₀ i₀ sets sum i =
-    (mostLeft count kind depth names table (nothing at) ≡ mostLeft (count - i) kind depth names table sum)
-    × (usesLeft count kind depth names table at sets₀ ≡ usesLeft (count - i) kind depth names table (sum .next) sets)
+read-most-Inv-loop table at head count depth names sets₀ sum₀ i₀ sets sum i =
+    (mostLeft count head depth names table (nothing at) ≡ mostLeft (count - i) head depth names table sum)
+    × (usesLeft count head depth names table at sets₀ ≡ usesLeft (count - i) head depth names table (sum .next) sets)
     × (i ≤ count)
     × (sum .sum ≤ 1000000 * i)
     × (sum .all ≤ 1000000 * i)
 
 abbrev read-most-μ-loop : read-most-lts.MeasureT-loop
-read-most-μ-loop table at kind count depth names sets₀ sum₀ i₀ sets sum i = count - i
+read-most-μ-loop table at head count depth names sets₀ sum₀ i₀ sets sum i = count - i
 
 abbrev read-par-Inv-loop : read-par-lts.InvT-loop
 read-par-Inv-loop table place at count depth names sets sum₀ before₀ bad₀ i₀ sum before bad i =
@@ -193,6 +202,14 @@ read-declaration-below t =
     (falls 2 read-declaration-kinds.ps _<_ μ-read-declaration t)
     read-declaration.Pre
 
+abbrev read-inside-at : ℕ → In 2 read-inside-kinds.ps
+read-inside-at t =
+    and 2 read-inside-kinds.ps (is 2 read-inside-kinds.ps μ-read-inside t) read-inside.Pre
+
+abbrev read-inside-below : ℕ → In 2 read-inside-kinds.ps
+read-inside-below t =
+    and 2 read-inside-kinds.ps (falls 2 read-inside-kinds.ps _<_ μ-read-inside t) read-inside.Pre
+
 abbrev read-most-at : ℕ → In 2 read-most-kinds.ps
 read-most-at t = and 2 read-most-kinds.ps (is 2 read-most-kinds.ps μ-read-most t) read-most.Pre
 
@@ -214,14 +231,6 @@ abbrev read-part-below : ℕ → In 2 read-part-kinds.ps
 read-part-below t =
     and 2 read-part-kinds.ps (falls 2 read-part-kinds.ps _<_ μ-read-part t) read-part.Pre
 
-abbrev read-parts-at : ℕ → In 2 read-parts-kinds.ps
-read-parts-at t =
-    and 2 read-parts-kinds.ps (is 2 read-parts-kinds.ps μ-read-parts t) read-parts.Pre
-
-abbrev read-parts-below : ℕ → In 2 read-parts-kinds.ps
-read-parts-below t =
-    and 2 read-parts-kinds.ps (falls 2 read-parts-kinds.ps _<_ μ-read-parts t) read-parts.Pre
-
 abbrev read-stmt-at : ℕ → In 2 read-stmt-kinds.ps
 read-stmt-at t = and 2 read-stmt-kinds.ps (is 2 read-stmt-kinds.ps μ-read-stmt t) read-stmt.Pre
 
@@ -231,14 +240,32 @@ read-stmt-below t =
 
 abbrev read-declaration-claims : ℕ → read-declaration-lts.Claims
 read-declaration-claims t = (
-  read-between-reads.Asked,
-  read-between-reads.Learnt,
+  more-names-reads.Asked,
+  more-names-reads.Learnt,
   read-stmt-below t,
   read-stmt.Post,
   leave-reads.Asked,
   leave-reads.Learnt,
   in-scope-reads.Asked,
   in-scope-reads.Learnt,
+)
+
+abbrev read-inside-claims : ℕ → read-inside-lts.Claims
+read-inside-claims t = (
+  shape-of-reads.Asked,
+  shape-of-reads.Learnt,
+  read-simple-reads.Asked,
+  read-simple-reads.Learnt,
+  read-between-reads.Asked,
+  read-between-reads.Learnt,
+  read-declaration-below t,
+  read-declaration.Post,
+  read-count-reads.Asked,
+  read-count-reads.Learnt,
+  read-par-below t,
+  read-par.Post,
+  read-most-below t,
+  read-most.Post,
 )
 
 abbrev read-most-claims : ℕ → read-most-lts.Claims
@@ -279,16 +306,6 @@ read-part-claims t = (
   behind-head-reads.Learnt,
 )
 
-abbrev read-parts-claims : ℕ → read-parts-lts.Claims
-read-parts-claims t = (
-  read-most-below t,
-  read-most.Post,
-  read-between-reads.Asked,
-  read-between-reads.Learnt,
-  read-par-below t,
-  read-par.Post,
-)
-
 abbrev read-stmt-claims : ℕ → read-stmt-lts.Claims
 read-stmt-claims t = (
   read-deep-reads.Asked,
@@ -297,12 +314,10 @@ read-stmt-claims t = (
   no-stmt-reads.Learnt,
   read-between-reads.Asked,
   read-between-reads.Learnt,
-  read-simple-reads.Asked,
-  read-simple-reads.Learnt,
-  read-declaration-below t,
-  read-declaration.Post,
-  read-parts-below t,
-  read-parts.Post,
+  stmt-kind-reads.Asked,
+  stmt-kind-reads.Learnt,
+  read-inside-below t,
+  read-inside.Post,
 )
 
 -- what is counted of the part and of the branch that is read
@@ -316,53 +331,32 @@ branch : {t : ℕ} (c : read-par-lts.After-p (read-par-claims t) (read-par-at t)
     Small (k .loop .sum .next) (length (k .before .before .before .args .table .now)) (Stmt (c .p .given .0 .0))
 branch c = stmt-counts _ _ _ _ (sym (c .before .before .read-stmt .ensures .0) ∙ c .p .given .1)
 
--- the count of a declaration, and the names that are then in scope
-declared-count : {t : ℕ} (c : read-declaration-lts.After-count (read-declaration-claims t) (read-declaration-at t) read-declaration.Post)
-    → c .count .given .0 .0 ≤ 32
-declared-count c = count-most 1 32 _ _ (sym (c .before .before .read-between .ensures) ∙ c .count .given .1)
-
-more-is : {t : ℕ} (c : read-declaration-lts.Joined1 (read-declaration-claims t) (read-declaration-at t) read-declaration.Post)
-    → let a = c .before .before .before .before .before .before .args in
-    c .if1 .more ≡ moreNames (a .kind) (c .before .before .count .given .0 .0) (a .names)
-more-is c =
-    ⊎-elim (λ w. w .2 ∙ simp (eq-eqb _ _ (w .0 .taken))) (λ w. w .2 ∙ simp (ne-eqb _ _ (w .0 .left))) (c .if1 .came)
-
--- how many parts a statement may have, and how many it has
-most-is : {t : ℕ} (c : read-parts-lts.Joined2 (read-parts-claims t) (read-parts-at t) read-parts.Post)
-    → c .if2 .most ≡ cond (eqb (c .before .before .before .args .kind) 8) 16 32
-most-is c = ⊎-elim (λ w. w .1 ∙ simp (eq-eqb _ _ (w .0 .taken))) (λ w. w .1 ∙ simp (ne-eqb _ _ (w .0 .left))) (c .if2 .came)
-
-parts-count : {t : ℕ} (c : read-parts-lts.After-count (read-parts-claims t) (read-parts-at t) read-parts.Post)
-    → c .count .given .0 .0 ≤ cond (eqb (c .before .before .before .before .before .before .args .kind) 8) 16 32
-parts-count c =
-    rw (most-is (c .before .before .before)) at (count-most 0 _ _ _ (sym (c .before .before .read-between .ensures) ∙ c .count .given .1))
-
--- what is to be answered once a kind is read, and once the parts' count is read
+-- what is to be answered once a kind's number is read, and once its shape is known
 first : {t : ℕ} {x : Item} (c : read-stmt-lts.After-read-between (read-stmt-claims t) (read-stmt-at t) read-stmt.Post)
     → c .read-between .result ≡ x
     → let a = c .before .before .before .args in
-    (stmtAt (a .depth) (a .names) (a .table .now) (a .at) ≡ withItem NoStmt x (byKind (a .depth) (a .names) (a .table .now) (a .at)))
+    (stmtAt (a .depth) (a .names) (a .table .now) (a .at)
+    ≡ withItem NoStmt x (λ k n. insideAt (a .at) (stmtKind k) (a .depth - 1) (a .names) (a .table .now) n))
     × (stmtUses (a .depth) (a .names) (a .table .now) (a .at) (a .sets .now)
-    ≡ withItem (kept (a .sets .now)) x (usesByKind (a .depth) (a .names) (a .table .now) (a .sets .now)))
+    ≡ withItem (kept (a .sets .now)) x (λ k n. insideUses (stmtKind k) (a .depth - 1) (a .names) (a .table .now) n (a .sets .now)))
 first c e =
     let u = turn _ _ _ _ _ (c .before .if1 .left) in
     let f = sym (c .read-between .ensures) ∙ e in (u .0 ∙ simp f, u .1 ∙ simp f)
 
-second : {t : ℕ} {x : Item} (c : read-parts-lts.After-read-between (read-parts-claims t) (read-parts-at t) read-parts.Post)
-    → c .read-between .result ≡ x
-    → let a = c .before .before .before .before .args in
-    (partsAt (a .place) (a .kind) (a .depth) (a .names) (a .table .now) (a .at)
-    ≡ withItem NoStmt x (λ n m.
-    cond (eqb (a .kind) 8) (parAt (a .place) n (a .depth - 1) (a .names) (a .table .now) m)
-    (mostAt (a .kind) n (a .depth - 1) (a .names) (a .table .now) m)))
-    × (partsUse (a .kind) (a .depth) (a .names) (a .table .now) (a .at) (a .sets .now)
-    ≡ withItem (kept (a .sets .now)) x (λ n m.
-    cond (eqb (a .kind) 8) (parUsesAt n (a .depth - 1) (a .names) (a .table .now) m (a .sets .now))
-    (mostUsesAt (a .kind) n (a .depth - 1) (a .names) (a .table .now) m (a .sets .now))))
-unfolding partsAt partsUse
-second c e =
-    let f = ne-eqb _ _ (c .before .before .if1 .left) in
-    let g = sym (c .read-between .ensures) ∙ e in (simp (f, ← most-is (c .before), g), simp (f, ← most-is (c .before), g))
+shaped : {t : ℕ} {x : Shape} (c : read-inside-lts.After-shape-of (read-inside-claims t) (read-inside-at t) read-inside.Post)
+    → c .shape-of .result ≡ x
+    → let a = c .before .before .args in
+    (insideAt (a .place) (a .kind) (a .depth) (a .names) (a .table .now) (a .at)
+    ≡ byKind (a .place) x (a .depth) (a .names) (a .table .now) (a .at))
+    × (insideUses (a .kind) (a .depth) (a .names) (a .table .now) (a .at) (a .sets .now)
+    ≡ usesByKind x (a .depth) (a .names) (a .table .now) (a .sets .now) (a .at))
+unfolding insideAt insideUses declaredAt declaredUses mostAt mostUsesAt parAt parUsesAt branchesAt
+shaped c e = let f = sym (c .shape-of .ensures) ∙ e in (simp f, simp f)
+
+-- how parts are counted is known to be few
+counts-few : {t : ℕ} {x : Shape} (c : read-inside-lts.After-shape-of (read-inside-claims t) (read-inside-at t) read-inside.Post)
+    → c .shape-of .result ≡ x → FewIn x
+counts-few c e = rw (sym (c .shape-of .ensures) ∙ e) at (few (c .before .before .args .kind))
 
 -- what is to be answered once a part or a branch is read
 one-part : {t : ℕ} {x : StmtRead}
@@ -371,10 +365,10 @@ one-part : {t : ℕ} {x : StmtRead}
     → let a = c .before .before .before .before .before .before .args in
     let l = c .before .before .before .loop in
     let m = c .read-part .last .1 .1 .1 .1 .1 .0 in
-    (mostLeft (a .count) (a .kind) (a .depth) (a .names) (a .table .now) (nothing (a .at))
-    ≡ withStmt NoSum x (λ p. mostLeft (a .count - (l .i + 1)) (a .kind) (a .depth) (a .names) (a .table .now) (added (l .sum) p)))
-    × (usesLeft (a .count) (a .kind) (a .depth) (a .names) (a .table .now) (a .at) (a .sets .now)
-    ≡ withStmt (kept m) x (λ p. usesLeft (a .count - (l .i + 1)) (a .kind) (a .depth) (a .names) (a .table .now) (p .next) m))
+    (mostLeft (a .count) (a .head) (a .depth) (a .names) (a .table .now) (nothing (a .at))
+    ≡ withStmt NoSum x (λ p. mostLeft (a .count - (l .i + 1)) (a .head) (a .depth) (a .names) (a .table .now) (added (l .sum) p)))
+    × (usesLeft (a .count) (a .head) (a .depth) (a .names) (a .table .now) (a .at) (a .sets .now)
+    ≡ withStmt (kept m) x (λ p. usesLeft (a .count - (l .i + 1)) (a .head) (a .depth) (a .names) (a .table .now) (p .next) m))
 one-part c e =
     let a = c .before .before .before .before .before .before .args in
     let l = c .before .before .before .loop in
@@ -410,35 +404,33 @@ bad-is c =
     let e = c .before .clash .ensures in
     ⊎-elim (λ w. w .1 ∙ simp (← e, w .0 .taken, or-true)) (λ w. w .1 ∙ simp (← e, w .0 .left, or-false)) (c .if1 .came)
 
-read-declaration-add-more : (t : ℕ)
-    → read-declaration-lts.Need-add-more (read-declaration-claims t) (read-declaration-at t) read-declaration.Post
-read-declaration-add-more t c = omega (arith, declared-count (c .before .before .before))
-
-read-declaration-add-more-2 : (t : ℕ)
-    → read-declaration-lts.Need-add-more-2 (read-declaration-claims t) (read-declaration-at t) read-declaration.Post
-read-declaration-add-more-2 t c = omega (arith, declared-count (c .before .before .before))
+read-declaration-more-names-requires : (t : ℕ)
+    → read-declaration-lts.Need-more-names-requires (read-declaration-claims t) (read-declaration-at t) read-declaration.Post
+read-declaration-more-names-requires t c κs =
+    let f = c .before .pre .1 .0 in
+    (c .before .pre .1 .2, (omega (arith, f .1), omega (arith, f .2), f .3, f .4))
 
 read-declaration-read-stmt-requires : (t : ℕ)
     → read-declaration-lts.Need-read-stmt-requires (read-declaration-claims t) (read-declaration-at t) read-declaration.Post
 read-declaration-read-stmt-requires t c κs =
-    let j = c .before in
-    let o = j .before .before .before .before .before .before in
-    let n = declared-count (j .before .before) in
-    (omega (arith, o .pre .0), (rw (more-is j) (more-fits (o .args .kind) _ _ _ (o .pre .1 .0) n (o .pre .1 .1)), o .pre .1 .2))
+    let m = c .before in
+    let o = m .before .before in (
+      omega (arith, o .pre .0),
+      (rw (m .more-names .ensures) (more-fits (o .args .declared) _ _ _ (o .pre .1 .2) (o .pre .1 .0)), o .pre .1 .1),
+    )
 
 read-declaration-leave-requires : (t : ℕ)
     → read-declaration-lts.Need-leave-requires (read-declaration-claims t) (read-declaration-at t) read-declaration.Post
 read-declaration-leave-requires t c κs =
-    let o = c .before .before .before .before .before .before .before .before .before .pre .1 in
-    (omega (arith, o .0, o .1), omega (arith, o .0, o .1))
+    let f = c .before .before .before .before .before .pre .1 .0 in (omega (arith, f .1), omega (arith, f .2))
 
 read-declaration-in-scope-requires : (t : ℕ)
     → read-declaration-lts.Need-in-scope-requires (read-declaration-claims t) (read-declaration-at t) read-declaration.Post
 read-declaration-in-scope-requires t c κs =
-    let n = c .before .before .before .before .before .before in
-    let o = n .before .before .before .before in (
-      declared-count n,
-      rw (c .before .before .read-stmt .ensures .0) (small-words (stmtAt _ _ _ _) _ _ (o .pre .1 .2) (stmt-small _ _ _ _)),
+    let r = c .before .before in
+    let o = r .before .before .before .before in (
+      o .pre .1 .2,
+      rw (r .read-stmt .ensures .0) (small-words (stmtAt _ _ _ _) _ _ (o .pre .1 .1) (stmt-small _ _ _ _)),
     )
 
 read-declaration-returns : (t : ℕ)
@@ -446,18 +438,102 @@ read-declaration-returns : (t : ℕ)
 unfolding declaredAt declaredUses
 read-declaration-returns t c =
     let r = c .before .before .before in
-    let j = r .before .before in
-    let n = j .before .before in
-    let e = sym (n .before .before .read-between .ensures) ∙ n .count .given .1 in (
-      simp (c .in-scope .ensures, r .read-stmt .ensures .0, more-is j, e),
-      simp (c .before .leave .ensures, r .read-stmt .ensures .1 .0, more-is j, e),
+    let m = r .before .before .more-names .ensures in (
+      simp (c .in-scope .ensures, r .read-stmt .ensures .0, m),
+      simp (c .before .leave .ensures, r .read-stmt .ensures .1 .0, m),
     )
 
-read-declaration-returns-2 : (t : ℕ)
-    → read-declaration-lts.Need-returns-2 (read-declaration-claims t) (read-declaration-at t) read-declaration.Post
-unfolding declaredAt declaredUses
-read-declaration-returns-2 t c =
-    let e = sym (c .before .before .before .read-between .ensures) ∙ c .before .n .given .1 in (simp e, simp e)
+read-inside-read-simple-requires : (t : ℕ)
+    → read-inside-lts.Need-read-simple-requires (read-inside-claims t) (read-inside-at t) read-inside.Post
+read-inside-read-simple-requires t c κs =
+    let f = c .before .before .before .before .before .before .pre .1 .0 in
+    (omega (arith, f .0), (omega (arith, f .1), omega (arith, f .2), f .3, f .4))
+
+read-inside-read-declaration-requires : (t : ℕ)
+    → read-inside-lts.Need-read-declaration-requires (read-inside-claims t) (read-inside-at t) read-inside.Post
+read-inside-read-declaration-requires t c κs =
+    let n = c .before .before in
+    let o = n .before .before .before .before .before .before .before .before in (
+      omega (arith, o .pre .0),
+      (o .pre .1 .0, o .pre .1 .1, count-most 1 32 _ _ (sym (n .before .before .read-between .ensures) ∙ n .n .given .1)),
+    )
+
+read-inside-read-par-requires : (t : ℕ) → read-inside-lts.Need-read-par-requires (read-inside-claims t) (read-inside-at t) read-inside.Post
+read-inside-read-par-requires t c κs =
+    let n = c .before .before in
+    let r = n .before .before in
+    let k = r .before .before in
+    let o = k .before .before .before .before in
+    let l = counts-few (k .before .before) (k .count .given .1) in
+    let e = sym (r .read-count .ensures) ∙ n .n3 .given .1 in
+    (omega (arith, o .pre .0), (less-fits _ _ (o .pre .1 .0), omega (arith, o .pre .1 .0 .2), o .pre .1 .1, count-few _ _ _ l e))
+
+read-inside-read-most-requires : (t : ℕ)
+    → read-inside-lts.Need-read-most-requires (read-inside-claims t) (read-inside-at t) read-inside.Post
+read-inside-read-most-requires t c κs =
+    let n = c .before .before in
+    let r = n .before .before in
+    let k = r .before .before in
+    let o = k .before .before .before .before in
+    let l = counts-few (k .before .before) (k .head .given .1) in
+    let e = sym (r .read-count2 .ensures) ∙ n .n5 .given .1 in
+    (omega (arith, o .pre .0), (less-fits _ _ (o .pre .1 .0), omega (arith, o .pre .1 .0 .2), o .pre .1 .1, count-few _ _ _ l e))
+
+read-inside-returns : (t : ℕ) → read-inside-lts.Need-returns (read-inside-claims t) (read-inside-at t) read-inside.Post
+read-inside-returns t c =
+    let k = c .before .before .before in
+    let h = shaped (k .before .before) (k .simple .given .1) in (c .read-simple .ensures .0 ∙ sym (h .0), c .read-simple .ensures .1 ∙ sym (h .1))
+
+read-inside-returns-2 : (t : ℕ) → read-inside-lts.Need-returns-2 (read-inside-claims t) (read-inside-at t) read-inside.Post
+read-inside-returns-2 t c =
+    let n = c .before .before .before in
+    let r = n .before .before in
+    let k = r .before .before in
+    let h = shaped (k .before .before) (k .declared .given .1) in
+    let e = sym (r .read-between .ensures) ∙ n .n .given .1 in
+    (c .read-declaration .ensures .0 ∙ sym (h .0 ∙ simp e), c .read-declaration .ensures .1 ∙ sym (h .1 ∙ simp e))
+
+read-inside-returns-3 : (t : ℕ) → read-inside-lts.Need-returns-3 (read-inside-claims t) (read-inside-at t) read-inside.Post
+read-inside-returns-3 t c =
+    let n = c .before in
+    let r = n .before .before in
+    let k = r .before .before in
+    let h = shaped (k .before .before) (k .declared .given .1) in
+    let e = sym (r .read-between .ensures) ∙ n .n2 .given .1 in (sym (h .0 ∙ simp e), sym (h .1 ∙ simp e))
+
+read-inside-returns-4 : (t : ℕ) → read-inside-lts.Need-returns-4 (read-inside-claims t) (read-inside-at t) read-inside.Post
+read-inside-returns-4 t c =
+    let n = c .before .before .before in
+    let r = n .before .before in
+    let k = r .before .before in
+    let h = shaped (k .before .before) (k .count .given .1) in
+    let e = sym (r .read-count .ensures) ∙ n .n3 .given .1 in
+    (c .read-par .ensures .0 ∙ sym (h .0 ∙ simp e), c .read-par .ensures .1 ∙ sym (h .1 ∙ simp e))
+
+read-inside-returns-5 : (t : ℕ) → read-inside-lts.Need-returns-5 (read-inside-claims t) (read-inside-at t) read-inside.Post
+read-inside-returns-5 t c =
+    let n = c .before in
+    let r = n .before .before in
+    let k = r .before .before in
+    let h = shaped (k .before .before) (k .count .given .1) in
+    let e = sym (r .read-count .ensures) ∙ n .n4 .given .1 in (sym (h .0 ∙ simp e), sym (h .1 ∙ simp e))
+
+read-inside-returns-6 : (t : ℕ) → read-inside-lts.Need-returns-6 (read-inside-claims t) (read-inside-at t) read-inside.Post
+read-inside-returns-6 t c =
+    let n = c .before .before .before in
+    let r = n .before .before in
+    let k = r .before .before in
+    let h = shaped (k .before .before) (k .head .given .1) in
+    let e = sym (r .read-count2 .ensures) ∙ n .n5 .given .1 in
+    (c .read-most .ensures .0 ∙ sym (h .0 ∙ simp e), c .read-most .ensures .1 ∙ sym (h .1 ∙ simp e))
+
+read-inside-returns-7 : (t : ℕ) → read-inside-lts.Need-returns-7 (read-inside-claims t) (read-inside-at t) read-inside.Post
+read-inside-returns-7 t c =
+    let n = c .before in
+    let r = n .before .before in
+    let k = r .before .before in
+    let h = shaped (k .before .before) (k .head .given .1) in
+    let e = sym (r .read-count2 .ensures) ∙ n .n6 .given .1 in (sym (h .0 ∙ simp e), sym (h .1 ∙ simp e))
 
 read-most-loop-holds : (t : ℕ)
     → read-most-lts.Need-loop-holds (read-most-claims t) (read-most-at t) read-most.Post read-most-Inv-loop read-most-μ-loop
@@ -576,47 +652,6 @@ read-part-returns-2 t c =
     let h = c .before .before .before .read-head .ensures in
     let e = sym (h .0) ∙ c .before .n .given .1 in (simp e, simp (e, h .1))
 
-read-parts-read-most-requires : (t : ℕ) → read-parts-lts.Need-read-most-requires (read-parts-claims t) (read-parts-at t) read-parts.Post
-read-parts-read-most-requires t c κs =
-    let o = c .before .before .before in
-    (omega (arith, o .pre .0), (less-fits _ _ (o .pre .1 .1), omega arith, o .pre .1 .2, omega arith))
-
-read-parts-returns : (t : ℕ) → read-parts-lts.Need-returns (read-parts-claims t) (read-parts-at t) read-parts.Post
-unfolding partsAt partsUse
-read-parts-returns t c =
-    let e = eq-eqb _ _ (c .before .before .if1 .taken) in (simp (e, c .read-most .ensures .0), simp (e, c .read-most .ensures .1))
-
-read-parts-read-par-requires : (t : ℕ) → read-parts-lts.Need-read-par-requires (read-parts-claims t) (read-parts-at t) read-parts.Post
-read-parts-read-par-requires t c κs =
-    let k = c .before in
-    let o = k .before .before .before .before .before .before .before .before in
-    let n = rw (eq-eqb _ _ (k .if3 .taken)) at (parts-count (k .before .before)) in
-    (omega (arith, o .pre .0), (less-fits _ _ (o .pre .1 .1), omega arith, o .pre .1 .2, n))
-
-read-parts-read-most-requires-2 : (t : ℕ) → read-parts-lts.Need-read-most-requires-2 (read-parts-claims t) (read-parts-at t) read-parts.Post
-read-parts-read-most-requires-2 t c κs =
-    let k = c .before in
-    let o = k .before .before .before .before .before .before .before .before in
-    let n = rw (ne-eqb _ _ (k .if3 .left)) at (parts-count (k .before .before)) in
-    (omega (arith, o .pre .0), (less-fits _ _ (o .pre .1 .1), omega arith, o .pre .1 .2, n))
-
-read-parts-returns-2 : (t : ℕ) → read-parts-lts.Need-returns-2 (read-parts-claims t) (read-parts-at t) read-parts.Post
-read-parts-returns-2 t c =
-    let k = c .before .before .before .before in
-    let h = second (k .before .before) (k .count .given .1) in
-    let e = eq-eqb _ _ (c .before .before .if3 .taken) in
-    (c .read-par .ensures .0 ∙ sym (h .0 ∙ simp e), c .read-par .ensures .1 ∙ sym (h .1 ∙ simp e))
-
-read-parts-returns-3 : (t : ℕ) → read-parts-lts.Need-returns-3 (read-parts-claims t) (read-parts-at t) read-parts.Post
-read-parts-returns-3 t c =
-    let k = c .before .before .before .before in
-    let h = second (k .before .before) (k .count .given .1) in
-    let e = ne-eqb _ _ (c .before .before .if3 .left) in
-    (c .read-most2 .ensures .0 ∙ sym (h .0 ∙ simp e), c .read-most2 .ensures .1 ∙ sym (h .1 ∙ simp e))
-
-read-parts-returns-4 : (t : ℕ) → read-parts-lts.Need-returns-4 (read-parts-claims t) (read-parts-at t) read-parts.Post
-read-parts-returns-4 t c = let h = second (c .before .before .before) (c .before .n .given .1) in (sym (h .0), sym (h .1))
-
 -- the sets that a statement leaves are exactly its usage
 with-exact : {t : ℕ} {r : StmtRead} {m : List ℕ}
     (c : read-stmt-lts.After-shared-slice-known (read-stmt-claims t) (read-stmt-at t) read-stmt.Post)
@@ -634,72 +669,71 @@ read-stmt-returns t c =
     let h = none _ _ _ _ _ (c .before .before .if1 .taken) in
     with-exact (c .before .before .before) (sym (h .0 ∙ simp (c .no-stmt .ensures, c .before .read-deep .ensures))) (sym (h .1))
 
+read-stmt-read-inside-requires : (t : ℕ) → read-stmt-lts.Need-read-inside-requires (read-stmt-claims t) (read-stmt-at t) read-stmt.Post
+read-stmt-read-inside-requires t c κs =
+    let k = c .before .before .before in
+    let o = k .before .before .before .before .before in
+    (omega (arith, o .pre .0), (same-fits _ _ (k .before .before .before .if1 .left) (o .pre .1 .0), o .pre .1 .1))
+
 read-stmt-returns-2 : (t : ℕ) → read-stmt-lts.Need-returns-2 (read-stmt-claims t) (read-stmt-at t) read-stmt.Post
 read-stmt-returns-2 t c =
     let k = c .before .before .before .before in
-    let h = first (k .before .before) (k .kind .given .1) in
-    let e = lt-ltb _ _ (c .before .before .if2 .taken) in
-    with-exact (k .before .before .before .before) (c .read-simple .ensures .0 ∙ sym (h .0 ∙ simp e))
-    (c .read-simple .ensures .1 ∙ sym (h .1 ∙ simp e))
-
-read-stmt-read-declaration-requires : (t : ℕ)
-    → read-stmt-lts.Need-read-declaration-requires (read-stmt-claims t) (read-stmt-at t) read-stmt.Post
-read-stmt-read-declaration-requires t c κs =
-    let o = c .before .before .before .before .before .before .before .before .before in
-    (omega (arith, o .pre .0), (omega arith, o .pre .1 .0, o .pre .1 .1))
+    let h = first (k .before .before) (k .number .given .1) in
+    let e = c .before .before .stmt-kind .ensures in
+    let r = c .read-inside .ensures in
+    with-exact (k .before .before .before .before) (r .0 ∙ sym (h .0 ∙ simp (← e))) (r .1 ∙ sym (h .1 ∙ simp (← e)))
 
 read-stmt-returns-3 : (t : ℕ) → read-stmt-lts.Need-returns-3 (read-stmt-claims t) (read-stmt-at t) read-stmt.Post
 read-stmt-returns-3 t c =
-    let k = c .before .before .before .before .before in
-    let h = first (k .before .before) (k .kind .given .1) in
-    let e = le-ltb _ _ (c .before .before .before .if2 .left) in
-    let f = lt-ltb _ _ (c .before .before .if3 .taken) in
-    with-exact (k .before .before .before .before) (c .read-declaration .ensures .0 ∙ sym (h .0 ∙ simp (e, f)))
-    (c .read-declaration .ensures .1 ∙ sym (h .1 ∙ simp (e, f)))
-
-read-stmt-read-parts-requires : (t : ℕ) → read-stmt-lts.Need-read-parts-requires (read-stmt-claims t) (read-stmt-at t) read-stmt.Post
-read-stmt-read-parts-requires t c κs =
-    let o = c .before .before .before .before .before .before .before .before .before in
-    (omega (arith, o .pre .0), (omega arith, o .pre .1 .0, o .pre .1 .1))
-
-read-stmt-returns-4 : (t : ℕ) → read-stmt-lts.Need-returns-4 (read-stmt-claims t) (read-stmt-at t) read-stmt.Post
-read-stmt-returns-4 t c =
-    let k = c .before .before .before .before .before in
-    let h = first (k .before .before) (k .kind .given .1) in
-    let e = le-ltb _ _ (c .before .before .before .if2 .left) in
-    let f = le-ltb _ _ (c .before .before .if3 .left) in
-    with-exact (k .before .before .before .before) (c .read-parts .ensures .0 ∙ sym (h .0 ∙ simp (e, f)))
-    (c .read-parts .ensures .1 ∙ sym (h .1 ∙ simp (e, f)))
-
-read-stmt-returns-5 : (t : ℕ) → read-stmt-lts.Need-returns-5 (read-stmt-claims t) (read-stmt-at t) read-stmt.Post
-read-stmt-returns-5 t c =
     let k = c .before .before .before in
     let h = first k (c .before .n .given .1) in with-exact (k .before .before) (sym (h .0)) (sym (h .1))
 
-pub +read-declaration+read-most+read-par+read-part+read-parts+read-stmt-spec :
+pub +read-declaration+read-inside+read-most+read-par+read-part+read-stmt-spec :
     {M : Type 1} → statement M
-+read-declaration+read-most+read-par+read-part+read-parts+read-stmt-spec =
++read-declaration+read-inside+read-most+read-par+read-part+read-stmt-spec =
     close
     μ-read-declaration
+    μ-read-inside
     μ-read-most
     μ-read-par
     μ-read-part
-    μ-read-parts
     μ-read-stmt
     (λ t. read-declaration-lts.spec (read-declaration-claims t)
     (read-declaration-at t)
     read-declaration.Post
-    (λ c κs. search needs)
-    (λ c. search needs)
-    (read-declaration-add-more t)
-    (read-declaration-add-more-2 t)
-    (λ c. search needs)
+    (read-declaration-more-names-requires t)
     (read-declaration-read-stmt-requires t)
     (read-declaration-leave-requires t)
     (read-declaration-in-scope-requires t)
+    (read-declaration-returns t))
+    (λ t. read-inside-lts.spec (read-inside-claims t)
+    (read-inside-at t)
+    read-inside.Post
+    (λ c κs. search needs)
     (λ c. search needs)
-    (read-declaration-returns t)
-    (read-declaration-returns-2 t))
+    (read-inside-read-simple-requires t)
+    (λ c. search needs)
+    (λ c κs. search needs)
+    (λ c. search needs)
+    (read-inside-read-declaration-requires t)
+    (λ c. search needs)
+    (λ c. search needs)
+    (λ c κs. search needs)
+    (λ c. search needs)
+    (read-inside-read-par-requires t)
+    (λ c. search needs)
+    (λ c. search needs)
+    (λ c κs. search needs)
+    (λ c. search needs)
+    (read-inside-read-most-requires t)
+    (λ c. search needs)
+    (read-inside-returns t)
+    (read-inside-returns-2 t)
+    (read-inside-returns-3 t)
+    (read-inside-returns-4 t)
+    (read-inside-returns-5 t)
+    (read-inside-returns-6 t)
+    (read-inside-returns-7 t))
     (λ t. read-most-lts.spec (read-most-claims t)
     (read-most-at t)
     read-most.Post
@@ -747,22 +781,6 @@ pub +read-declaration+read-most+read-par+read-part+read-parts+read-stmt-spec :
     (λ c. search needs)
     (read-part-returns t)
     (read-part-returns-2 t))
-    (λ t. read-parts-lts.spec (read-parts-claims t)
-    (read-parts-at t)
-    read-parts.Post
-    (λ c. search needs)
-    (read-parts-read-most-requires t)
-    (read-parts-returns t)
-    (λ c κs. search needs)
-    (λ c. search needs)
-    (λ c. search needs)
-    (read-parts-read-par-requires t)
-    (λ c. search needs)
-    (read-parts-read-most-requires-2 t)
-    (λ c. search needs)
-    (read-parts-returns-2 t)
-    (read-parts-returns-3 t)
-    (read-parts-returns-4 t))
     λ t. read-stmt-lts.spec (read-stmt-claims t)
     (read-stmt-at t)
     read-stmt.Post
@@ -771,12 +789,9 @@ pub +read-declaration+read-most+read-par+read-part+read-parts+read-stmt-spec :
     (read-stmt-returns t)
     (λ c κs. search needs)
     (λ c. search needs)
-    (λ c. search needs)
     (λ c κs. search needs)
-    (read-stmt-returns-2 t)
-    (read-stmt-read-declaration-requires t)
-    (read-stmt-returns-3 t)
-    (read-stmt-read-parts-requires t)
     (λ c. search needs)
-    (read-stmt-returns-4 t)
-    (read-stmt-returns-5 t)
+    (read-stmt-read-inside-requires t)
+    (λ c. search needs)
+    (read-stmt-returns-2 t)
+    (read-stmt-returns-3 t)

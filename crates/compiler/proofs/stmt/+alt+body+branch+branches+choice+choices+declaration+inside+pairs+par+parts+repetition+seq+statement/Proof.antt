@@ -1,50 +1,53 @@
 -- The functions of `compiler::stmt` that call each other meet their contracts. The measures count 2 ^ 33 for each level of the depth left,
 -- and further: for a statement nothing; for a body, a branch and a choice 1; for the parts of SEQ, IF, PAR and ALT 2 and how many are
--- left, which are fewer than 2 ^ 32; for what stands inside a statement, which has a level less, 2 ^ 33 - 1; for VAR, CHAN, WHILE, PAR and
--- ALT, which that calls, 2 ^ 33 - 2. Assumes nothing.
+-- left, which are fewer than 2 ^ 32; for what stands inside a statement, which has a level less, 2 ^ 33 - 1; for VAR, CHAN, PAR and parts,
+-- which that calls, 2 ^ 33 - 2; for WHILE and ALT, which are parts, 2 ^ 33 - 3. Assumes nothing.
 use Rattle.compiler.proofs.stmt as cycle
 use Prim.Native.Nat.{ℕ, _<_, _+_, _*_}
 use borrow.Fn.Kinds.{In}
 use borrow.Fn.PlainCycle.{Measures, is, falls, and}
 use Rattle.compiler.proofs.stmt.alt.Reads as alt
 use Rattle.compiler.proofs.stmt.alt.Kinds as alt-kinds
-use cycle.+alt+body+branch+branches+choice+choices+declaration+inside+pairs+par+repetition+seq+statement.Lts-alt as alt-lts
+use cycle.+alt+body+branch+branches+choice+choices+declaration+inside+pairs+par+parts+repetition+seq+statement.Lts-alt as alt-lts
 use Rattle.compiler.proofs.stmt.body.Reads as body
 use Rattle.compiler.proofs.stmt.body.Kinds as body-kinds
-use cycle.+alt+body+branch+branches+choice+choices+declaration+inside+pairs+par+repetition+seq+statement.Lts-body as body-lts
+use cycle.+alt+body+branch+branches+choice+choices+declaration+inside+pairs+par+parts+repetition+seq+statement.Lts-body as body-lts
 use Rattle.compiler.proofs.stmt.branch.Reads as branch
 use Rattle.compiler.proofs.stmt.branch.Kinds as branch-kinds
-use cycle.+alt+body+branch+branches+choice+choices+declaration+inside+pairs+par+repetition+seq+statement.Lts-branch as branch-lts
+use cycle.+alt+body+branch+branches+choice+choices+declaration+inside+pairs+par+parts+repetition+seq+statement.Lts-branch as branch-lts
 use Rattle.compiler.proofs.stmt.branches.Reads as branches
 use Rattle.compiler.proofs.stmt.branches.Kinds as branches-kinds
-use cycle.+alt+body+branch+branches+choice+choices+declaration+inside+pairs+par+repetition+seq+statement.Lts-branches as branches-lts
+use cycle.+alt+body+branch+branches+choice+choices+declaration+inside+pairs+par+parts+repetition+seq+statement.Lts-branches as branches-lts
 use Rattle.compiler.proofs.stmt.choice.Reads as choice
 use Rattle.compiler.proofs.stmt.choice.Kinds as choice-kinds
-use cycle.+alt+body+branch+branches+choice+choices+declaration+inside+pairs+par+repetition+seq+statement.Lts-choice as choice-lts
+use cycle.+alt+body+branch+branches+choice+choices+declaration+inside+pairs+par+parts+repetition+seq+statement.Lts-choice as choice-lts
 use Rattle.compiler.proofs.stmt.choices.Reads as choices
 use Rattle.compiler.proofs.stmt.choices.Kinds as choices-kinds
-use cycle.+alt+body+branch+branches+choice+choices+declaration+inside+pairs+par+repetition+seq+statement.Lts-choices as choices-lts
+use cycle.+alt+body+branch+branches+choice+choices+declaration+inside+pairs+par+parts+repetition+seq+statement.Lts-choices as choices-lts
 use Rattle.compiler.proofs.stmt.declaration.Reads as declaration
 use Rattle.compiler.proofs.stmt.declaration.Kinds as declaration-kinds
-use cycle.+alt+body+branch+branches+choice+choices+declaration+inside+pairs+par+repetition+seq+statement.Lts-declaration as declaration-lts
+use cycle.+alt+body+branch+branches+choice+choices+declaration+inside+pairs+par+parts+repetition+seq+statement.Lts-declaration as declaration-lts
 use Rattle.compiler.proofs.stmt.inside.Reads as inside
 use Rattle.compiler.proofs.stmt.inside.Kinds as inside-kinds
-use cycle.+alt+body+branch+branches+choice+choices+declaration+inside+pairs+par+repetition+seq+statement.Lts-inside as inside-lts
+use cycle.+alt+body+branch+branches+choice+choices+declaration+inside+pairs+par+parts+repetition+seq+statement.Lts-inside as inside-lts
 use Rattle.compiler.proofs.stmt.pairs.Reads as pairs
 use Rattle.compiler.proofs.stmt.pairs.Kinds as pairs-kinds
-use cycle.+alt+body+branch+branches+choice+choices+declaration+inside+pairs+par+repetition+seq+statement.Lts-pairs as pairs-lts
+use cycle.+alt+body+branch+branches+choice+choices+declaration+inside+pairs+par+parts+repetition+seq+statement.Lts-pairs as pairs-lts
 use Rattle.compiler.proofs.stmt.par.Reads as par
 use Rattle.compiler.proofs.stmt.par.Kinds as par-kinds
-use cycle.+alt+body+branch+branches+choice+choices+declaration+inside+pairs+par+repetition+seq+statement.Lts-par as par-lts
+use cycle.+alt+body+branch+branches+choice+choices+declaration+inside+pairs+par+parts+repetition+seq+statement.Lts-par as par-lts
+use Rattle.compiler.proofs.stmt.parts.Reads as parts
+use Rattle.compiler.proofs.stmt.parts.Kinds as parts-kinds
+use cycle.+alt+body+branch+branches+choice+choices+declaration+inside+pairs+par+parts+repetition+seq+statement.Lts-parts as parts-lts
 use Rattle.compiler.proofs.stmt.repetition.Reads as repetition
 use Rattle.compiler.proofs.stmt.repetition.Kinds as repetition-kinds
-use cycle.+alt+body+branch+branches+choice+choices+declaration+inside+pairs+par+repetition+seq+statement.Lts-repetition as repetition-lts
+use cycle.+alt+body+branch+branches+choice+choices+declaration+inside+pairs+par+parts+repetition+seq+statement.Lts-repetition as repetition-lts
 use Rattle.compiler.proofs.stmt.seq.Reads as seq
 use Rattle.compiler.proofs.stmt.seq.Kinds as seq-kinds
-use cycle.+alt+body+branch+branches+choice+choices+declaration+inside+pairs+par+repetition+seq+statement.Lts-seq as seq-lts
+use cycle.+alt+body+branch+branches+choice+choices+declaration+inside+pairs+par+parts+repetition+seq+statement.Lts-seq as seq-lts
 use Rattle.compiler.proofs.stmt.statement.Reads as statement′
 use Rattle.compiler.proofs.stmt.statement.Kinds as statement-kinds
-use cycle.+alt+body+branch+branches+choice+choices+declaration+inside+pairs+par+repetition+seq+statement.Lts-statement as statement-lts
+use cycle.+alt+body+branch+branches+choice+choices+declaration+inside+pairs+par+parts+repetition+seq+statement.Lts-statement as statement-lts
 use Rattle.compiler.proofs.alt.gen_enable.Reads as gen-enable-reads
 use Rattle.compiler.proofs.alt.gen_guard.Reads as gen-guard-reads
 use Rattle.compiler.proofs.alt.put_disable.Reads as put-disable-reads
@@ -63,19 +66,27 @@ use Rattle.emitter.proofs.gen_simple.Reads as gen-simple-reads
 use Rattle.emitter.proofs.below.Reads as below-reads
 use Rattle.emitter.proofs.declared.Reads as declared-reads
 use Rattle.word.proofs.plus.Reads as plus-reads
+use Rattle.numbers.proofs.kinds.count_at.Reads as count-at-reads
+use Rattle.numbers.proofs.kinds.shape_of.Reads as shape-of-reads
+use Rattle.numbers.proofs.kinds.stmt_kind.Reads as stmt-kind-reads
 use Rattle.numbers.proofs.value_at.Reads as value-at-reads
-use cycle.+alt+body+branch+branches+choice+choices+declaration+inside+pairs+par+repetition+seq+statement.{statement}
-use cycle.+alt+body+branch+branches+choice+choices+declaration+inside+pairs+par+repetition+seq+statement.Tie.{close}
-use mathlib.Core.Path.{_∙_}
+use cycle.+alt+body+branch+branches+choice+choices+declaration+inside+pairs+par+parts+repetition+seq+statement.{statement}
+use cycle.+alt+body+branch+branches+choice+choices+declaration+inside+pairs+par+parts+repetition+seq+statement.Tie.{close}
+use mathlib.Core.Path.{_≡_, sym, _∙_}
 use borrow.Author.Needs.{needs}
 use native.Mathlib.Omega.{arith}
+use Rattle.numbers.specs.Kinds.{countIn, byShape}
+use Rattle.numbers.specs.declared.kinds.Shape.{Shape}
+use Rattle.emitter.specs.Emits.{at}
+use Rattle.emitter.specs.Simples.{simpleInto}
+use Rattle.compiler.specs.Kinds.{declarationAt, parAt, partsAt, insideAt}
 use Rattle.compiler.proofs.Turns.{alt-is, body-variables, body-channels, branch-is, branches-none, branches-more, choice-waits}
-use Rattle.compiler.proofs.Turns.{choice-skips, choices-none, choices-more, declaration-is, inside-declaration, inside-while}
-use Rattle.compiler.proofs.Turns.{inside-seq, inside-par, inside-if, inside-alt, if-none, if-more, par-none, par-more, while-is}
-use Rattle.compiler.proofs.Turns.{seq-none, seq-more, stmt-none, stmt-simple, stmt-inside}
+use Rattle.compiler.proofs.Turns.{choice-skips, choices-none, choices-more, declaration-is, inside-by, parts-seq, parts-if}
+use Rattle.compiler.proofs.Turns.{parts-while, parts-alt, if-none, if-more, par-none, par-more, while-is, seq-none, seq-more}
+use Rattle.compiler.proofs.Turns.{stmt-none, stmt-inside}
 
 abbrev μ-alt : Measures 5 alt-kinds.ps ℕ
-μ-alt κs a = 8589934592 * a .1 .1 .1 .1 .0 + 8589934590
+μ-alt κs a = 8589934592 * a .1 .1 .1 .1 .0 + 8589934589
 
 abbrev μ-body : Measures 5 body-kinds.ps ℕ
 μ-body κs a = 8589934592 * a .1 .1 .1 .1 .1 .0 + 1
@@ -104,8 +115,11 @@ abbrev μ-pairs : Measures 5 pairs-kinds.ps ℕ
 abbrev μ-par : Measures 5 par-kinds.ps ℕ
 μ-par κs a = 8589934592 * a .1 .1 .1 .1 .0 + 8589934590
 
+abbrev μ-parts : Measures 5 parts-kinds.ps ℕ
+μ-parts κs a = 8589934592 * a .1 .1 .1 .1 .1 .0 + 8589934590
+
 abbrev μ-repetition : Measures 5 repetition-kinds.ps ℕ
-μ-repetition κs a = 8589934592 * a .1 .1 .1 .0 + 8589934590
+μ-repetition κs a = 8589934592 * a .1 .1 .1 .0 + 8589934589
 
 abbrev μ-seq : Measures 5 seq-kinds.ps ℕ
 μ-seq κs a = 8589934592 * a .1 .1 .1 .1 .0 + 2 + a .1 .1 .1 .0
@@ -175,6 +189,12 @@ par-at t = and 5 par-kinds.ps (is 5 par-kinds.ps μ-par t) par.Pre
 
 abbrev par-below : ℕ → In 5 par-kinds.ps
 par-below t = and 5 par-kinds.ps (falls 5 par-kinds.ps _<_ μ-par t) par.Pre
+
+abbrev parts-at : ℕ → In 5 parts-kinds.ps
+parts-at t = and 5 parts-kinds.ps (is 5 parts-kinds.ps μ-parts t) parts.Pre
+
+abbrev parts-below : ℕ → In 5 parts-kinds.ps
+parts-below t = and 5 parts-kinds.ps (falls 5 parts-kinds.ps _<_ μ-parts t) parts.Pre
 
 abbrev repetition-at : ℕ → In 5 repetition-kinds.ps
 repetition-at t =
@@ -297,18 +317,30 @@ declaration-claims t = (
 
 abbrev inside-claims : ℕ → inside-lts.Claims
 inside-claims t = (
+  shape-of-reads.Asked,
+  shape-of-reads.Learnt,
+  gen-simple-reads.Asked,
+  gen-simple-reads.Learnt,
   declaration-below t,
   declaration.Post,
-  repetition-below t,
-  repetition.Post,
-  value-at-reads.Asked,
-  value-at-reads.Learnt,
-  seq-below t,
-  seq.Post,
+  count-at-reads.Asked,
+  count-at-reads.Learnt,
   par-below t,
   par.Post,
+  parts-below t,
+  parts.Post,
+)
+
+abbrev parts-claims : ℕ → parts-lts.Claims
+parts-claims t = (
+  count-at-reads.Asked,
+  count-at-reads.Learnt,
+  seq-below t,
+  seq.Post,
   pairs-below t,
   pairs.Post,
+  repetition-below t,
+  repetition.Post,
   alt-below t,
   alt.Post,
 )
@@ -374,8 +406,8 @@ abbrev statement-claims : ℕ → statement-lts.Claims
 statement-claims t = (
   value-at-reads.Asked,
   value-at-reads.Learnt,
-  gen-simple-reads.Asked,
-  gen-simple-reads.Learnt,
+  stmt-kind-reads.Asked,
+  stmt-kind-reads.Learnt,
   inside-below t,
   inside.Post,
 )
@@ -417,8 +449,8 @@ body-returns t c =
     let v = r .before .before .before in
     let n = v .before in
     let i = n .before in
-    let w = i .before in
-    body-variables _ _ _ _ _ _ _ _ _ _ (w .below .ensures) (i .if1 .taken) (n .declared .ensures) (v .plus .ensures)
+    let w = i .before .before in
+    body-variables _ _ _ _ _ _ _ _ _ _ (w .below .ensures) (i .enum-told .given .1) (n .declared .ensures) (v .plus .ensures)
     (r .statement .ensures)
 
 body-returns-2 : (t : ℕ) → body-lts.Need-returns-2 (body-claims t) (body-at t) body.Post
@@ -427,8 +459,8 @@ body-returns-2 t c =
     let v = r .before .before .before in
     let n = v .before in
     let i = n .before in
-    let w = i .before in
-    body-channels _ _ _ _ _ _ _ _ _ _ (w .below .ensures) (i .if1 .left) (n .declared2 .ensures) (v .plus2 .ensures)
+    let w = i .before .before in
+    body-channels _ _ _ _ _ _ _ _ _ _ (w .below .ensures) (i .enum-told2 .given .1) (n .declared2 .ensures) (v .plus2 .ensures)
     (r .statement2 .ensures)
 
 branch-returns : (t : ℕ) → branch-lts.Need-returns (branch-claims t) (branch-at t) branch.Post
@@ -495,61 +527,66 @@ declaration-returns t c =
     declaration-is _ _ _ _ _ _ _ _ _ (n .value-at .ensures) (m .minus .ensures) (a .plain .ensures) (s .put-initial .ensures)
     (b .body .ensures) (e .plain2 .ensures)
 
+-- what is to be answered once the shape is known
+shaped : {t : ℕ} {x : Shape} (c : inside-lts.After-shape-of (inside-claims t) (inside-at t) inside.Post) → c .shape-of .result ≡ x
+    → let a = c .before .before .before .args in
+    let o = at (a .here) (a .out .now) in
+    insideAt (a .kind) (a .depth) (a .scope) (a .vars .now) (a .chans .now) (a .plan .now) (a .table .now) (a .at) o
+    ≡ byShape x (λ y. simpleInto y (a .depth) (a .scope .w) (a .vars .now) (a .chans .now) (a .plan .now) (a .table .now) (a .at) o)
+    (λ y. declarationAt y (a .depth) (a .scope) (a .vars .now) (a .chans .now) (a .plan .now) (a .table .now) (a .at) o)
+    (λ m. let n = countIn m (a .table .now) (a .at) in
+    parAt (n .value) (a .depth) (a .scope) (a .vars .now) (a .chans .now) (a .plan .now) (a .table .now) (n .next) o)
+    (λ h m. partsAt h m (a .depth) (a .scope) (a .vars .now) (a .chans .now) (a .plan .now) (a .table .now) (a .at) o)
+shaped c e = inside-by _ _ _ _ _ _ _ _ _ (sym (c .shape-of .ensures) ∙ e)
+
 inside-returns : (t : ℕ) → inside-lts.Need-returns (inside-claims t) (inside-at t) inside.Post
 inside-returns t c =
     let r = c .before .before in
-    let i = r .before .before in
-    inside-declaration _ _ _ _ _ _ _ _ _ (i .if1 .taken) (r .declaration .ensures)
+    let k = r .before .before .before in r .gen-simple .ensures ∙ sym (shaped (k .before .before) (k .x .given .1))
 
 inside-returns-2 : (t : ℕ) → inside-lts.Need-returns-2 (inside-claims t) (inside-at t) inside.Post
 inside-returns-2 t c =
     let r = c .before .before in
-    let j = r .before .before in
-    let i = j .before in
-    inside-while _ _ _ _ _ _ _ _ _ (i .if1 .left) (j .if2 .taken) (r .repetition .ensures)
+    let k = r .before .before .before in r .declaration .ensures ∙ sym (shaped (k .before .before) (k .x2 .given .1))
 
 inside-returns-3 : (t : ℕ) → inside-lts.Need-returns-3 (inside-claims t) (inside-at t) inside.Post
 inside-returns-3 t c =
     let r = c .before .before in
-    let k = r .before .before in
-    let n = k .before in
-    let j = n .before in
-    let i = j .before in
-    inside-seq _ _ _ _ _ _ _ _ _ (i .if1 .left) (j .if2 .left) (n .value-at .ensures) (k .if3 .taken) (r .seq .ensures)
+    let n = r .before .before in
+    let k = n .before .before in
+    r .par .ensures ∙ sym (shaped (k .before .before) (k .m .given .1) ∙ simp (← n .count-at .ensures))
 
 inside-returns-4 : (t : ℕ) → inside-lts.Need-returns-4 (inside-claims t) (inside-at t) inside.Post
 inside-returns-4 t c =
     let r = c .before .before in
-    let l = r .before .before in
-    let k = l .before in
-    let n = k .before in
-    let j = n .before in
-    let i = j .before in
-    inside-par _ _ _ _ _ _ _ _ _ (i .if1 .left) (j .if2 .left) (n .value-at .ensures) (k .if3 .left) (l .if4 .taken) (r .par .ensures)
+    let k = r .before .before .before in r .parts .ensures ∙ sym (shaped (k .before .before) (k .h .given .1))
 
-inside-returns-5 : (t : ℕ) → inside-lts.Need-returns-5 (inside-claims t) (inside-at t) inside.Post
-inside-returns-5 t c =
+parts-returns : (t : ℕ) → parts-lts.Need-returns (parts-claims t) (parts-at t) parts.Post
+parts-returns t c =
     let r = c .before .before in
-    let m = r .before .before in
-    let l = m .before in
-    let k = l .before in
-    let n = k .before in
-    let j = n .before in
-    let i = j .before in
-    inside-if _ _ _ _ _ _ _ _ _ (i .if1 .left) (j .if2 .left) (n .value-at .ensures) (k .if3 .left) (l .if4 .left) (m .if5 .taken)
-    (r .pairs .ensures)
+    let k = r .before .before in
+    parts-seq _ _ _ _ _ _ _ _ _ _ (k .before .before .count-at .ensures) (k .enum-told .given .1) (r .seq .ensures)
 
-inside-returns-6 : (t : ℕ) → inside-lts.Need-returns-6 (inside-claims t) (inside-at t) inside.Post
-inside-returns-6 t c =
+parts-returns-2 : (t : ℕ) → parts-lts.Need-returns-2 (parts-claims t) (parts-at t) parts.Post
+parts-returns-2 t c =
     let r = c .before .before in
-    let m = r .before .before in
-    let l = m .before in
-    let k = l .before in
-    let n = k .before in
-    let j = n .before in
-    let i = j .before in
-    inside-alt _ _ _ _ _ _ _ _ _ (i .if1 .left) (j .if2 .left) (n .value-at .ensures) (k .if3 .left) (l .if4 .left) (m .if5 .left)
-    (r .alt .ensures)
+    let m = r .before .before .before in
+    let k = m .before .before in
+    parts-if _ _ _ _ _ _ _ _ _ _ (k .before .before .count-at .ensures) (k .enum-told2 .given .1) (m .count .given .1) (r .pairs .ensures)
+
+parts-returns-3 : (t : ℕ) → parts-lts.Need-returns-3 (parts-claims t) (parts-at t) parts.Post
+parts-returns-3 t c =
+    let r = c .before .before in
+    let m = r .before .before .before in
+    let k = m .before .before in
+    parts-while _ _ _ _ _ _ _ _ _ _ (k .before .before .count-at .ensures) (k .enum-told2 .given .1) (m .count2 .given .1)
+    (r .repetition .ensures)
+
+parts-returns-4 : (t : ℕ) → parts-lts.Need-returns-4 (parts-claims t) (parts-at t) parts.Post
+parts-returns-4 t c =
+    let r = c .before .before in
+    let k = r .before .before in
+    parts-alt _ _ _ _ _ _ _ _ _ _ (k .before .before .count-at .ensures) (k .enum-told3 .given .1) (r .alt .ensures)
 
 pairs-returns : (t : ℕ) → pairs-lts.Need-returns (pairs-claims t) (pairs-at t) pairs.Post
 pairs-returns t c = let e = c .before .before in if-none _ _ _ _ _ _ _ _ _ (e .before .before .if1 .taken) (e .operation .ensures)
@@ -640,23 +677,14 @@ statement-returns t c = stmt-none _ _ _ _ _ _ _ _ (c .if1 .taken)
 statement-returns-2 : (t : ℕ) → statement-lts.Need-returns-2 (statement-claims t) (statement-at t) statement′.Post
 statement-returns-2 t c =
     let r = c .before .before in
-    let j = r .before .before in
-    let k = j .before .before in
-    let i = k .before in
-    stmt-simple _ _ _ _ _ _ _ _ (i .if1 .left) (k .value-at .ensures) (j .if2 .taken) (r .gen-simple .ensures)
+    let k = r .before .before in
+    let v = k .before .before in
+    stmt-inside _ _ _ _ _ _ _ _ (v .before .if1 .left) (v .value-at .ensures) (k .stmt-kind .ensures) (r .inside .ensures)
 
-statement-returns-3 : (t : ℕ) → statement-lts.Need-returns-3 (statement-claims t) (statement-at t) statement′.Post
-statement-returns-3 t c =
-    let r = c .before .before in
-    let j = r .before .before in
-    let k = j .before .before in
-    let i = k .before in
-    stmt-inside _ _ _ _ _ _ _ _ (i .if1 .left) (k .value-at .ensures) (j .if2 .left) (r .inside .ensures)
-
-pub +alt+body+branch+branches+choice+choices+declaration+inside+pairs+par+repetition+seq+statement-spec : {M : Type 1} → statement M
-+alt+body+branch+branches+choice+choices+declaration+inside+pairs+par+repetition+seq+statement-spec =
+pub +alt+body+branch+branches+choice+choices+declaration+inside+pairs+par+parts+repetition+seq+statement-spec : {M : Type 1} → statement M
++alt+body+branch+branches+choice+choices+declaration+inside+pairs+par+parts+repetition+seq+statement-spec =
     close μ-alt μ-body μ-branch μ-branches μ-choice μ-choices μ-declaration μ-inside
-    μ-pairs μ-par μ-repetition μ-seq μ-statement
+    μ-pairs μ-par μ-parts μ-repetition μ-seq μ-statement
     (λ t. alt-lts.spec (alt-claims t)
     (alt-at t)
     alt.Post
@@ -675,14 +703,16 @@ pub +alt+body+branch+branches+choice+choices+declaration+inside+pairs+par+repeti
     (body-at t)
     body.Post
     (λ c κs. search needs)
+    (λ c. search needs)
+    (λ c κs. search needs)
+    (λ c κs. search needs)
+    (λ c κs. omega arith)
+    (λ c. search needs)
     (λ c κs. search needs)
     (λ c κs. search needs)
     (λ c κs. omega arith)
     (λ c. search needs)
     (body-returns t)
-    (λ c κs. search needs)
-    (λ c κs. search needs)
-    (λ c κs. omega arith)
     (λ c. search needs)
     (body-returns-2 t))
     (λ t. branch-lts.spec (branch-claims t)
@@ -745,25 +775,24 @@ pub +alt+body+branch+branches+choice+choices+declaration+inside+pairs+par+repeti
     (λ t. inside-lts.spec (inside-claims t)
     (inside-at t)
     inside.Post
+    (λ c κs. search needs)
+    (λ c. search needs)
+    (λ c κs. search needs)
+    (λ c. search needs)
     (λ c κs. omega arith)
     (λ c. search needs)
-    (inside-returns t)
-    (λ c κs. omega arith)
-    (λ c. search needs)
-    (inside-returns-2 t)
     (λ c κs. search needs)
     (λ c κs. omega arith)
     (λ c. search needs)
+    (λ c κs. omega arith)
+    (λ c. search needs)
+    (inside-returns t)
+    (λ c. search needs)
+    (inside-returns-2 t)
+    (λ c. search needs)
     (inside-returns-3 t)
-    (λ c κs. omega arith)
     (λ c. search needs)
-    (inside-returns-4 t)
-    (λ c κs. omega arith)
-    (λ c. search needs)
-    (inside-returns-5 t)
-    (λ c κs. omega arith)
-    (λ c. search needs)
-    (inside-returns-6 t))
+    (inside-returns-4 t))
     (λ t. pairs-lts.spec (pairs-claims t)
     (pairs-at t)
     pairs.Post
@@ -800,6 +829,27 @@ pub +alt+body+branch+branches+choice+choices+declaration+inside+pairs+par+repeti
     (λ c κs. search needs)
     (par-same-length t)
     (par-returns-2 t))
+    (λ t. parts-lts.spec (parts-claims t)
+    (parts-at t)
+    parts.Post
+    (λ c κs. search needs)
+    (λ c. search needs)
+    (λ c κs. omega arith)
+    (λ c. search needs)
+    (λ c. search needs)
+    (λ c κs. omega arith)
+    (λ c. search needs)
+    (λ c κs. omega arith)
+    (λ c. search needs)
+    (λ c κs. omega arith)
+    (λ c. search needs)
+    (parts-returns t)
+    (λ c. search needs)
+    (parts-returns-2 t)
+    (λ c. search needs)
+    (parts-returns-3 t)
+    (λ c. search needs)
+    (parts-returns-4 t))
     (λ t. repetition-lts.spec (repetition-claims t)
     (repetition-at t)
     repetition.Post
@@ -828,8 +878,6 @@ pub +alt+body+branch+branches+choice+choices+declaration+inside+pairs+par+repeti
     (λ c. search needs)
     (λ c κs. search needs)
     (λ c. search needs)
-    (statement-returns-2 t)
-    (λ c. search needs)
     (λ c κs. omega arith)
     (λ c. search needs)
-    (statement-returns-3 t)
+    (statement-returns-2 t)
