@@ -69,7 +69,8 @@ module _ (word : Site → ℕ) (workspace : ℕ → ℕ) (off : ℕ → ℕ) (s 
     abbrev waiting : (w : ℕ) → Expr → Site → List Instruction
     waiting w e c = guardCode word w e ++ plain ldlp (local word w c) ∷ operation rev ∷ []
 
-    waiting-fills : {i n m p : ℕ} {e : Expr} {c : Site} (w h : ℕ) (o : List ℕ) → KindAt s guardKind i InputGuard n → ExprAt s (sc .variables) d n e m
+    waiting-fills : {i n m p : ℕ} {e : Expr} {c : Site} (w h : ℕ) (o : List ℕ) → KindAt s guardKind i InputGuard n
+        → ExprAt s (sc .variables) d n e m
         → OneAt s (sc .channels) m c p → Begins d vs cs w i m h o true (waiting w e c)
     unfolding guardInto functionCode operationCode operationInto
     waiting-fills {e = e} {c = c} w h o k x ch r =
@@ -86,7 +87,8 @@ module _ (word : Site → ℕ) (workspace : ℕ → ℕ) (off : ℕ → ℕ) (s 
     skipping-fills : {i n m : ℕ} {e : Expr} (w h : ℕ) (o : List ℕ) → KindAt s guardKind i SkipGuard n → ExprAt s (sc .variables) d n e m
         → Begins d vs cs w i m h o false (guardCode word w e)
     unfolding guardInto
-    skipping-fills w h o k x r = rw (k .value, k .is, whole-code word off s altWords (omega arith) (scope .variables) planned w x h o r) refl
+    skipping-fills w h o k x r =
+        rw (k .value, k .is, whole-code word off s altWords (omega arith) (scope .variables) planned w x h o r) refl
 
     enable-waits : (w : ℕ) (e : Expr) (c x : Site) (y : Stmt) (gs : Guards)
         → codeEnable word w (guard (inputGuard e c x) y gs) ≡ waiting w e c ++ operation enbc ∷ [] ++ codeEnable word w gs

@@ -153,7 +153,8 @@ module _ (word : Site → ℕ) (off : ℕ → ℕ) (s : List ℕ) where
     expr-code (constantAt v k t) deep g few h o r =
         rw (k .value, k .is, t .value) (ap (written _) (plain-fills off ldc 0x40 v h o refl (rw plain-bytes at r)))
     expr-code (variableAt k x) deep g few h o r =
-        rw (k .value, k .is, x .there .value, local-is names w x) (ap (written _) (plain-fills off ldl 0x70 _ h o refl (rw plain-bytes at r)))
+        rw (k .value, k .is, x .there .value, local-is names w x)
+        (ap (written _) (plain-fills off ldl 0x70 _ h o refl (rw plain-bytes at r)))
     expr-code (notAt {e = e} k a) deep g few h o r =
         rw (k .value, k .is, expr-code a (omega arith) g few h o (room-left h _ _ r))
         (ap (written _) (then-plain off eqc 0xc0 0 h (exprCode word w g e) o refl r))

@@ -159,4 +159,5 @@ module _ (word : Site → ℕ) (workspace : ℕ → ℕ) (off : ℕ → ℕ) (s 
         → Placed word workspace off s plan w j h (IF ps) → Written word workspace off s plan (suc d) sc vs cs w j h i q (IF ps)
     unfolding stmtInto countIn code need
     if-code {ps = ps} j h t c a p o =
-        rw (t .value, t .is, c .there .value, c .fits) (if-parts j (j + sizePairs ps) h refl a (p .laid) (omega (arith, p .few)) (p .stands) (p .room) o)
+        rw (t .value, t .is, c .there .value, c .fits)
+        (if-parts j (j + sizePairs ps) h refl a (p .laid) (omega (arith, p .few)) (p .stands) (p .room) o)

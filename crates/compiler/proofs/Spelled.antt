@@ -184,7 +184,8 @@ module _ (s : List ℕ) (b : Bytes s) where
 
   pub count : (lo hi at : ℕ) → Gives s (CountAt s lo hi at) (readCount lo hi at (drop at s))
   count lo hi at =
-      given (count-same lo hi s at b) (λ a n y h. record { there = numeral b (h .there); least = h .least; most = h .most; fits = le-ltb hi a (h .most) })
+      given (count-same lo hi s at b)
+      (λ a n y h. record { there = numeral b (h .there); least = h .least; most = h .most; fits = le-ltb hi a (h .most) })
 
   word : (at : ℕ) → Gives s (NumeralAt s at) (readNumber at (drop at s))
   word at = given (word-same s at b) (λ a n y h. numeral b (h .there))

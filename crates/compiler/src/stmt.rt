@@ -86,7 +86,7 @@ fn body(
 }
 
 // VAR and CHAN: AJW -n, the words, body, AJW n.
-fn declaration(
+fn declare(
     table: &[u8],
     plan: &[u32; 32768],
     at: usize,
@@ -632,7 +632,7 @@ fn inside(
     let w = scope.w;
     match numbers::kinds::shape_of(kind) {
         Shape::Simple(x) => gen_simple(table, plan, at, x, depth, w, vars, chans, out, here),
-        Shape::Declares(x) => declaration(table, plan, at, x, depth, scope, vars, chans, out, here),
+        Shape::Declares(x) => declare(table, plan, at, x, depth, scope, vars, chans, out, here),
         Shape::Branches(m) => {
             let n = numbers::kinds::count_at(table, at, m);
             par(

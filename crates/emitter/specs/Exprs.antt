@@ -113,7 +113,8 @@ unfoldable pub exprInto : (depth w : ℕ) → (vs plan s : List ℕ) → (h at :
 exprInto zero w vs p s h at c = written at c
 exprInto (suc d) w vs p s h at c =
     let k = valueAt s at in
-    byExpr (exprKind (k .value)) (constantInto s (k .next) c) (variableInto w vs s (k .next) c) (notInto (exprInto d w vs p s h (k .next) c))
+    byExpr (exprKind (k .value)) (constantInto s (k .next) c) (variableInto w vs s (k .next) c)
+    (notInto (exprInto d w vs p s h (k .next) c))
     (operatedInto (λ g i e. exprInto d w vs p s g i e) p s h (k .next) c)
 
 -- two sides with expressions inside, which have `depth` left

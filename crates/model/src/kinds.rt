@@ -1,4 +1,5 @@
-// The kinds and operators of document 01's table ("The program table"). Their numbers stand in specs/Reader.antt, and for the code in crate `numbers`.
+// The kinds and operators of document 01's table ("The program table"). Their numbers stand in specs/Reader.antt, and for the code in
+// crate `numbers`.
 
 // Statements.
 pub enum StmtKind {

@@ -67,7 +67,8 @@ record GuardIs (sc : Scope) (place at : ℕ) (way : List ℕ → List ℕ) (g : 
 module _ (s : List ℕ) (d : ℕ) (w : Names) (sc : Scope) (place : ℕ) (b : Bytes s) (h : Scoped w sc place) (o : Numbers sc) where
   -- what follows a guard's number
   skip-head : (at v n : ℕ) → at < n → betweenAt 0 1 s at ≡ Found v n → guardKind v ≡ SkipGuard
-      → Same s (GuardIs sc place at (guardUses d w s at)) NoHead (withHead NoHead (wholeAt ForGuard d (w .variables) s n) (λ m a. Before m a))
+      → Same s (GuardIs sc place at (guardUses d w s at)) NoHead
+      (withHead NoHead (wholeAt ForGuard d (w .variables) s n) (λ m a. Before m a))
       (guardOf sc (readExpr d sc) SkipGuard n (drop n s))
   unfolding guardUses guardOf asked
   skip-head at v n t item kind =

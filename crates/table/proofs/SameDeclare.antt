@@ -97,7 +97,8 @@ within-new names1 place c k n x l e =
     (lookup-append names1 (names place c) k x e)
 
 -- what a declaration asks of the scope that it makes
-record Declares (s : List ℕ) (d : ℕ) (w : Names) (sc : Scope) (place : ℕ) (what : Declared) (more : ℕ → Scope) (of : ℕ → M.Stmt → M.Stmt) : Type 0 where
+record Declares (s : List ℕ) (d : ℕ) (w : Names) (sc : Scope) (place : ℕ) (what : Declared) (more : ℕ → Scope)
+    (of : ℕ → M.Stmt → M.Stmt) : Type 0 where
   scoped : (c m : ℕ) → place < m → Scoped (moreNames what c w) (more c) m
   fits : (c : ℕ) → c ≤ 32 → Fits (moreNames what c w) d
   clean : (c : ℕ) (l : List ℕ) → c ≤ 32 → Clean sc l → Clean (more c) l
@@ -107,7 +108,8 @@ record Declares (s : List ℕ) (d : ℕ) (w : Names) (sc : Scope) (place : ℕ) 
   counts : (c n : ℕ) (st : M.Stmt) → declaring c (Stmt (partOf st n)) ≡ Stmt (partOf (of c st) n)
   same-usage : (c : ℕ) (st : M.Stmt) → usage (of c st) ≡ usage st
 
-declare-same : (s : List ℕ) (d : ℕ) (w : Names) (sc : Scope) (place : ℕ) (what : Declared) (more : ℕ → Scope) (of : ℕ → M.Stmt → M.Stmt) (at : ℕ)
+declare-same : (s : List ℕ) (d : ℕ) (w : Names) (sc : Scope) (place : ℕ) (what : Declared) (more : ℕ → Scope)
+    (of : ℕ → M.Stmt → M.Stmt) (at : ℕ)
     → Bytes s
     → place < at → InnerIs s d → Declares s d w sc place what more of
     → Same s (RestIs sc place at (declaredWay what d w s at)) NoStmt

@@ -147,7 +147,8 @@ plus-assoc u v w =
     ) refl
 
 -- a condition and a statement behind it
-pub record ConditionIs (s : List ℕ) (role : Role) (d : ℕ) (w : Names) (sc : Scope) (place at : ℕ) (e : M.Expr) (st : M.Stmt) (n : ℕ) : Type 0 where
+pub record ConditionIs (s : List ℕ) (role : Role) (d : ℕ) (w : Names) (sc : Scope) (place at : ℕ) (e : M.Expr) (st : M.Stmt) (n : ℕ)
+    : Type 0 where
   pub ahead : at ≤ n
   pub middle : ℕ
   pub head : wholeAt role d (w .variables) s at ≡ Before middle (asked role (temporaries e))
@@ -208,7 +209,8 @@ choice-part : (s : List ℕ) (d : ℕ) (w : Names) (sc : Scope) (place : ℕ) (i
 unfolding partAt partUses headAt headUses readPair asked pairNeed pairProcesses firstClashPairs usagePairs
 choice-part s d w sc place inner b h o f i ee es at l =
     rw (ee, es) (
-    condition-same (λ a n x. PartIs choices sc place at (λ j. partUses Condition d w (innerUses d w s) s at j) (applied a) n x) s Value d w sc place at
+    condition-same (λ a n x. PartIs choices sc place at (λ j. partUses Condition d w (innerUses d w s) s at j) (applied a) n x) s Value d w
+    sc place at
     (λ e st. pair e st) b l h o f i
     (λ e st n k.
     record {

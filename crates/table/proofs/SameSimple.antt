@@ -149,7 +149,8 @@ idle-same sc s place at st none-used is =
     })
 
 -- an expression at the end of a statement without statements inside
-value-same : (role : Role) (least d : ℕ) (sc : Scope) (s : List ℕ) (at : ℕ) (of : M.Expr → M.Stmt) (R : M.Stmt → ℕ → StmtRead → Type 0) → Bytes s
+value-same : (role : Role) (least d : ℕ) (sc : Scope) (s : List ℕ) (at : ℕ) (of : M.Expr → M.Stmt) (R : M.Stmt → ℕ → StmtRead → Type 0)
+    → Bytes s
     → Numbers sc
     → ((e : M.Expr) (n : ℕ) (x : HeadRead) → WholeIs s role d sc at e n x → R (of e) n (leaf n (max least (asked role (temporaries e)))))
     → Same s R NoStmt (valueAt role least d (length (sc .variables)) s at) (onward (readExpr d sc at (drop at s)) (λ e. pure (of e)))

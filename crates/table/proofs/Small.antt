@@ -464,6 +464,7 @@ stmt-small (suc d) w s at =
 pub stmt-counts : {p : Part} (d : ℕ) (w : Names) (s : List ℕ) (at : ℕ) → stmtAt d w s at ≡ Stmt p → Small at (length s) (Stmt p)
 stmt-counts d w s at e = rw e at (stmt-small d w s at)
 
-pub part-counts : {p : Part} (h : Head) (d : ℕ) (w : Names) (s : List ℕ) (at : ℕ) → partIn h d w s at ≡ Stmt p → Small at (length s) (Stmt p)
+pub part-counts : {p : Part} (h : Head) (d : ℕ) (w : Names) (s : List ℕ) (at : ℕ) → partIn h d w s at ≡ Stmt p
+    → Small at (length s) (Stmt p)
 unfolding partIn
 part-counts h d w s at e = rw e at (part-in h d w (λ i. stmtAt d w s i) s at (λ i. stmt-small d w s i))

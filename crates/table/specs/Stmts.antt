@@ -143,7 +143,8 @@ mostFrom zero h d w inner s t = Total t
 mostFrom (suc i) h d w inner s t = withStmt NoSum (partAt h d w inner s (t .next)) (λ p. mostFrom i h d w inner s (added t p))
 
 -- so many parts from a place on
-unfoldable pub mostUse : (left : ℕ) → Head → (depth : ℕ) → Names → (ℕ → StmtRead) → (ℕ → List ℕ → List ℕ) → List ℕ → (at : ℕ) → List ℕ → List ℕ
+unfoldable pub mostUse : (left : ℕ) → Head → (depth : ℕ) → Names → (ℕ → StmtRead) → (ℕ → List ℕ → List ℕ) → List ℕ → (at : ℕ) → List ℕ
+    → List ℕ
 mostUse zero h d w inner uses s at l = l
 mostUse (suc i) h d w inner uses s at l =
     let half = partUses h d w uses s at l in

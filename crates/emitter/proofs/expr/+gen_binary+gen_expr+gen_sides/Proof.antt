@@ -58,7 +58,8 @@ module _ (d w : ℕ) (vs p s : List ℕ) (h i : ℕ) (c : Code) where
 -- what follows a kind, and `exprInto` unrolled once where there is depth left
 abbrev byKind : (d w : ℕ) → (vs plan s : List ℕ) → (h : ℕ) → Code → ExprKind → (at : ℕ) → Wrote
 byKind d w vs p s h c k at =
-    byExpr k (constantInto s at c) (variableInto w vs s at c) (notInto (exprInto (d - 1) w vs p s h at c)) (binaryInto (d - 1) w vs p s h at c)
+    byExpr k (constantInto s at c) (variableInto w vs s at c) (notInto (exprInto (d - 1) w vs p s h at c))
+    (binaryInto (d - 1) w vs p s h at c)
 
 turn : (d w : ℕ) (vs p s : List ℕ) (h i : ℕ) (c : Code) → (d ≡ 0 → ⊥)
     → exprInto d w vs p s h i c ≡ (let v = valueAt s i in byKind d w vs p s h c (exprKind (v .value)) (v .next))

@@ -1,5 +1,5 @@
--- `lines::numbers::to_bytes` meets its contract. The loop's invariant: the buffer is what the numbers passed make of it; the measure is the numbers
--- that are left. Assumes nothing.
+-- `lines::numbers::to_bytes` meets its contract. The loop's invariant: the buffer is what the numbers passed make of it; the measure is
+-- the numbers that are left. Assumes nothing.
 use Prim.Native.Nat.{ℕ, zero, suc, _≤_, _<_, _+_, _-_, _%_}
 use native.Mathlib.Numerals.{add-one}
 use native.Mathlib.Omega.{arith}

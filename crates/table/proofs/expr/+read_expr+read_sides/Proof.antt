@@ -158,9 +158,10 @@ read-expr-returns-2 : (t : ℕ) → read-expr-lts.Need-returns-2 (read-expr-clai
 read-expr-returns-2 t c =
     let k = c .before .before in
     let h = second (k .before .before) (k .enum-told .given .1) in
+    let if1 = k .before .before .before .before .before .before .before .if1 in
     let e = rw (c .before .read-between2 .ensures) at (c .no-expr2 .ensures) in (
       e ∙ sym (h .0),
-      (sym (h .1), rw e (item-within _ (betweenAt 0 4294967295 _ _) (k .before .before .before .before .before .before .before .if1 .left))),
+      (sym (h .1), rw e (item-within _ (betweenAt 0 4294967295 _ _) (if1 .left))),
     )
 
 read-expr-returns-3 : (t : ℕ) → read-expr-lts.Need-returns-3 (read-expr-claims t) (read-expr-at t) read-expr.Post
@@ -168,9 +169,10 @@ unfolding usedAt
 read-expr-returns-3 t c =
     let k = c .before .before in
     let h = second (k .before .before) (k .enum-told2 .given .1) in
+    let if1 = k .before .before .before .before .before .before .before .if1 in
     let r = c .read-used .ensures in (
       r .0 ∙ sym (h .0),
-      (r .1 ∙ sym (h .1), rw (r .0) (item-within _ (nameAt _ 0 0 _ _) (k .before .before .before .before .before .before .before .if1 .left))),
+      (r .1 ∙ sym (h .1), rw (r .0) (item-within _ (nameAt _ 0 0 _ _) (if1 .left))),
     )
 
 read-expr-read-expr-requires : (t : ℕ) → read-expr-lts.Need-read-expr-requires (read-expr-claims t) (read-expr-at t) read-expr.Post

@@ -482,7 +482,8 @@ read-inside-read-most-requires t c κs =
 read-inside-returns : (t : ℕ) → read-inside-lts.Need-returns (read-inside-claims t) (read-inside-at t) read-inside.Post
 read-inside-returns t c =
     let k = c .before .before .before in
-    let h = shaped (k .before .before) (k .simple .given .1) in (c .read-simple .ensures .0 ∙ sym (h .0), c .read-simple .ensures .1 ∙ sym (h .1))
+    let h = shaped (k .before .before) (k .simple .given .1) in
+    (c .read-simple .ensures .0 ∙ sym (h .0), c .read-simple .ensures .1 ∙ sym (h .1))
 
 read-inside-returns-2 : (t : ℕ) → read-inside-lts.Need-returns-2 (read-inside-claims t) (read-inside-at t) read-inside.Post
 read-inside-returns-2 t c =

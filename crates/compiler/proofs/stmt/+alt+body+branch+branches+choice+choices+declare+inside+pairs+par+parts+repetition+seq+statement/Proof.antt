@@ -8,46 +8,46 @@ use borrow.Fn.Kinds.{In}
 use borrow.Fn.PlainCycle.{Measures, is, falls, and}
 use Rattle.compiler.proofs.stmt.alt.Reads as alt
 use Rattle.compiler.proofs.stmt.alt.Kinds as alt-kinds
-use cycle.+alt+body+branch+branches+choice+choices+declaration+inside+pairs+par+parts+repetition+seq+statement.Lts-alt as alt-lts
+use cycle.+alt+body+branch+branches+choice+choices+declare+inside+pairs+par+parts+repetition+seq+statement.Lts-alt as alt-lts
 use Rattle.compiler.proofs.stmt.body.Reads as body
 use Rattle.compiler.proofs.stmt.body.Kinds as body-kinds
-use cycle.+alt+body+branch+branches+choice+choices+declaration+inside+pairs+par+parts+repetition+seq+statement.Lts-body as body-lts
+use cycle.+alt+body+branch+branches+choice+choices+declare+inside+pairs+par+parts+repetition+seq+statement.Lts-body as body-lts
 use Rattle.compiler.proofs.stmt.branch.Reads as branch
 use Rattle.compiler.proofs.stmt.branch.Kinds as branch-kinds
-use cycle.+alt+body+branch+branches+choice+choices+declaration+inside+pairs+par+parts+repetition+seq+statement.Lts-branch as branch-lts
+use cycle.+alt+body+branch+branches+choice+choices+declare+inside+pairs+par+parts+repetition+seq+statement.Lts-branch as branch-lts
 use Rattle.compiler.proofs.stmt.branches.Reads as branches
 use Rattle.compiler.proofs.stmt.branches.Kinds as branches-kinds
-use cycle.+alt+body+branch+branches+choice+choices+declaration+inside+pairs+par+parts+repetition+seq+statement.Lts-branches as branches-lts
+use cycle.+alt+body+branch+branches+choice+choices+declare+inside+pairs+par+parts+repetition+seq+statement.Lts-branches as branches-lts
 use Rattle.compiler.proofs.stmt.choice.Reads as choice
 use Rattle.compiler.proofs.stmt.choice.Kinds as choice-kinds
-use cycle.+alt+body+branch+branches+choice+choices+declaration+inside+pairs+par+parts+repetition+seq+statement.Lts-choice as choice-lts
+use cycle.+alt+body+branch+branches+choice+choices+declare+inside+pairs+par+parts+repetition+seq+statement.Lts-choice as choice-lts
 use Rattle.compiler.proofs.stmt.choices.Reads as choices
 use Rattle.compiler.proofs.stmt.choices.Kinds as choices-kinds
-use cycle.+alt+body+branch+branches+choice+choices+declaration+inside+pairs+par+parts+repetition+seq+statement.Lts-choices as choices-lts
-use Rattle.compiler.proofs.stmt.declaration.Reads as declaration
-use Rattle.compiler.proofs.stmt.declaration.Kinds as declaration-kinds
-use cycle.+alt+body+branch+branches+choice+choices+declaration+inside+pairs+par+parts+repetition+seq+statement.Lts-declaration as declaration-lts
+use cycle.+alt+body+branch+branches+choice+choices+declare+inside+pairs+par+parts+repetition+seq+statement.Lts-choices as choices-lts
+use Rattle.compiler.proofs.stmt.declare.Reads as declare
+use Rattle.compiler.proofs.stmt.declare.Kinds as declare-kinds
+use cycle.+alt+body+branch+branches+choice+choices+declare+inside+pairs+par+parts+repetition+seq+statement.Lts-declare as declare-lts
 use Rattle.compiler.proofs.stmt.inside.Reads as inside
 use Rattle.compiler.proofs.stmt.inside.Kinds as inside-kinds
-use cycle.+alt+body+branch+branches+choice+choices+declaration+inside+pairs+par+parts+repetition+seq+statement.Lts-inside as inside-lts
+use cycle.+alt+body+branch+branches+choice+choices+declare+inside+pairs+par+parts+repetition+seq+statement.Lts-inside as inside-lts
 use Rattle.compiler.proofs.stmt.pairs.Reads as pairs
 use Rattle.compiler.proofs.stmt.pairs.Kinds as pairs-kinds
-use cycle.+alt+body+branch+branches+choice+choices+declaration+inside+pairs+par+parts+repetition+seq+statement.Lts-pairs as pairs-lts
+use cycle.+alt+body+branch+branches+choice+choices+declare+inside+pairs+par+parts+repetition+seq+statement.Lts-pairs as pairs-lts
 use Rattle.compiler.proofs.stmt.par.Reads as par
 use Rattle.compiler.proofs.stmt.par.Kinds as par-kinds
-use cycle.+alt+body+branch+branches+choice+choices+declaration+inside+pairs+par+parts+repetition+seq+statement.Lts-par as par-lts
+use cycle.+alt+body+branch+branches+choice+choices+declare+inside+pairs+par+parts+repetition+seq+statement.Lts-par as par-lts
 use Rattle.compiler.proofs.stmt.parts.Reads as parts
 use Rattle.compiler.proofs.stmt.parts.Kinds as parts-kinds
-use cycle.+alt+body+branch+branches+choice+choices+declaration+inside+pairs+par+parts+repetition+seq+statement.Lts-parts as parts-lts
+use cycle.+alt+body+branch+branches+choice+choices+declare+inside+pairs+par+parts+repetition+seq+statement.Lts-parts as parts-lts
 use Rattle.compiler.proofs.stmt.repetition.Reads as repetition
 use Rattle.compiler.proofs.stmt.repetition.Kinds as repetition-kinds
-use cycle.+alt+body+branch+branches+choice+choices+declaration+inside+pairs+par+parts+repetition+seq+statement.Lts-repetition as repetition-lts
+use cycle.+alt+body+branch+branches+choice+choices+declare+inside+pairs+par+parts+repetition+seq+statement.Lts-repetition as repetition-lts
 use Rattle.compiler.proofs.stmt.seq.Reads as seq
 use Rattle.compiler.proofs.stmt.seq.Kinds as seq-kinds
-use cycle.+alt+body+branch+branches+choice+choices+declaration+inside+pairs+par+parts+repetition+seq+statement.Lts-seq as seq-lts
+use cycle.+alt+body+branch+branches+choice+choices+declare+inside+pairs+par+parts+repetition+seq+statement.Lts-seq as seq-lts
 use Rattle.compiler.proofs.stmt.statement.Reads as statement′
 use Rattle.compiler.proofs.stmt.statement.Kinds as statement-kinds
-use cycle.+alt+body+branch+branches+choice+choices+declaration+inside+pairs+par+parts+repetition+seq+statement.Lts-statement as statement-lts
+use cycle.+alt+body+branch+branches+choice+choices+declare+inside+pairs+par+parts+repetition+seq+statement.Lts-statement as statement-lts
 use Rattle.compiler.proofs.alt.gen_enable.Reads as gen-enable-reads
 use Rattle.compiler.proofs.alt.gen_guard.Reads as gen-guard-reads
 use Rattle.compiler.proofs.alt.put_disable.Reads as put-disable-reads
@@ -70,8 +70,8 @@ use Rattle.numbers.proofs.kinds.count_at.Reads as count-at-reads
 use Rattle.numbers.proofs.kinds.shape_of.Reads as shape-of-reads
 use Rattle.numbers.proofs.kinds.stmt_kind.Reads as stmt-kind-reads
 use Rattle.numbers.proofs.value_at.Reads as value-at-reads
-use cycle.+alt+body+branch+branches+choice+choices+declaration+inside+pairs+par+parts+repetition+seq+statement.{statement}
-use cycle.+alt+body+branch+branches+choice+choices+declaration+inside+pairs+par+parts+repetition+seq+statement.Tie.{close}
+use cycle.+alt+body+branch+branches+choice+choices+declare+inside+pairs+par+parts+repetition+seq+statement.{statement}
+use cycle.+alt+body+branch+branches+choice+choices+declare+inside+pairs+par+parts+repetition+seq+statement.Tie.{close}
 use mathlib.Core.Path.{_≡_, sym, _∙_}
 use borrow.Author.Needs.{needs}
 use native.Mathlib.Omega.{arith}
@@ -103,8 +103,8 @@ abbrev μ-choice : Measures 5 choice-kinds.ps ℕ
 abbrev μ-choices : Measures 5 choices-kinds.ps ℕ
 μ-choices κs a = 8589934592 * a .1 .1 .1 .1 .0 + 2 + a .1 .1 .1 .0
 
-abbrev μ-declaration : Measures 5 declaration-kinds.ps ℕ
-μ-declaration κs a = 8589934592 * a .1 .1 .1 .1 .0 + 8589934590
+abbrev μ-declare : Measures 5 declare-kinds.ps ℕ
+μ-declare κs a = 8589934592 * a .1 .1 .1 .1 .0 + 8589934590
 
 abbrev μ-inside : Measures 5 inside-kinds.ps ℕ
 μ-inside κs a = 8589934592 * a .1 .1 .1 .1 .0 + 8589934591
@@ -164,13 +164,13 @@ choices-at t = and 5 choices-kinds.ps (is 5 choices-kinds.ps μ-choices t) choic
 abbrev choices-below : ℕ → In 5 choices-kinds.ps
 choices-below t = and 5 choices-kinds.ps (falls 5 choices-kinds.ps _<_ μ-choices t) choices.Pre
 
-abbrev declaration-at : ℕ → In 5 declaration-kinds.ps
-declaration-at t =
-    and 5 declaration-kinds.ps (is 5 declaration-kinds.ps μ-declaration t) declaration.Pre
+abbrev declare-at : ℕ → In 5 declare-kinds.ps
+declare-at t =
+    and 5 declare-kinds.ps (is 5 declare-kinds.ps μ-declare t) declare.Pre
 
-abbrev declaration-below : ℕ → In 5 declaration-kinds.ps
-declaration-below t =
-    and 5 declaration-kinds.ps (falls 5 declaration-kinds.ps _<_ μ-declaration t) declaration.Pre
+abbrev declare-below : ℕ → In 5 declare-kinds.ps
+declare-below t =
+    and 5 declare-kinds.ps (falls 5 declare-kinds.ps _<_ μ-declare t) declare.Pre
 
 abbrev inside-at : ℕ → In 5 inside-kinds.ps
 inside-at t = and 5 inside-kinds.ps (is 5 inside-kinds.ps μ-inside t) inside.Pre
@@ -301,8 +301,8 @@ choices-claims t = (
   distance-reads.Learnt,
 )
 
-abbrev declaration-claims : ℕ → declaration-lts.Claims
-declaration-claims t = (
+abbrev declare-claims : ℕ → declare-lts.Claims
+declare-claims t = (
   value-at-reads.Asked,
   value-at-reads.Learnt,
   minus-reads.Asked,
@@ -321,8 +321,8 @@ inside-claims t = (
   shape-of-reads.Learnt,
   gen-simple-reads.Asked,
   gen-simple-reads.Learnt,
-  declaration-below t,
-  declaration.Post,
+  declare-below t,
+  declare.Post,
   count-at-reads.Asked,
   count-at-reads.Learnt,
   par-below t,
@@ -516,8 +516,8 @@ choices-returns-2 t c =
     choices-more _ _ _ _ _ _ _ _ _ _ _ (i .if1 .left) (w .below .ensures) (g .gen-guard .ensures) (f .put-disable .ensures)
     (b .choice .ensures) (n .plus .ensures) (r .choices .ensures) (j .distance .ensures)
 
-declaration-returns : (t : ℕ) → declaration-lts.Need-returns (declaration-claims t) (declaration-at t) declaration.Post
-declaration-returns t c =
+declare-returns : (t : ℕ) → declare-lts.Need-returns (declare-claims t) (declare-at t) declare.Post
+declare-returns t c =
     let e = c .before .before in
     let b = e .before .before .before .before in
     let s = b .before .before .before .before in
@@ -547,7 +547,7 @@ inside-returns t c =
 inside-returns-2 : (t : ℕ) → inside-lts.Need-returns-2 (inside-claims t) (inside-at t) inside.Post
 inside-returns-2 t c =
     let r = c .before .before in
-    let k = r .before .before .before in r .declaration .ensures ∙ sym (shaped (k .before .before) (k .x2 .given .1))
+    let k = r .before .before .before in r .declare .ensures ∙ sym (shaped (k .before .before) (k .x2 .given .1))
 
 inside-returns-3 : (t : ℕ) → inside-lts.Need-returns-3 (inside-claims t) (inside-at t) inside.Post
 inside-returns-3 t c =
@@ -681,9 +681,9 @@ statement-returns-2 t c =
     let v = k .before .before in
     stmt-inside _ _ _ _ _ _ _ _ (v .before .if1 .left) (v .value-at .ensures) (k .stmt-kind .ensures) (r .inside .ensures)
 
-pub +alt+body+branch+branches+choice+choices+declaration+inside+pairs+par+parts+repetition+seq+statement-spec : {M : Type 1} → statement M
-+alt+body+branch+branches+choice+choices+declaration+inside+pairs+par+parts+repetition+seq+statement-spec =
-    close μ-alt μ-body μ-branch μ-branches μ-choice μ-choices μ-declaration μ-inside
+pub +alt+body+branch+branches+choice+choices+declare+inside+pairs+par+parts+repetition+seq+statement-spec : {M : Type 1} → statement M
++alt+body+branch+branches+choice+choices+declare+inside+pairs+par+parts+repetition+seq+statement-spec =
+    close μ-alt μ-body μ-branch μ-branches μ-choice μ-choices μ-declare μ-inside
     μ-pairs μ-par μ-parts μ-repetition μ-seq μ-statement
     (λ t. alt-lts.spec (alt-claims t)
     (alt-at t)
@@ -761,9 +761,9 @@ pub +alt+body+branch+branches+choice+choices+declaration+inside+pairs+par+parts+
     (λ c κs. search needs)
     (λ c. search needs)
     (choices-returns-2 t))
-    (λ t. declaration-lts.spec (declaration-claims t)
-    (declaration-at t)
-    declaration.Post
+    (λ t. declare-lts.spec (declare-claims t)
+    (declare-at t)
+    declare.Post
     (λ c κs. search needs)
     (λ c κs. search needs)
     (λ c κs. search needs)
@@ -771,7 +771,7 @@ pub +alt+body+branch+branches+choice+choices+declaration+inside+pairs+par+parts+
     (λ c κs. omega arith)
     (λ c κs. search needs)
     (λ c. search needs)
-    (declaration-returns t))
+    (declare-returns t))
     (λ t. inside-lts.spec (inside-claims t)
     (inside-at t)
     inside.Post
