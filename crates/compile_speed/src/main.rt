@@ -1,11 +1,13 @@
 // Compiles the table of standard input a hundred times, for measuring, and writes the code's length, or a refusal's number and what it
 // returns. speed/tables.py makes tables for it.
+
 // Compiles the table into a buffer of the largest size.
 fn compile_once(table: &[u8]) -> model::Compiled {
     let mut out = [0; model::limits::CODE];
     compiler::compile_into(table, &mut out)
 }
 
+// Compiles the table ten times.
 fn compile_ten(table: &[u8]) -> model::Compiled {
     compile_once(table);
     compile_once(table);
@@ -19,6 +21,7 @@ fn compile_ten(table: &[u8]) -> model::Compiled {
     compile_once(table)
 }
 
+// Compiles the table a hundred times.
 fn compile_hundred(table: &[u8]) -> model::Compiled {
     compile_ten(table);
     compile_ten(table);

@@ -1,5 +1,7 @@
 // Reads the table of standard input a hundred times, for measuring, and writes the memory words that it needs, or a refusal's number and
 // place. speed/tables.py makes tables for it.
+
+// Reads the table ten times.
 fn read_ten(table: &[u8]) -> model::Reading {
     table::read(table);
     table::read(table);
@@ -13,6 +15,7 @@ fn read_ten(table: &[u8]) -> model::Reading {
     table::read(table)
 }
 
+// Reads the table a hundred times.
 fn read_hundred(table: &[u8]) -> model::Reading {
     read_ten(table);
     read_ten(table);
