@@ -7,6 +7,7 @@ use mathlib.Core.Bool.{Bool, true, false, cond}
 use mathlib.Core.List.{List, [], _∷_, _++_, append-assoc}
 use lib.ListN.{length, length-append}
 use lib.Seq.{sets}
+use Rattle.model.specs.Limits.{wordLimit}
 use Rattle.model.specs.Word.{low, less, minus}
 use Rattle.model.specs.Syntax.{Site, Expr, Stmt, ALT, inputGuard, skipGuard, Guards, noGuard, guard}
 use Rattle.model.specs.Reader as M
@@ -156,7 +157,7 @@ module _ (word : Site → ℕ) (workspace : ℕ → ℕ) (off : ℕ → ℕ) (s 
               (rw (placed, left, c-is, ap (λ c. c .out) (fill-then off h (G ++ N) E o)));
         }
 
-    enable-fills : {k i n : ℕ} {gs : Guards} (w choice b before h : ℕ) (o : List ℕ) → GuardsAt s d sc k i gs n → guardNeed gs ≤ 4096
+    enable-fills : {k i n : ℕ} {gs : Guards} (w choice b before h : ℕ) (o : List ℕ) → GuardsAt s d sc k i gs n → guardNeed gs ≤ wordLimit
         → Room h (codeEnable word w gs) → before + bytesIn (codeDisable word w choice b gs) < 2 ^ 32
         → Enables w k i n before h o (codeEnable word w gs) (codeDisable word w choice b gs)
     unfolding behindGuard guardNeed operationCode
@@ -194,7 +195,7 @@ module _ (word : Site → ℕ) (workspace : ℕ → ℕ) (off : ℕ → ℕ) (s 
       )
       (ap (λ c. c .out) (fill-then off a xs xs2 (sets o h (encode off (ys ++ J ∷ ys2)))))
 
-  module _ {d : ℕ} {sc : M.Scope} {vs cs : List ℕ} (w : ℕ) (fits : w ≤ 4096) (scope : Scoped word (suc d) sc vs cs)
+  module _ {d : ℕ} {sc : M.Scope} {vs cs : List ℕ} (w : ℕ) (fits : w ≤ wordLimit) (scope : Scoped word (suc d) sc vs cs)
       (inner : Compiles word workspace off s plan d) where
     -- the disabling of k guards is D, in an area of its own, and their branches are B
     record Chooses (k i n base dis h : ℕ) (o : List ℕ) (D B : List Instruction) : Type 0 where
@@ -211,7 +212,7 @@ module _ (word : Site → ℕ) (workspace : ℕ → ℕ) (off : ℕ → ℕ) (s 
         (G F : List Instruction) {D R C A : List Instruction} → C ≡ G ++ disabling op b choice ++ D
         → A ≡ F ++ code word w j y ++ distance I.j over (j + size y) ∷ R → bytesIn (disabling op b choice) ≡ 6
         → cond waits 47 48 ≡ operationCode op → off (suc choice) ≡ base → b + length F ≡ j → j + size y + 1 + length R ≡ over
-        → Laid workspace w y → need y ≤ 4096 → Stands off b h A → Room h A → dis + bytesIn C ≤ h
+        → Laid workspace w y → need y ≤ wordLimit → Stands off b h A → Room h A → dis + bytesIn C ≤ h
         → Begins d vs cs (w - 1) i m dis o waits G
         → ((o : List ℕ) → choiceInto (guardOf m (dis + bytesIn G) waits) (innerAt d plan s) (scopeOf w sc) vs cs s (at h o)
         ≡ stmtInto d (scopeOf w sc) vs cs plan s z (emits off F (at h o))) → StmtAt s d sc z y q
@@ -264,7 +265,7 @@ module _ (word : Site → ℕ) (workspace : ℕ → ℕ) (off : ℕ → ℕ) (s 
         }
 
     choices-fill : {k i n : ℕ} {gs : Guards} (choice b over base dis h : ℕ) (o : List ℕ) → GuardsAt s d sc k i gs n
-        → LaidGuards workspace w gs → guardNeed gs ≤ 4096 → over ≡ b + sizeBranches gs → off (suc choice) ≡ base
+        → LaidGuards workspace w gs → guardNeed gs ≤ wordLimit → over ≡ b + sizeBranches gs → off (suc choice) ≡ base
         → Stands off b h (codeBranches word w b over gs) → Room h (codeBranches word w b over gs)
         → dis + bytesIn (codeDisable word (w - 1) choice b gs) ≤ h
         → Chooses k i n base dis h o (codeDisable word (w - 1) choice b gs) (codeBranches word w b over gs)

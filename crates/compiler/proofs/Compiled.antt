@@ -7,6 +7,7 @@ use mathlib.Core.List.{List}
 use lib.ListN.{length, take}
 use lib.Seq.{sets, sets-eq, take-at}
 use borrow.Author.Tests.{le-leb, lt-leb}
+use Rattle.model.specs.Limits.{wordLimit, codeLimit}
 use Rattle.model.specs.Syntax.{Program}
 use Rattle.model.specs.Reader.{Read, program, refused as unread}
 use Rattle.model.specs.Accept.{accept, memoryWords, answerOf}
@@ -45,53 +46,55 @@ module _ (s : List ℕ) (room : ℕ) where
     words-is : f .words ≡ memoryWords p
     words-is = ap (λ (x : Facts). x .words) facts
 
-    written-is : f .words ≤ 4096 → (o : List ℕ) → tableInto (planOf s) s f o ≡ at (length (codeOf p)) (sets o 0 (codeOf p))
+    written-is : f .words ≤ wordLimit → (o : List ℕ) → tableInto (planOf s) s f o ≡ at (length (codeOf p)) (sets o 0 (codeOf p))
     written-is l o = rw facts (table-code s p b is (rw words-is at l) o)
 
-    size-is : f .words ≤ 4096 → sizeOf (planOf s) s f ≡ length (codeOf p)
+    size-is : f .words ≤ wordLimit → sizeOf (planOf s) s f ≡ length (codeOf p)
     unfolding sizeOf
     size-is l = ap (λ c. c .here) (written-is l _)
 
     -- over 4,096 words, or over 16,384 bytes: 10
-    pub words-refused : 4096 < f .words → compile s room ≡ refused 10 0
+    pub words-refused : wordLimit < f .words → compile s room ≡ refused 10 0
     unfolding fitting
-    words-refused l = as-fitting ∙ rw (lt-leb (memoryWords p) 4096 (rw words-is at l))
+    words-refused l = as-fitting ∙ rw (lt-leb (memoryWords p) wordLimit (rw words-is at l))
 
-    pub bytes-refused : f .words ≤ 4096 → 16384 < sizeOf (planOf s) s f → compile s room ≡ refused 10 0
+    pub bytes-refused : f .words ≤ wordLimit → codeLimit < sizeOf (planOf s) s f → compile s room ≡ refused 10 0
     unfolding fitting
     bytes-refused h l =
         as-fitting
-        ∙ rw (le-leb (memoryWords p) 4096 (rw words-is at h), lt-leb (length (codeOf p)) 16384 (rw (size-is h) at l))
+        ∙ rw (le-leb (memoryWords p) wordLimit (rw words-is at h), lt-leb (length (codeOf p)) codeLimit (rw (size-is h) at l))
 
     -- the buffer too short: 11 with the size
-    pub room-refused : f .words ≤ 4096 → sizeOf (planOf s) s f ≤ 16384 → room < sizeOf (planOf s) s f
+    pub room-refused : f .words ≤ wordLimit → sizeOf (planOf s) s f ≤ codeLimit → room < sizeOf (planOf s) s f
         → compile s room ≡ refused 11 (sizeOf (planOf s) s f)
     unfolding fitting
     room-refused h l m =
         as-fitting
         ∙ rw (
-          le-leb (memoryWords p) 4096 (rw words-is at h),
-          le-leb (length (codeOf p)) 16384 (rw (size-is h) at l),
+          le-leb (memoryWords p) wordLimit (rw words-is at h),
+          le-leb (length (codeOf p)) codeLimit (rw (size-is h) at l),
           lt-leb (length (codeOf p)) room (rw (size-is h) at m),
           size-is h,
         )
 
-    as-compiled : f .words ≤ 4096 → sizeOf (planOf s) s f ≤ 16384 → sizeOf (planOf s) s f ≤ room → compile s room ≡ compiled p (codeOf p)
+    as-compiled : f .words ≤ wordLimit → sizeOf (planOf s) s f ≤ codeLimit → sizeOf (planOf s) s f ≤ room
+        → compile s room ≡ compiled p (codeOf p)
     unfolding fitting
     as-compiled h l m =
         as-fitting
         ∙ rw (
-          le-leb (memoryWords p) 4096 (rw words-is at h),
-          le-leb (length (codeOf p)) 16384 (rw (size-is h) at l),
+          le-leb (memoryWords p) wordLimit (rw words-is at h),
+          le-leb (length (codeOf p)) codeLimit (rw (size-is h) at l),
           le-leb (length (codeOf p)) room (rw (size-is h) at m),
         )
 
     -- the code in front, and the rest as it was
-    pub code-answered : f .words ≤ 4096 → sizeOf (planOf s) s f ≤ 16384 → sizeOf (planOf s) s f ≤ room
+    pub code-answered : f .words ≤ wordLimit → sizeOf (planOf s) s f ≤ codeLimit → sizeOf (planOf s) s f ≤ room
         → compiledAnswer (compile s room) ≡ CodeOf (sizeOf (planOf s) s f)
     code-answered h l m = rw (as-compiled h l m, size-is h)
 
-    pub code-written : f .words ≤ 4096 → sizeOf (planOf s) s f ≤ 16384 → sizeOf (planOf s) s f ≤ room → (o : List ℕ) → length o ≡ room
+    pub code-written : f .words ≤ wordLimit → sizeOf (planOf s) s f ≤ codeLimit → sizeOf (planOf s) s f ≤ room
+        → (o : List ℕ) → length o ≡ room
         → tableInto (planOf s) s f o .out ≡ bufferAfter (compile s room) o
     code-written h l m o long =
         let c = codeOf p in

@@ -4,6 +4,7 @@ use native.Mathlib.Omega.{arith}
 use mathlib.Core.Path.{_≡_, sym, ap}
 use mathlib.Core.List.{List, [], _∷_}
 use lib.ListN.{length}
+use Rattle.model.specs.Limits.{wordLimit}
 use Rattle.model.specs.Word.{minus}
 use Rattle.model.specs.Syntax.{Site, Expr, Stmt, SKIP, STOP, assign, input, output}
 use Rattle.model.specs.Reader as M
@@ -55,8 +56,8 @@ module _ (word : Site → ℕ) (workspace : ℕ → ℕ) (off : ℕ → ℕ) (s 
   -- a statement laid out at w, whose code stands at index j and place h
   pub record Placed (w j h : ℕ) (b : Stmt) : Type 0 where
     pub laid : Laid workspace w b
-    pub low : w ≤ 4096
-    pub few : need b ≤ 4096
+    pub low : w ≤ wordLimit
+    pub few : need b ≤ wordLimit
     pub stands : Stands off j h (code word w j b)
     pub room : Room h (code word w j b)
 

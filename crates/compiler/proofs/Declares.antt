@@ -9,6 +9,7 @@ use mathlib.Core.List.{List, [], _∷_, _++_, append-assoc}
 use mathlib.Core.Option.{some}
 use lib.ListN.{length, length-append, length-set, getD, set, getElem?}
 use lib.Seq.{sets, getD-set-same, getD-set-other}
+use Rattle.model.specs.Limits.{wordLimit}
 use Rattle.model.specs.Word.{low, minus}
 use Rattle.model.specs.Syntax.{Site, declared, Stmt, VAR, CHAN}
 use Rattle.model.specs.Reader as M
@@ -154,8 +155,8 @@ module _ (word : Site → ℕ) (workspace : ℕ → ℕ) (off : ℕ → ℕ) (s 
 
   module _ {d : ℕ} {sc : M.Scope} {vs cs : List ℕ} (w j h : ℕ) (inner : Compiles word workspace off s plan d) where
     declaration-code : (what : Declared) (first : Instruction) → ((c : Code) → firstInto what c ≡ emits off (first ∷ []) c)
-        → {m q : ℕ} {b : Stmt} (n : ℕ) → n ≤ 32 → StmtAt s d sc m b q → Scoped word d sc vs cs → Laid workspace (w - n) b → w ≤ 4096
-        → n + need b ≤ 4096 → let X = declaration first n (code word (w - n) (j + 1 + (n + n)) b) in
+        → {m q : ℕ} {b : Stmt} (n : ℕ) → n ≤ 32 → StmtAt s d sc m b q → Scoped word d sc vs cs → Laid workspace (w - n) b → w ≤ wordLimit
+        → n + need b ≤ wordLimit → let X = declaration first n (code word (w - n) (j + 1 + (n + n)) b) in
         Stands off j h X → Room h X → (o : List ℕ)
         → let r = stmtInto d (scopeOf (w - n) sc) vs cs plan s m (initialInto n what 0 (plainInto 0xb0 (minus n) (at h o))) in
         written (r .next) (plainInto 0xb0 n (codeOf r)) ≡ written q (filled off h X o)

@@ -10,6 +10,7 @@ use lib.ListN.{length, getD, getElem?}
 use lib.Seq.{sets}
 use lib.Dec.{ltb, eqb}
 use borrow.Author.Tests.{lt-ltb, ne-eqb}
+use Rattle.model.specs.Limits.{wordLimit}
 use Rattle.model.specs.Word.{low, minus}
 use Rattle.model.specs.Syntax.{Site, Expr}
 use Rattle.model.specs.declared.kinds.Operator.{Operator}
@@ -57,8 +58,8 @@ module _ (off : ℕ → ℕ) where
 
   -- two sides in each order. Left stands at a place, right behind it; g values are held before
   sides-fill : (inner : (held at : ℕ) → Code → Wrote) (ord : Order) (i p q g tl tr : ℕ) (left : ℕ → List Instruction)
-      (right : List Instruction) → g + sidesHold ord tl tr ≤ 4096
-      → ((k : ℕ) → k + tl ≤ 4096 → Writes (inner k i) p (left k)) → (g + tr ≤ 4096 → Writes (inner g p) q right)
+      (right : List Instruction) → g + sidesHold ord tl tr ≤ wordLimit
+      → ((k : ℕ) → k + tl ≤ wordLimit → Writes (inner k i) p (left k)) → (g + tr ≤ wordLimit → Writes (inner g p) q right)
       → (h : ℕ) (o : List ℕ) → Room h (sidesCode ord g left right)
       → let k = numberOf ord in
       let one = inner g (cond (eqb k 0) i p) (at h o) in
@@ -147,7 +148,7 @@ module _ (word : Site → ℕ) (off : ℕ → ℕ) (s : List ℕ) where
       rw (lt-ltb (a .index) 1024 (names .inside (a .index) _ (a .listed)), names .word-is (a .index) _ (a .listed))
 
   module _ {k : ℕ} {vs : List Site} {ws plan : List ℕ} (names : Named word k vs ws) (planned : Plans s plan) (w : ℕ) where
-    expr-code : {d i n : ℕ} {e : Expr} → ExprAt s vs d i e n → d ≤ 32 → (g : ℕ) → g + temporaries e ≤ 4096
+    expr-code : {d i n : ℕ} {e : Expr} → ExprAt s vs d i e n → d ≤ 32 → (g : ℕ) → g + temporaries e ≤ wordLimit
         → Writes off (λ c. exprInto d w ws plan s g i c) n (exprCode word w g e)
     unfolding exprInto exprCode constantInto variableInto functionCode temporaries
     expr-code (constantAt v k t) deep g few h o r =
@@ -180,7 +181,7 @@ module _ (word : Site → ℕ) (off : ℕ → ℕ) (s : List ℕ) where
         (ap (written _) (fill-then off h S (operatorCode op) o))
 
   -- a whole expression, with so many words more below W
-  pub whole-code : {d i n : ℕ} {vs : List Site} {ws plan : List ℕ} {e : Expr} (more : ℕ) → more ≤ 4096 → Named word (suc d) vs ws
+  pub whole-code : {d i n : ℕ} {vs : List Site} {ws plan : List ℕ} {e : Expr} (more : ℕ) → more ≤ wordLimit → Named word (suc d) vs ws
       → Plans s plan → (w : ℕ) → ExprAt s vs d i e n → (h : ℕ) (o : List ℕ)
       → let X = wrapped (temporaries e) more w (λ v. exprCode word v 0 e) in
       Room h X → wholeInto d w more ws plan s i (at h o) ≡ written n (filled off h X o)

@@ -6,6 +6,7 @@ use native.Mathlib.Nat.{mod-eq-of-lt}
 use mathlib.Core.Path.{_≡_, refl, ap, _∙_}
 use mathlib.Core.Bool.{Bool, true, false}
 use mathlib.Core.List.{List}
+use Rattle.model.specs.Limits.{wordLimit}
 use Rattle.model.specs.Word.{low}
 use Rattle.model.specs.Syntax.{Site, Expr, Stmt, Stmts, Pairs, Guard, condition, Guards}
 use Rattle.model.specs.Reader.{Scope}
@@ -23,14 +24,14 @@ use Rattle.compiler.proofs.Planned.{next-is, expr-ends, PlansFrom}
 
 module _ (s plan : List ℕ) where
   -- k names around a body
-  names-turn : (k i n x : ℕ) → extentIn plan i ≡ extended n x → k + x ≤ 4096
+  names-turn : (k i n x : ℕ) → extentIn plan i ≡ extended n x → k + x ≤ wordLimit
       → (let e = extentIn plan i in extended (e .next) (low (k + e .need))) ≡ extended n (k + x)
   names-turn k i n x e l =
       let sum : low (k + x) ≡ k + x = mod-eq-of-lt (omega arith) in
       rw (e, sum)
 
   -- one part in front of others: PAR has the sum of branches
-  sum-turn : (k i n z m x y : ℕ) → extentIn plan i ≡ extended n x → m + (x + y) ≤ 4096
+  sum-turn : (k i n z m x y : ℕ) → extentIn plan i ≡ extended n x → m + (x + y) ≤ wordLimit
       → partsExtent k Nothing true plan s n (m + x) ≡ extended z (m + x + y)
       → partsExtent (suc k) Nothing true plan s i m ≡ extended z (m + (x + y))
   unfolding partsExtent headExtent
@@ -73,7 +74,7 @@ module _ (s plan : List ℕ) {lo : ℕ} (planned : PlansFrom s lo plan) where
       (rw (k .value, k .is, t .next, t .holds), omega (arith, k .ahead, expr-ends s a .0))
 
   -- the parts of a statement, behind some that need m words
-  seq-is : {w : Scope} {d k i n : ℕ} {ss : Stmts} (m : ℕ) → StmtsAt s d w k i ss n → d ≤ 32 → mostNeed ss ≤ 4096 → lo ≤ i
+  seq-is : {w : Scope} {d k i n : ℕ} {ss : Stmts} (m : ℕ) → StmtsAt s d w k i ss n → d ≤ 32 → mostNeed ss ≤ wordLimit → lo ≤ i
       → partsExtent k Nothing false plan s i m ≡ extended n (max m (mostNeed ss))
   unfolding mostNeed
   seq-is {i = i} m noStmtAt deep l later = parts-over s plan Nothing false i m
@@ -82,7 +83,7 @@ module _ (s plan : List ℕ) {lo : ℕ} (planned : PlansFrom s lo plan) where
       (planned .measures a deep (omega arith) later) (λ m. seq-is m c deep (omega arith) (omega (arith, stmt-bound s a)))
       ∙ ap (extended z) (omega arith)
 
-  par-is : {w : Scope} {d k i n : ℕ} {ss : Stmts} (m : ℕ) → StmtsAt s d w k i ss n → d ≤ 32 → m + sumNeed ss ≤ 4096 → lo ≤ i
+  par-is : {w : Scope} {d k i n : ℕ} {ss : Stmts} (m : ℕ) → StmtsAt s d w k i ss n → d ≤ 32 → m + sumNeed ss ≤ wordLimit → lo ≤ i
       → partsExtent k Nothing true plan s i m ≡ extended n (m + sumNeed ss)
   unfolding sumNeed
   par-is {i = i} m noStmtAt deep l later = parts-over s plan Nothing true i m ∙ ap (extended i) (omega arith)
@@ -90,7 +91,7 @@ module _ (s plan : List ℕ) {lo : ℕ} (planned : PlansFrom s lo plan) where
       sum-turn s plan k i n z m (need b) (sumNeed ss) (planned .measures a deep (omega arith) later) l
       (par-is (m + need b) c deep (omega arith) (omega (arith, stmt-bound s a)))
 
-  pairs-is : {w : Scope} {d k i n : ℕ} {ps : Pairs} (m : ℕ) → PairsAt s d w k i ps n → d ≤ 32 → pairNeed ps ≤ 4096 → lo ≤ i
+  pairs-is : {w : Scope} {d k i n : ℕ} {ps : Pairs} (m : ℕ) → PairsAt s d w k i ps n → d ≤ 32 → pairNeed ps ≤ wordLimit → lo ≤ i
       → partsExtent k Condition false plan s i m ≡ extended n (max m (pairNeed ps))
   unfolding pairNeed
   pairs-is {i = i} m noPairAt deep l later = parts-over s plan Condition false i m
@@ -100,7 +101,7 @@ module _ (s plan : List ℕ) {lo : ℕ} (planned : PlansFrom s lo plan) where
       (condition-head c deep later) (planned .measures a deep (omega arith) (omega arith))
       (λ m. pairs-is m g deep (omega arith) (omega (arith, stmt-bound s a)))
 
-  guards-is : {w : Scope} {d k i n : ℕ} {gs : Guards} (m : ℕ) → GuardsAt s d w k i gs n → d ≤ 32 → guardNeed gs ≤ 4096 → lo ≤ i
+  guards-is : {w : Scope} {d k i n : ℕ} {gs : Guards} (m : ℕ) → GuardsAt s d w k i gs n → d ≤ 32 → guardNeed gs ≤ wordLimit → lo ≤ i
       → partsExtent k GuardHead false plan s i m ≡ extended n (max m (guardNeed gs))
   unfolding guardNeed
   guards-is {i = i} m noGuardAt deep l later = parts-over s plan GuardHead false i m
@@ -111,7 +112,7 @@ module _ (s plan : List ℕ) {lo : ℕ} (planned : PlansFrom s lo plan) where
 
 -- a statement, by a plan that tells of all that begins behind its first byte
 pub extent-is : (s plan : List ℕ) {w : Scope} {d i n : ℕ} {b : Stmt} → PlansFrom s (suc i) plan → StmtAt s d w i b n → d ≤ 32
-    → need b ≤ 4096 → stmtExtent plan s (valueAt s i) ≡ extended n (need b)
+    → need b ≤ wordLimit → stmtExtent plan s (valueAt s i) ≡ extended n (need b)
 unfolding stmtExtent countIn simpleExtent declaredExtent need
 extent-is s plan p (skipAt k) deep l = rw (k .value, k .is)
 extent-is s plan p (stopAt k) deep l = rw (k .value, k .is)

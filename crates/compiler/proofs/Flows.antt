@@ -6,6 +6,7 @@ use mathlib.Core.Path.{_≡_, refl, sym, ap, _∙_}
 use mathlib.Core.List.{List, [], _∷_, _++_, append-assoc}
 use lib.ListN.{length, length-append}
 use lib.Seq.{sets}
+use Rattle.model.specs.Limits.{wordLimit}
 use Rattle.model.specs.Word.{low}
 use Rattle.model.specs.Syntax.{Site, Expr, Stmt, SEQ, IF, WHILE, Stmts, Pairs}
 use Rattle.model.specs.Reader as M
@@ -30,9 +31,9 @@ use Rattle.compiler.proofs.ExprCode.{whole-code}
 use Rattle.compiler.proofs.Compiles.{scopeOf, Scoped, inner-scope, Placed, Written, Compiles, stopp-fills}
 
 module _ (word : Site → ℕ) (workspace : ℕ → ℕ) (off : ℕ → ℕ) (s plan : List ℕ) where
-  module _ {d : ℕ} {sc : M.Scope} {vs cs : List ℕ} (w : ℕ) (fits : w ≤ 4096) (planned : Plans s plan)
+  module _ {d : ℕ} {sc : M.Scope} {vs cs : List ℕ} (w : ℕ) (fits : w ≤ wordLimit) (planned : Plans s plan)
       (scope : Scoped word (suc d) sc vs cs) (inner : Compiles word workspace off s plan d) where
-    seq-parts : {k i n : ℕ} {ss : Stmts} (j h : ℕ) → StmtsAt s d sc k i ss n → LaidAll workspace w ss → mostNeed ss ≤ 4096
+    seq-parts : {k i n : ℕ} {ss : Stmts} (j h : ℕ) → StmtsAt s d sc k i ss n → LaidAll workspace w ss → mostNeed ss ≤ wordLimit
         → Stands off j h (codeAll word w j ss) → Room h (codeAll word w j ss) → (o : List ℕ)
         → seqInto k (λ i c. stmtInto d (scopeOf w sc) vs cs plan s i c) i (at h o) ≡ written n (filled off h (codeAll word w j ss) o)
     unfolding seqInto codeAll mostNeed
@@ -80,7 +81,7 @@ module _ (word : Site → ℕ) (workspace : ℕ → ℕ) (off : ℕ → ℕ) (s 
         ∷ rest
 
     tested-code : {i m n q : ℕ} {e : Expr} {b : Stmt} (reached : ℕ → ℕ) (rest : ℕ → Code → Wrote) (j over h : ℕ) (P : List Instruction)
-        (o : List ℕ) → ExprAt s (sc .variables) d i e m → StmtAt s d sc m b n → Laid workspace w b → need b ≤ 4096
+        (o : List ℕ) → ExprAt s (sc .variables) d i e m → StmtAt s d sc m b n → Laid workspace w b → need b ≤ wordLimit
         → Stands off j h (testedCode j over e b P) → Room h (testedCode j over e b P)
         → ((h : ℕ) (o : List ℕ) → Stands off (leaves j e b + 1) h P → Room h P
         → (off over ≡ reached (h + bytesIn P)) × (rest n (at h o) ≡ written q (filled off h P o)))
@@ -142,7 +143,7 @@ module _ (word : Site → ℕ) (workspace : ℕ → ℕ) (off : ℕ → ℕ) (s 
         (λ k o q r. (stands-first off (p .stands), ap (written _) (sym (fill-none off k o)))))
 
     if-parts : {k i n : ℕ} {ps : Pairs} (j over h : ℕ) → over ≡ j + sizePairs ps → PairsAt s d sc k i ps n → LaidPairs workspace w ps
-        → pairNeed ps ≤ 4096 → Stands off j h (codePairs word w j over ps) → Room h (codePairs word w j over ps) → (o : List ℕ)
+        → pairNeed ps ≤ wordLimit → Stands off j h (codePairs word w j over ps) → Room h (codePairs word w j over ps) → (o : List ℕ)
         → ifInto k d w vs (λ i c. stmtInto d (scopeOf w sc) vs cs plan s i c) plan s i (at h o)
         ≡ written n (filled off h (codePairs word w j over ps) o)
     unfolding ifInto codePairs pairNeed sizePairs

@@ -7,6 +7,7 @@ use mathlib.Core.Path.{_≡_, refl, sym, ap, _∙_}
 use mathlib.Core.List.{List, [], _∷_, _++_, append-assoc}
 use lib.ListN.{length, length-append}
 use lib.Seq.{sets}
+use Rattle.model.specs.Limits.{wordLimit}
 use Rattle.model.specs.Word.{low, minus}
 use Rattle.model.specs.Syntax.{Site, Stmt, PAR, Stmts, stmt}
 use Rattle.model.specs.Reader as M
@@ -41,7 +42,7 @@ module _ (word : Site → ℕ) (workspace : ℕ → ℕ) (off : ℕ → ℕ) (s 
   start-bytes d j b = omega arith
 
   starts-end : {d k i n : ℕ} {sc : M.Scope} {ss : Stmts} (m j b h : ℕ) → StmtsAt s d sc k i ss n → d ≤ 32
-      → m + sumNeed ss ≤ 4096
+      → m + sumNeed ss ≤ wordLimit
       → Room h (codeStarts word m j b ss) → startsEnd k plan i m h ≡ h + bytesIn (codeStarts word m j b ss)
   unfolding startsEnd codeStarts sumNeed
   starts-end m j b h noStmtAt deep l r = omega (arith, no-bytes)
@@ -72,13 +73,13 @@ module _ (word : Site → ℕ) (workspace : ℕ → ℕ) (off : ℕ → ℕ) (s 
       (rw (fill-before off st (distance ldc b (j + 2) ∷ []) two o)
       (ap (λ x. at x (sets o st (encode off (start d j b)))) (omega arith)))
 
-  module _ {d : ℕ} {sc : M.Scope} {vs cs : List ℕ} (w : ℕ) (fits : w ≤ 4096) (scope : Scoped word (suc d) sc vs cs)
+  module _ {d : ℕ} {sc : M.Scope} {vs cs : List ℕ} (w : ℕ) (fits : w ≤ wordLimit) (scope : Scoped word (suc d) sc vs cs)
       (inner : Compiles word workspace off s plan d) where
     -- a branch m words below: its code, LDLP m, ENDP
     abbrev branch : (m j : ℕ) → Stmt → List Instruction
     branch m j b = code word (w - m) j b ++ plain ldlp m ∷ operation endp ∷ []
 
-    body-written : {i n : ℕ} {b : Stmt} (m j h : ℕ) → StmtAt s d sc i b n → Laid workspace (w - m) b → need b ≤ 4096
+    body-written : {i n : ℕ} {b : Stmt} (m j h : ℕ) → StmtAt s d sc i b n → Laid workspace (w - m) b → need b ≤ wordLimit
         → Stands off j h (branch m j b) → Room h (branch m j b) → Written word workspace off s plan d sc vs cs (w - m) j h i n b
     body-written {b = b} m j h a laid few p r =
         let B = code word (w - m) j b in
@@ -87,7 +88,7 @@ module _ (word : Site → ℕ) (workspace : ℕ → ℕ) (off : ℕ → ℕ) (s 
 
     -- the starts and the branches, from the second on
     branches-fill : {k i n : ℕ} {ss : Stmts} (m js st j h : ℕ) (o : List ℕ) → StmtsAt s d sc k i ss n → LaidBranches workspace (w - m) ss
-        → m + sumNeed ss ≤ 4096 → Stands off js st (codeStarts word m js j ss) → Stands off j h (codeEnds word w m j ss)
+        → m + sumNeed ss ≤ wordLimit → Stands off js st (codeStarts word m js j ss) → Stands off j h (codeEnds word w m j ss)
         → st + bytesIn (codeStarts word m js j ss) ≤ h → Room h (codeEnds word w m j ss)
         → branchesInto k (innerAt d plan s) (scopeOf w sc) vs cs plan i m st (at h o)
         ≡ record {
@@ -127,10 +128,10 @@ module _ (word : Site → ℕ) (workspace : ℕ → ℕ) (off : ℕ → ℕ) (s 
         (let place : h + bytesIn (B ++ B2) ≡ h + bytesIn B + bytesIn B2 = omega (arith, bodies) in
         rw (place, areas-fill off st S S2 h B B2 o (omega (arith, starts, l))))
 
-  module _ {d : ℕ} {sc : M.Scope} {vs cs : List ℕ} (w : ℕ) (fits : w ≤ 4096) (scope : Scoped word (suc d) sc vs cs)
+  module _ {d : ℕ} {sc : M.Scope} {vs cs : List ℕ} (w : ℕ) (fits : w ≤ wordLimit) (scope : Scoped word (suc d) sc vs cs)
       (inner : Compiles word workspace off s plan d) where
     branches-code : {k i m n : ℕ} {b : Stmt} {ss : Stmts} (j h : ℕ) (o : List ℕ) → StmtAt s d sc i b m → StmtsAt s d sc k m ss n
-        → howMany ss ≡ k → LaidBranches workspace (w - 2) (stmt b ss) → 2 + sumNeed (stmt b ss) ≤ 4096
+        → howMany ss ≡ k → LaidBranches workspace (w - 2) (stmt b ss) → 2 + sumNeed (stmt b ss) ≤ wordLimit
         → Stands off j h (codePar word w j (stmt b ss)) → Room h (codePar word w j (stmt b ss))
         → parInto (suc k) (innerAt d plan s) (scopeOf w sc) vs cs plan i (at h o)
         ≡ written n (filled off h (codePar word w j (stmt b ss)) o)

@@ -7,6 +7,7 @@ use mathlib.Core.List.{List}
 use lib.ListN.{length, length-set, length-replicate, set, replicate}
 use lib.Seq.{getD-set-same, getD-set-other}
 use borrow.Author.Tests.{lt-ltb}
+use Rattle.model.specs.Limits.{tableLimit}
 use Rattle.model.specs.Syntax.{Stmt, Stmts, Pairs, Guards}
 use Rattle.model.specs.Reader.{Scope}
 use Rattle.model.specs.Counts.{need}
@@ -59,55 +60,55 @@ module _ (s : List ℕ) where
     guards-inside noGuardAt l = l
     guards-inside (guardsAt g a h) l = guards-inside h (stmt-inside a)
 
-  module _ (short : length s ≤ 16384) where
+  module _ (short : length s ≤ tableLimit) where
     -- the entries of one place more
-    one-more : (at : ℕ) (plan : List ℕ) → at < 16384 → PlansFrom s (suc at) plan → PlansFrom s at (plannedAt at s plan)
+    one-more : (at : ℕ) (plan : List ℕ) → at < tableLimit → PlansFrom s (suc at) plan → PlansFrom s at (plannedAt at s plan)
     unfolding planAt extentIn statementAt
     one-more at plan inside p =
         let x = exprEntry plan s (valueAt s at) in
         let y = extentEntry (stmtExtent plan s (valueAt s at)) in
         let first = set plan at x in
         record {
-          long = length-set first (16384 + at) y ∙ length-set plan at x ∙ p .long;
+          long = length-set first (tableLimit + at) y ∙ length-set plan at x ∙ p .long;
           tells = λ {vs} {d} {i} {n} {e} a l m.
               let ends = expr-ends s a in
-              rw (getD-set-other first (16384 + at) i y 0 (omega arith))
+              rw (getD-set-other first (tableLimit + at) i y 0 (omega arith))
               (elim (decLe (suc at) i) [
                 | yes later ↦ rw (getD-set-other plan at i x 0 (omega arith)) (p .tells a l later)
                 | no other ↦
                     let here : i ≡ at = omega arith in
-                    rw (here, lt-ltb at 16384 inside, getD-set-same plan at x 0 (omega (arith, p .long)))
+                    rw (here, lt-ltb at tableLimit inside, getD-set-same plan at x 0 (omega (arith, p .long)))
                     (entry-is s short plan p (rw here at a) l)
               ]);
           measures = λ {w} {d} {i} {n} {b} a l few m.
               elim (decLe (suc at) i) [
                 | yes later ↦
                     rw (
-                      getD-set-other first (16384 + at) (16384 + i) y 0 (omega arith),
-                      getD-set-other plan at (16384 + i) x 0 (omega arith),
+                      getD-set-other first (tableLimit + at) (tableLimit + i) y 0 (omega arith),
+                      getD-set-other plan at (tableLimit + i) x 0 (omega arith),
                     )
                     (p .measures a l few later)
                 | no other ↦
                     let here : i ≡ at = omega arith in
                     rw (
                       here,
-                      lt-ltb at 16384 inside,
-                      getD-set-same first (16384 + at) y 0 (omega (arith, length-set plan at x, p .long)),
+                      lt-ltb at tableLimit inside,
+                      getD-set-same first (tableLimit + at) y 0 (omega (arith, length-set plan at x, p .long)),
                       extent-is s plan p (rw here at a) l few,
                     )
                     (entry-gives n (need b) (omega (arith, stmt-inside a, short)) (omega arith))
               ];
         }
 
-    all-planned : (n : ℕ) (plan : List ℕ) → n ≤ 16384 → PlansFrom s n plan → PlansFrom s 0 (plannedBelow n s plan)
+    all-planned : (n : ℕ) (plan : List ℕ) → n ≤ tableLimit → PlansFrom s n plan → PlansFrom s 0 (plannedBelow n s plan)
     unfolding plannedBelow
     all-planned zero plan l p = p
     all-planned (suc n) plan l p = all-planned n (plannedAt n s plan) (omega arith) (one-more n plan l p)
 
-pub plan-of : (s : List ℕ) → length s ≤ 16384 → Plans s (planOf s)
+pub plan-of : (s : List ℕ) → length s ≤ tableLimit → Plans s (planOf s)
 unfolding planOf
 plan-of s short =
-    let all : min (length s) 16384 ≡ length s = omega arith in
+    let all : min (length s) tableLimit ≡ length s = omega arith in
     let none : PlansFrom s (length s) (replicate 32768 0) =
     record {
       long = length-replicate {A = ℕ} 32768 0;

@@ -5,6 +5,7 @@ use native.Mathlib.Omega.{arith}
 use mathlib.Core.Path.{_≡_, ap}
 use mathlib.Core.List.{List}
 use lib.ListN.{length}
+use Rattle.model.specs.Limits.{wordLimit, tableLimit}
 use Rattle.model.specs.Syntax.{Site, Expr, constant, variable, binary, Stmt}
 use Rattle.model.specs.Reader.{Scope}
 use Rattle.model.specs.Counts.{order, registers, temporaries, need}
@@ -51,10 +52,10 @@ module _ (s : List ℕ) where
   pub record PlansFrom (lo : ℕ) (plan : List ℕ) : Type 0 where
     pub long : length plan ≡ 32768
     pub tells : {vs : List Site} {d i n : ℕ} {e : Expr} → ExprAt s vs d i e n → d ≤ 32 → lo ≤ i → Tells (planAt plan i) n e
-    pub measures : {w : Scope} {d i n : ℕ} {b : Stmt} → StmtAt s d w i b n → d ≤ 32 → need b ≤ 4096 → lo ≤ i
+    pub measures : {w : Scope} {d i n : ℕ} {b : Stmt} → StmtAt s d w i b n → d ≤ 32 → need b ≤ wordLimit → lo ≤ i
         → extentIn plan i ≡ extended n (need b)
 
-  module _ (short : length s ≤ 16384) where
+  module _ (short : length s ≤ tableLimit) where
     -- the entry of an expression, by a plan that tells of the later ones
     pub entry-is : {vs : List Site} {d i n : ℕ} {e : Expr} (plan : List ℕ) → PlansFrom (suc i) plan → ExprAt s vs d i e n → d ≤ 32
         → Tells (exprEntry plan s (valueAt s i)) n e
@@ -76,4 +77,5 @@ module _ (s : List ℕ) where
 -- a plan that tells of all of a table
 pub record Plans (s plan : List ℕ) : Type 0 where
   pub tells : {vs : List Site} {d i n : ℕ} {e : Expr} → ExprAt s vs d i e n → d ≤ 32 → Tells (planAt plan i) n e
-  pub measures : {w : Scope} {d i n : ℕ} {b : Stmt} → StmtAt s d w i b n → d ≤ 32 → need b ≤ 4096 → extentIn plan i ≡ extended n (need b)
+  pub measures : {w : Scope} {d i n : ℕ} {b : Stmt} → StmtAt s d w i b n → d ≤ 32 → need b ≤ wordLimit
+      → extentIn plan i ≡ extended n (need b)

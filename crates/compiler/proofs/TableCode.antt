@@ -8,6 +8,7 @@ use mathlib.Core.List.{List, [], _∷_, _++_, append-assoc}
 use mathlib.Core.Option.{some}
 use lib.ListN.{length, length-append, length-replicate, replicate, getD, getElem?}
 use lib.Seq.{sets, take-append-seam}
+use Rattle.model.specs.Limits.{wordLimit}
 use Rattle.model.specs.Word.{low, less}
 use Rattle.model.specs.Syntax.{inputOf, outputOf, Program}
 use Rattle.model.specs.Reader.{parsed, numbered, readProgram, program, readTable}
@@ -73,7 +74,7 @@ outside-long p =
     length-append (numbered inputOf (p .inputs)) (numbered outputOf (p .outputs))
     ∙ rw (length-numbered inputOf (p .inputs), length-numbered outputOf (p .outputs)) refl
 
-outside-named : (p : Program) (ws : List ℕ) → p .inputs ≤ 8 → p .outputs ≤ 8 → base p ≤ 4096 → length ws ≡ 1024
+outside-named : (p : Program) (ws : List ℕ) → p .inputs ≤ 8 → p .outputs ≤ 8 → base p ≤ wordLimit → length ws ≡ 1024
     → Named (wordOf p) 32 (outermost p .channels) (declaredWords (p .inputs + p .outputs) 0 (base p) ws)
 unfolding wordOf
 outside-named p ws hi ho hw long =
@@ -119,7 +120,7 @@ scheme-room s p whole q =
     omega (arith, bytes-bound xs, code-length (wordOf p) (base p) 0 (p .body), stmt-bound s (q .body), whole .short)
 
 -- the statement's code
-body-code : (s : List ℕ) (p : Program) → ReadWhole s p → (q : ProgramAt s p (length s)) → base p ≤ 4096 → (none : List ℕ)
+body-code : (s : List ℕ) (p : Program) → ReadWhole s p → (q : ProgramAt s p (length s)) → base p ≤ wordLimit → (none : List ℕ)
     → length none ≡ 1024 → (o : List ℕ)
     → stmtInto 32 (scoped (base p) 0 (p .inputs + p .outputs)) none
     (declaredWords (p .inputs + p .outputs) 0 (base p) none) (planOf s) s (q .third) (at 0 o)
@@ -145,7 +146,7 @@ body-code s p whole q few none long o =
     o)
 
 -- the generator writes the model's code of an accepted table
-pub table-code : (s : List ℕ) (p : Program) → Bytes s → accept s ≡ program p → memoryWords p ≤ 4096 → (o : List ℕ)
+pub table-code : (s : List ℕ) (p : Program) → Bytes s → accept s ≡ program p → memoryWords p ≤ wordLimit → (o : List ℕ)
     → tableInto (planOf s) s (factsOf p) o ≡ at (length (codeOf p)) (sets o 0 (codeOf p))
 unfolding tableInto codeOf
 table-code s p b e few o =

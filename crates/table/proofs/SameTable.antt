@@ -11,6 +11,7 @@ use lib.Seq.{drop-cons}
 use lib.Dec.{ltb, leb, eqb}
 use borrow.Author.Tests.{le-leb, lt-leb, le-ltb, lt-ltb, eq-eqb, ne-eqb, ltb-true, ltb-false, eqb-true, eqb-false}
 use Rattle.model.proofs.Cases.{by-bool, by-option, by-parsed, never}
+use Rattle.model.specs.Limits.{tableLimit}
 use Rattle.model.specs.Syntax.{Site, inputOf, outputOf, declared, Program}
 use Rattle.model.specs.Reader.{Parsed, parsed, fails, Scope, numbered, canInput, canOutput, readProgram, readTable, Read, refused}
 use Rattle.model.specs.Usage.{same, firstClash}
@@ -149,12 +150,12 @@ ended-same s x r (gives p n y h) =
     (λ e. rw (h, e, drop-cons s n 0 (ltb-true n (length s) e)) refl)
     (λ e. let low : length s ≤ n = ltb-false n (length s) e in rw (h, drop-of-length-le s low) (checks-same p n (length s) low))
 
-accept-is : (s : List ℕ) → (leb 1 (length s) && leb (length s) 16384) ≡ true → accept s ≡ ended (readProgram 0 s)
+accept-is : (s : List ℕ) → (leb 1 (length s) && leb (length s) tableLimit) ≡ true → accept s ≡ ended (readProgram 0 s)
 unfolding accept readTable
 accept-is s e =
     by-parsed (readProgram 0 s) (λ k p f. rw (e, f) refl) (λ p n f. rw (e, f) refl) (λ p n b l f. rw (e, f) refl)
 
-refused-length : (s : List ℕ) → (leb 1 (length s) && leb (length s) 16384) ≡ false → accept s ≡ refused 1 0
+refused-length : (s : List ℕ) → (leb 1 (length s) && leb (length s) tableLimit) ≡ false → accept s ≡ refused 1 0
 unfolding accept readTable
 refused-length s e = rw e refl
 
@@ -162,15 +163,15 @@ pub table-same : (s : List ℕ) → Bytes s → tableAt s ≡ answerOf (accept s
 unfolding tableAt
 table-same s b =
     by-bool (eqb (length s) 0)
-    (λ e. let short : (leb 1 (length s) && leb (length s) 16384) ≡ false = rw (eqb-true (length s) 0 e) refl in
+    (λ e. let short : (leb 1 (length s) && leb (length s) tableLimit) ≡ false = rw (eqb-true (length s) 0 e) refl in
     rw (e, refused-length s short) refl)
-    (λ e. by-bool (ltb 16384 (length s))
-    (λ f. let long : (leb 1 (length s) && leb (length s) 16384) ≡ false =
-    rw (lt-leb (length s) 16384 (ltb-true 16384 (length s) f)) (and-false (leb 1 (length s))) in
+    (λ e. by-bool (ltb tableLimit (length s))
+    (λ f. let long : (leb 1 (length s) && leb (length s) tableLimit) ≡ false =
+    rw (lt-leb (length s) tableLimit (ltb-true tableLimit (length s) f)) (and-false (leb 1 (length s))) in
     rw (e, f, refused-length s long) refl)
     (λ f. let least : 1 ≤ length s = one-least (length s) (eqb-false (length s) 0 e) in
-    let fine : (leb 1 (length s) && leb (length s) 16384) ≡ true =
-    rw (le-leb 1 (length s) least, le-leb (length s) 16384 (ltb-false 16384 (length s) f)) refl in
+    let fine : (leb 1 (length s) && leb (length s) tableLimit) ≡ true =
+    rw (le-leb 1 (length s) least, le-leb (length s) tableLimit (ltb-false tableLimit (length s) f)) refl in
     rw (e, f, accept-is s fine) (ended-same s _ (readProgram 0 s) (program-same s b))))
   where
     one-least : (n : ℕ) → (n ≡ 0 → ⊥) → 1 ≤ n

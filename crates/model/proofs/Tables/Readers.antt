@@ -8,7 +8,7 @@ use native.Mathlib.Omega.{arith}
 use lib.ListN.{length, getElem?, length-drop}
 use lib.Dec.{leb, ltb, eqb}
 use borrow.Author.Tests.{leb-true, ltb-true}
-use Rattle.model.specs.Limits.{tableLimit}
+use Rattle.model.specs.Limits.{tableLimit, depthLimit, nameLimit, partLimit, branchLimit}
 use Rattle.model.specs.Number.{Number, groups, number}
 use Rattle.model.specs.Syntax.{Site, Expr, Stmt, Stmts, noStmt, stmt, Pairs, Guard, Guards, Program}
 use Rattle.model.specs.Reader.{Parsed, parsed, fails, Reader, onward, pure, refuse, readNumber, oneOf, readCount, Scope, readName}
@@ -230,24 +230,24 @@ module _ {end : ℕ} {sc : Scope} {inner : Inner} (i : InnerSound end sc inner) 
       next (name-reads canOutput (sc .channels) at) λ at₁ c le₁ gc. next (i .whole at₁) λ to e le₂ ge.
       done ((gc, ge), λ lo l. omega arith)
   stmt-of p at lt Var =
-      next (count-reads 1 32 at) λ at₁ n le₁ gn. next (i .body (withVariables p n sc) at₁) λ to s le₂ gs.
+      next (count-reads 1 nameLimit at) λ at₁ n le₁ gn. next (i .body (withVariables p n sc) at₁) λ to s le₂ gs.
       done ((gn .0, gn .1, gs .0), λ lo l. (l, gs .1 (suc p) (omega arith)))
   stmt-of p at lt Chan =
-      next (count-reads 1 32 at) λ at₁ n le₁ gn. next (i .body (withChannels p n sc) at₁) λ to s le₂ gs.
+      next (count-reads 1 nameLimit at) λ at₁ n le₁ gn. next (i .body (withChannels p n sc) at₁) λ to s le₂ gs.
       done ((gn .0, gn .1, gs .0), λ lo l. (l, gs .1 (suc p) (omega arith)))
   stmt-of p at lt Seq =
-      next (count-reads 0 32 at) λ at₁ n le₁ gn. next (all-reads n at₁) λ to ss le₂ g. done (g .1, λ lo l. g .2 lo (omega arith))
+      next (count-reads 0 partLimit at) λ at₁ n le₁ gn. next (all-reads n at₁) λ to ss le₂ g. done (g .1, λ lo l. g .2 lo (omega arith))
   stmt-of p at lt Par =
-      next (count-reads 0 16 at) λ at₁ n le₁ gn. next (all-reads n at₁) λ to ss le₂ g.
+      next (count-reads 0 branchLimit at) λ at₁ n le₁ gn. next (all-reads n at₁) λ to ss le₂ g.
       done ((omega arith, g .1), λ lo l. g .2 lo (omega arith))
   stmt-of p at lt If =
-      next (count-reads 0 32 at) λ at₁ n le₁ gn.
+      next (count-reads 0 partLimit at) λ at₁ n le₁ gn.
       next (many-reads (λ n. ReadPairs sc) (λ at. (tt, λ lo h. h)) (λ k. pair-reads) n at₁) λ to ps le₂ g.
       done (g .0, λ lo l. g .1 lo (omega arith))
   stmt-of p at lt While =
       next (i .whole at) λ at₁ e le₁ ge. next (i .body sc at₁) λ to s le₂ gs. done ((ge, gs .0), λ lo l. gs .1 lo (omega arith))
   stmt-of p at lt Alt =
-      next (count-reads 0 32 at) λ at₁ n le₁ gn.
+      next (count-reads 0 partLimit at) λ at₁ n le₁ gn.
       next (many-reads (λ n. ReadGuards sc) (λ at. (tt, λ lo h. h)) (λ k. guard-reads) n at₁) λ to ps le₂ g.
       done (g .0, λ lo l. g .1 lo (omega arith))
 
@@ -261,7 +261,7 @@ program-reads : (end : ℕ) → Sound end Program 0 (λ to p. WellProgram p × P
 unfolding readProgram
 program-reads end =
     next (count-reads 0 8 0) λ at₁ ins le₁ gi. next (count-reads 0 8 at₁) λ at₂ outs le₂ go.
-    next (stmt-reads 32 _ at₂) λ to s le₃ gs. done ((gi .1, go .1, gs .0), gs .1 0 (omega arith))
+    next (stmt-reads depthLimit _ at₂) λ to s le₃ gs. done ((gi .1, go .1, gs .0), gs .1 0 (omega arith))
 
 -- a table that was read was read to its end, as a well-formed program whose declarations stand at places of the table
 pub record ReadWhole (table : List ℕ) (p : Program) : Type 0 where

@@ -1,4 +1,5 @@
 -- `emitter::make::make_plan` meets its contract. The loop's invariant: planning what is left gives what the whole gives. Assumes nothing.
+use Rattle.model.specs.Limits.{tableLimit}
 use Rattle.emitter.proofs.make.make_plan.Statement.{statement}
 use Rattle.emitter.proofs.make.make_plan.Tie as tie
 use borrow.Author.Needs.{needs}
@@ -20,7 +21,7 @@ turn zero s p h = absurd (omega arith)
 turn (suc n) s p h = let e : suc n - 1 ≡ n = omega arith in rw e
 
 abbrev Inv-loop : tie.InvT-loop
-Inv-loop table plan₀ at₀ plan at = (plannedBelow at₀ table plan₀ ≡ plannedBelow at table plan) × (at ≤ 16384)
+Inv-loop table plan₀ at₀ plan at = (plannedBelow at₀ table plan₀ ≡ plannedBelow at table plan) × (at ≤ tableLimit)
 
 abbrev μ-loop : tie.MeasureT-loop
 μ-loop table plan₀ at₀ plan at = at

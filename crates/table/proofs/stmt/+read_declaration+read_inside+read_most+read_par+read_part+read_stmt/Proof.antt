@@ -1,5 +1,6 @@
 -- The functions of `table::stmt` that call each other meet their contracts. The measures are six times the depth left, and more for what
 -- has statements of that depth. Assumes nothing.
+use Rattle.model.specs.Limits.{tableLimit}
 use Rattle.table.proofs.stmt as cycle
 use Prim.Native.Nat.{ℕ, _<_, zero, suc, _+_, _-_, _*_, _≤_}
 use borrow.Fn.Kinds.{In}
@@ -83,7 +84,7 @@ less-fits d w f = (omega arith, omega arith, omega arith, omega arith, omega ari
 same-fits : (d : ℕ) (w : Names) → (d ≡ 0 → ⊥) → Fits w d → Fits w (d - 1 + 1)
 same-fits d w p f = let e : d - 1 + 1 ≡ d = omega arith in rw e f
 
-small-words : (x : StmtRead) (at len : ℕ) → len ≤ 16384 → Small at len x → SmallWords x
+small-words : (x : StmtRead) (at len : ℕ) → len ≤ tableLimit → Small at len x → SmallWords x
 small-words (Stmt p) at len h f = omega arith
 small-words (NoStmt k p) at len h f = tt
 

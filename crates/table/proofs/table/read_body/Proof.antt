@@ -1,5 +1,6 @@
 -- `table::table::read_body` meets its contract. Assumes nothing.
 use borrow.Author.Needs.{needs}
+use Rattle.model.specs.Limits.{tableLimit}
 use Rattle.table.proofs.table.read_body.Statement.{statement}
 use Rattle.table.proofs.table.read_body.Tie as tie
 use Prim.Native.Nat.{ℕ, _≤_}
@@ -15,7 +16,7 @@ use Rattle.table.specs.declared.stmt.StmtRead.the-variants.{Stmt}
 use Rattle.table.proofs.Small.{stmt-counts}
 
 -- a statement's words are bounded by the table's bytes
-words-within : {p : Part} (w : Names) (s : List ℕ) (at : ℕ) → length s ≤ 16384 → stmtAt 32 w s at ≡ Stmt p → p .words ≤ 655360
+words-within : {p : Part} (w : Names) (s : List ℕ) (at : ℕ) → length s ≤ tableLimit → stmtAt 32 w s at ≡ Stmt p → p .words ≤ 655360
 words-within {p} w s at h e = let b = stmt-counts {p = p} 32 w s at e in omega (arith, h, b .1, b .2)
 
 finish-requires : tie.Need-finish-requires
