@@ -1,3 +1,7 @@
+-- That what is written is the scheme's code: Spelled (what a table's bytes spell), Planned and PlanOf (what the plan says of an expression
+-- and of a statement), Fills (codes one behind another in the buffer), ExprCode, ExtentIs, Compiles, Declares, Flows, Pars and Choices
+-- (each shape of statement), StmtCode (all of them), Bounds and TableCode (a whole table), Compiled (the answers), Decoded
+-- (`compile-realises`). Turns has the laws that the functions of the cycle cite.
 pub mod Spelled
 pub mod Planned
 pub mod Fills

@@ -1,3 +1,6 @@
+-- That the definitions by places are the model's reader: SameItems, SameExpr, SameSimple to SamePar (each shape of statement), SameStmt,
+-- and SameTable (the end). Words, Marks and Clash have what branches do to names, which the code keeps as bits by the names' numbers and
+-- the model as lists of declarations; Exact says that the bits are the lists. Small has bounds.
 pub mod SameItems
 pub mod SameExpr
 pub mod SameSimple
