@@ -8,7 +8,9 @@ use Rattle.model.specs.declared.kinds.Operator.{Operator}
 use Rattle.model.specs.declared.kinds.Operator.the-variants.{Plus as PLUS, Minus as MINUS, Times as TIMES, Gt as GT, Eq as EQ, And as AND}
 use Rattle.model.specs.declared.kinds.Operator.the-variants.{Or as OR, Xor as XOR}
 use Rattle.model.specs.Reader.{Scope}
-use Rattle.model.specs.Counts.{Order, leftFirst, rightFirst, rightStored, order, temporaries}
+use Rattle.model.specs.Counts.{order, temporaries}
+use Rattle.model.specs.declared.kinds.Order.{Order}
+use Rattle.model.specs.declared.kinds.Order.the-variants.{LeftFirst, RightFirst, RightStored}
 use Rattle.model.specs.Instruction.{Instruction, plain, distance}
 use Rattle.model.specs.Code.{prefixesOf, bytesIn}
 use Rattle.model.specs.Scheme.{operatorSize, sidesSize, exprSize, wrapSize, wholeSize, howMany, size, sizeAll, sizePar, sizeEnds, sizePairs}
@@ -31,9 +33,9 @@ operator-small XOR = omega arith
 
 sides-small : (o : Order) (l r : ℕ) → sidesSize o l r ≤ l + r + 2
 unfolding sidesSize
-sides-small leftFirst l r = omega arith
-sides-small rightFirst l r = omega arith
-sides-small rightStored l r = omega arith
+sides-small LeftFirst l r = omega arith
+sides-small RightFirst l r = omega arith
+sides-small RightStored l r = omega arith
 
 wrap-small : (t : ℕ) → wrapSize t ≤ 2
 unfolding wrapSize

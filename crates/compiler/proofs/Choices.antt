@@ -28,6 +28,7 @@ use Rattle.compiler.specs.Alts.{guardInto, guarded, behindGuard, enableI
 use Rattle.model.specs.declared.kinds.StmtKind.the-variants.{Alt}
 use Rattle.model.specs.declared.kinds.GuardKind.the-variants.{Input as InputGuard, Skip as SkipGuard}
 use Rattle.numbers.specs.Kinds.{stmtKind, guardKind, countIn}
+use Rattle.instruction.specs.Codes.{LDC}
 use Rattle.compiler.specs.Kinds.{stmtInto, innerAt}
 use Rattle.compiler.specs.declared.alt.Guard.{Guard}
 use Rattle.compiler.proofs.Spelled.{KindAt, OneAt, ExprAt, CountAt, StmtAt, inputGuardAt, skipGuardAt, GuardsAt, noGuardAt, guardsAt}
@@ -246,7 +247,7 @@ module _ (word : Site → ℕ) (workspace : ℕ → ℕ) (off : ℕ → ℕ) (s 
         record {
           chooses = rw (
             begun (omega arith),
-            then-distance off ldc 0x40 b choice h base dis G o refl (stands-first off p) user (room-left dis (G ++ T ∷ []) _ x-room),
+            then-distance off ldc LDC b choice h base dis G o refl (stands-first off p) user (room-left dis (G ++ T ∷ []) _ x-room),
             then-operation off op _ dis (G ++ T ∷ []) o op-is x-room,
             both,
             branch O,

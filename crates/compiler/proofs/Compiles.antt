@@ -15,6 +15,7 @@ use Rattle.model.specs.Scheme.{local, wholeCode, inputCode, code}
 use Rattle.model.proofs.Tables.WellFormed.{Laid}
 use Rattle.model.specs.declared.kinds.StmtKind.the-variants.{Skip, Stop, Assign, Input, Output}
 use Rattle.numbers.specs.Kinds.{stmtKind}
+use Rattle.instruction.specs.Codes.{STOPP}
 use Rattle.emitter.specs.Emits.{at, operationInto}
 use Rattle.emitter.specs.Exprs.{written}
 use Rattle.emitter.specs.Simples.{inputInto, outputInto, assignInto, inInto, outInto, simpleInto}
@@ -48,7 +49,7 @@ scope-depth h = omega (arith, h .variables .few)
 
 -- STOPP: a STOP, and what stands behind an IF's last pair
 pub stopp-fills : (off : ℕ → ℕ) (h : ℕ) (o : List ℕ) → Room h (operation I.stopp ∷ [])
-    → operationInto 21 (at h o) ≡ filled off h (operation I.stopp ∷ []) o
+    → operationInto STOPP (at h o) ≡ filled off h (operation I.stopp ∷ []) o
 unfolding functionCode operationCode operationInto
 stopp-fills off h o room = emits-at off (operation I.stopp ∷ []) h o room
 

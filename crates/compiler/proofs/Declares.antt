@@ -28,6 +28,7 @@ use Rattle.model.specs.declared.kinds.StmtKind.the-variants.{Var, Chan}
 use Rattle.numbers.specs.Kinds.{stmtKind}
 use Rattle.numbers.specs.declared.kinds.Declared.{Declared}
 use Rattle.numbers.specs.declared.kinds.Declared.the-variants.{Variables, Channels}
+use Rattle.instruction.specs.Codes.{AJW}
 use Rattle.compiler.specs.Stmts.{firstInto, initialInto}
 use Rattle.compiler.specs.Kinds.{stmtInto}
 use Rattle.compiler.proofs.Spelled.{KindAt, CountAt, StmtAt, skipAt, stopAt, assignAt, inputAt, outputAt, varAt, chanAt, seqAt}
@@ -158,8 +159,8 @@ module _ (word : Site → ℕ) (workspace : ℕ → ℕ) (off : ℕ → ℕ) (s 
         → {m q : ℕ} {b : Stmt} (n : ℕ) → n ≤ 32 → StmtAt s d sc m b q → Scoped word d sc vs cs → Laid workspace (w - n) b → w ≤ wordLimit
         → n + need b ≤ wordLimit → let X = declaration first n (code word (w - n) (j + 1 + (n + n)) b) in
         Stands off j h X → Room h X → (o : List ℕ)
-        → let r = stmtInto d (scopeOf (w - n) sc) vs cs plan s m (initialInto n what 0 (plainInto 0xb0 (minus n) (at h o))) in
-        written (r .next) (plainInto 0xb0 n (codeOf r)) ≡ written q (filled off h X o)
+        → let r = stmtInto d (scopeOf (w - n) sc) vs cs plan s m (initialInto n what 0 (plainInto AJW (minus n) (at h o))) in
+        written (r .next) (plainInto AJW n (codeOf r)) ≡ written q (filled off h X o)
     unfolding functionCode initialise
     declaration-code what first is {q = q} {b = b} n l a scope laid fits few p room o =
         let F = plain ajw (minus n) ∷ [] in

@@ -3,12 +3,10 @@ use Prim.Native.Nat.{ℕ, zero, suc, _+_, _-_, _*_, _^_, _≤_, _<_}
 use native.Mathlib.Omega.{arith}
 use native.Mathlib.Nat.{mod-eq-of-lt}
 use mathlib.Core.Path.{_≡_, refl, ap, _∙_}
-use mathlib.Core.Bool.{cond, _&&_}
 use mathlib.Core.List.{List, [], _∷_, _++_, append-assoc}
 use mathlib.Core.Option.{some}
 use lib.ListN.{length, getD, getElem?}
 use lib.Seq.{sets}
-use lib.Dec.{ltb, eqb}
 use borrow.Author.Tests.{lt-ltb, ne-eqb}
 use Rattle.model.specs.Limits.{wordLimit}
 use Rattle.model.specs.Word.{low, minus}
@@ -16,16 +14,18 @@ use Rattle.model.specs.Syntax.{Site, Expr}
 use Rattle.model.specs.declared.kinds.Operator.{Operator}
 use Rattle.model.specs.declared.kinds.Operator.the-variants.{Plus as PLUS, Minus as MINUS, Times as TIMES, Gt as GT, Eq as EQ, And as AND}
 use Rattle.model.specs.declared.kinds.Operator.the-variants.{Or as OR, Xor as XOR}
-use Rattle.model.specs.Counts.{Order, leftFirst, rightFirst, rightStored, orderOf, order, sidesHold, registers, temporaries}
+use Rattle.model.specs.Counts.{order, sidesHold, temporaries}
+use Rattle.model.specs.declared.kinds.Order.{Order}
+use Rattle.model.specs.declared.kinds.Order.the-variants.{LeftFirst, RightFirst, RightStored}
 use Rattle.model.specs.Instruction as I
 use Rattle.model.specs.Instruction.{Instruction, plain, operation, ldc, ldl, stl, ajw, eqc, rev, functionCode, operationCode}
 use Rattle.model.specs.Prefix.{fewest}
 use Rattle.model.specs.Code.{prefixesOf, bytesIn, encode}
 use Rattle.model.specs.Scheme.{operatorCode, sidesCode, wrapped, local, exprCode}
-use Rattle.model.proofs.Cases.{by-bool}
+use Rattle.instruction.specs.Codes.{AJW, EQC, LDC, LDL, STL}
 use Rattle.table.proofs.SameItems.{operator-is}
 use Rattle.emitter.specs.Emits.{Code, at, localOf}
-use Rattle.emitter.specs.Exprs.{Wrote, written, codeOf, operatorInto, constantInto, variableInto, orderNumber, betweenInto, behindInto}
+use Rattle.emitter.specs.Exprs.{Wrote, written, codeOf, operatorInto, constantInto, variableInto, inOrder, betweenInto, behindInto}
 use Rattle.emitter.specs.Exprs.{exprInto, lowering, adjustInto, wholeInto}
 use Rattle.compiler.proofs.Spelled.{OneAt, ExprAt, constantAt, variableAt, notAt, binaryAt}
 use Rattle.compiler.proofs.Planned.{Plans, holds-few}
@@ -39,17 +39,10 @@ pub record Named (word : Site → ℕ) (depth : ℕ) (sites : List Site) (ws : L
   pub long : length ws ≡ 1024
   pub few : length sites + 32 * depth ≤ 1056
 
--- the order of two sides by number
-abbrev numberOf : Order → ℕ
-numberOf leftFirst = 0
-numberOf rightFirst = 1
-numberOf rightStored = 2
-
-order-is : (l r : ℕ) → orderNumber l r ≡ numberOf (orderOf l r)
-unfolding orderNumber orderOf
-order-is l r =
-    by-bool (ltb l r) (λ f. rw f)
-    (λ f. by-bool (eqb l 3 && eqb r 3) (λ g. rw (f, g)) (λ g. rw (f, g)))
+both-end : (o : Order) (h l r n : ℕ) → inOrder o h l r n .next ≡ n
+both-end LeftFirst h l r n = refl
+both-end RightFirst h l r n = refl
+both-end RightStored h l r n = refl
 
 module _ (off : ℕ → ℕ) where
   -- what writes the code of instructions, for a part of the table that ends before a place
@@ -61,19 +54,19 @@ module _ (off : ℕ → ℕ) where
       (right : List Instruction) → g + sidesHold ord tl tr ≤ wordLimit
       → ((k : ℕ) → k + tl ≤ wordLimit → Writes (inner k i) p (left k)) → (g + tr ≤ wordLimit → Writes (inner g p) q right)
       → (h : ℕ) (o : List ℕ) → Room h (sidesCode ord g left right)
-      → let k = numberOf ord in
-      let one = inner g (cond (eqb k 0) i p) (at h o) in
-      let two = inner (cond (eqb k 2) (low (g + 1)) g) (cond (eqb k 0) p i) (betweenInto k g (codeOf one)) in
-      behindInto k g (codeOf two) ≡ filled off h (sidesCode ord g left right) o
+      → let a = inOrder ord g i p q in
+      let one = inner g (a .first) (at h o) in
+      let two = inner (a .held) (a .second) (betweenInto (a .order) g (codeOf one)) in
+      behindInto (a .order) g (codeOf two) ≡ filled off h (sidesCode ord g left right) o
   unfolding sidesCode sidesHold betweenInto behindInto functionCode operationCode
-  sides-fill inner leftFirst i p q g tl tr left right few wl wr h o r =
+  sides-fill inner LeftFirst i p q g tl tr left right few wl wr h o r =
       let L = left g in
       rw (
         wl g (omega arith) h o (room-left h L right r),
         wr (omega arith) (h + bytesIn L) (sets o h (encode off L)) (room-right h L right r),
       )
       (fill-then off h L right o)
-  sides-fill inner rightFirst i p q g tl tr left right few wl wr h o r =
+  sides-fill inner RightFirst i p q g tl tr left right few wl wr h o r =
       let L = left g in
       let sides = room-left h (right ++ L) (operation rev ∷ []) r in
       rw (
@@ -82,7 +75,7 @@ module _ (off : ℕ → ℕ) where
         fill-then off h right L o,
       )
       (then-operation off rev 0 h (right ++ L) o refl r)
-  sides-fill inner rightStored i p q g tl tr left right few wl wr h o r =
+  sides-fill inner RightStored i p q g tl tr left right few wl wr h o r =
       let L = left (suc g) in
       let next : low (g + 1) ≡ suc g = mod-eq-of-lt (omega arith) ∙ omega arith in
       let stored = right ++ plain stl g ∷ [] in
@@ -91,12 +84,12 @@ module _ (off : ℕ → ℕ) where
       rw (
         next,
         wr (omega arith) h o (room-left h right _ (room-left h stored L sides)),
-        then-plain off stl 0xd0 g h right o refl (room-left h stored L sides),
+        then-plain off stl STL g h right o refl (room-left h stored L sides),
         wl (suc g) (omega arith) (h + bytesIn stored) (sets o h (encode off stored)) (room-right h stored L sides),
         fill-then off h stored L o,
         all,
       )
-      (then-plain off ldl 0x70 g h (right ++ plain stl g ∷ L) o refl r)
+      (then-plain off ldl LDL g h (right ++ plain stl g ∷ L) o refl r)
 
   -- code with t stored values, wrapped in its two AJWs
   wrapped-fills : (into : (w : ℕ) → Code → Wrote) (n t more w : ℕ) (code : ℕ → List Instruction) → t + more ≤ 8192
@@ -121,7 +114,7 @@ module _ (off : ℕ → ℕ) where
         f (w - m) (h + bytesIn A) (sets o h (encode off A)) (room-right h A C front),
         fill-then off h A C o,
       )
-      (ap (written n) (then-plain off ajw 0xb0 m h (A ++ C) o refl r))
+      (ap (written n) (then-plain off ajw AJW m h (A ++ C) o refl r))
 
 module _ (word : Site → ℕ) (off : ℕ → ℕ) (s : List ℕ) where
   plain-bytes : (f : I.Function) (n : ℕ) → bytesIn (plain f n ∷ []) ≡ suc (fewest n)
@@ -136,7 +129,7 @@ module _ (word : Site → ℕ) (off : ℕ → ℕ) (s : List ℕ) where
   operator-fills TIMES h o l = operation-fills off I.prod _ h o refl (omega arith)
   operator-fills GT h o l = operation-fills off I.gt _ h o refl (omega arith)
   operator-fills EQ h o l =
-      rw (operation-fills off I.diff 4 h o refl (omega arith)) (then-plain off eqc 0xc0 0 h (operation I.diff ∷ []) o refl l)
+      rw (operation-fills off I.diff 4 h o refl (omega arith)) (then-plain off eqc EQC 0 h (operation I.diff ∷ []) o refl l)
   operator-fills AND h o l = operation-fills off I.and _ h o refl (omega arith)
   operator-fills OR h o l = operation-fills off I.or _ h o refl (omega arith)
   operator-fills XOR h o l = operation-fills off I.xor _ h o refl (omega arith)
@@ -152,13 +145,13 @@ module _ (word : Site → ℕ) (off : ℕ → ℕ) (s : List ℕ) where
         → Writes off (λ c. exprInto d w ws plan s g i c) n (exprCode word w g e)
     unfolding exprInto exprCode constantInto variableInto functionCode temporaries
     expr-code (constantAt v k t) deep g few h o r =
-        rw (k .value, k .is, t .value) (ap (written _) (plain-fills off ldc 0x40 v h o refl (rw plain-bytes at r)))
+        rw (k .value, k .is, t .value) (ap (written _) (plain-fills off ldc LDC v h o refl (rw plain-bytes at r)))
     expr-code (variableAt k x) deep g few h o r =
         rw (k .value, k .is, x .there .value, local-is names w x)
-        (ap (written _) (plain-fills off ldl 0x70 _ h o refl (rw plain-bytes at r)))
+        (ap (written _) (plain-fills off ldl LDL _ h o refl (rw plain-bytes at r)))
     expr-code (notAt {e = e} k a) deep g few h o r =
         rw (k .value, k .is, expr-code a (omega arith) g few h o (room-left h _ _ r))
-        (ap (written _) (then-plain off eqc 0xc0 0 h (exprCode word w g e) o refl r))
+        (ap (written _) (then-plain off eqc EQC 0 h (exprCode word w g e) o refl r))
     expr-code (binaryAt {d = d} {m = m} {p = p} {q = q} {op = op} {l = le} {r = re} k v a c) deep g few h o r =
         let S = sidesCode (order le re) g (λ k. exprCode word w k le) (exprCode word w g re) in
         let x = planned .tells a (omega arith) in
@@ -172,7 +165,7 @@ module _ (word : Site → ℕ) (off : ℕ → ℕ) (s : List ℕ) where
           x .needs,
           y .next,
           y .needs,
-          order-is (registers le) (registers re),
+          both-end (order le re) g m p q,
           sides-fill off (λ g i c. exprInto d w ws plan s g i c) (order le re) m p q g (temporaries le) (temporaries re)
               (λ k. exprCode word w k le) (exprCode word w g re) few (λ k l. expr-code a (omega arith) k l)
               (λ l. expr-code c (omega arith) g l) h o (room-left h S (operatorCode op) r),

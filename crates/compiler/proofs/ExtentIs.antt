@@ -15,7 +15,11 @@ use Rattle.numbers.specs.Items.{valueAt}
 use Rattle.numbers.specs.Kinds.{countIn}
 use Rattle.numbers.specs.declared.kinds.Head.{Head}
 use Rattle.numbers.specs.declared.kinds.Head.the-variants.{Nothing, Condition, Guard as GuardHead}
-use Rattle.emitter.specs.Extents.{extended, extentIn, simpleExtent, guardExtent, headExtent, partsExtent, declaredExtent, stmtExtent}
+use Rattle.counts.specs.Words.{asked}
+use Rattle.counts.specs.declared.Role.{Role}
+use Rattle.counts.specs.declared.Role.the-variants.{Value as ForValue, Output as ForOutput, Guard as ForGuard}
+use Rattle.emitter.specs.Extents.{extended, extentIn, wholeExtent, simpleExtent, guardExtent, headExtent, partsExtent, declaredExtent}
+use Rattle.emitter.specs.Extents.{stmtExtent}
 use Rattle.compiler.proofs.Spelled.{ExprAt, StmtAt, skipAt, stopAt, assignAt, inputAt, outputAt, varAt, chanAt, seqAt, parAt, ifAt}
 use Rattle.compiler.proofs.Spelled.{whileAt, altAt, StmtsAt, noStmtAt, stmtsAt, PairsAt, noPairAt, pairAt, GuardAt, inputGuardAt}
 use Rattle.compiler.proofs.Spelled.{skipGuardAt, GuardsAt, noGuardAt, guardsAt}
@@ -56,22 +60,28 @@ module _ (s plan : List ℕ) where
   no-head i = refl
 
 module _ (s plan : List ℕ) {lo : ℕ} (planned : PlansFrom s lo plan) where
+  -- an expression that stands in no other
+  whole-is : {vs : List Site} {d i n : ℕ} {e : Expr} (r : Role) → ExprAt s vs d i e n → d ≤ 32 → lo ≤ i
+      → wholeExtent r plan i ≡ extended n (asked r (temporaries e))
+  unfolding wholeExtent
+  whole-is r a deep later = let t = planned .tells a deep later in rw (t .next, t .holds)
+
   condition-head : {vs : List Site} {d i n : ℕ} {e : Expr} → ExprAt s vs d i e n → d ≤ 32 → lo ≤ i
       → headExtent Condition plan s i ≡ extended n (temporaries e + 2)
-  unfolding headExtent
-  condition-head a deep later = let t = planned .tells a deep later in rw (t .next, t .holds)
+  unfolding headExtent asked
+  condition-head a deep later = whole-is ForValue a deep later
 
   guard-head : {w : Scope} {d i n : ℕ} {g : Guard} → GuardAt s d w i g n → d ≤ 32 → lo ≤ i
       → (headExtent GuardHead plan s i ≡ extended n (guardWords (temporaries (condition g)))) × (i < n)
-  unfolding headExtent guardExtent
+  unfolding headExtent guardExtent asked
   guard-head (inputGuardAt k a c x) deep later =
-      let t = planned .tells a deep (omega (arith, k .ahead)) in (
-        rw (k .value, k .is, t .next, t .holds, next-is s (c .there), next-is s (x .there)),
+      let e = whole-is ForGuard a deep (omega (arith, k .ahead)) in (
+        rw (k .value, k .is, e, next-is s (c .there), next-is s (x .there)),
         omega (arith, k .ahead, expr-ends s a .0, c .there .ahead, x .there .ahead),
       )
   guard-head (skipGuardAt k a) deep later =
-      let t = planned .tells a deep (omega (arith, k .ahead)) in
-      (rw (k .value, k .is, t .next, t .holds), omega (arith, k .ahead, expr-ends s a .0))
+      let e = whole-is ForGuard a deep (omega (arith, k .ahead)) in
+      (rw (k .value, k .is, e), omega (arith, k .ahead, expr-ends s a .0))
 
   -- the parts of a statement, behind some that need m words
   seq-is : {w : Scope} {d k i n : ℕ} {ss : Stmts} (m : ℕ) → StmtsAt s d w k i ss n → d ≤ 32 → mostNeed ss ≤ wordLimit → lo ≤ i
@@ -113,16 +123,14 @@ module _ (s plan : List ℕ) {lo : ℕ} (planned : PlansFrom s lo plan) where
 -- a statement, by a plan that tells of all that begins behind its first byte
 pub extent-is : (s plan : List ℕ) {w : Scope} {d i n : ℕ} {b : Stmt} → PlansFrom s (suc i) plan → StmtAt s d w i b n → d ≤ 32
     → need b ≤ wordLimit → stmtExtent plan s (valueAt s i) ≡ extended n (need b)
-unfolding stmtExtent countIn simpleExtent declaredExtent need
+unfolding stmtExtent countIn simpleExtent declaredExtent asked need
 extent-is s plan p (skipAt k) deep l = rw (k .value, k .is)
 extent-is s plan p (stopAt k) deep l = rw (k .value, k .is)
 extent-is s plan p (assignAt k x e) deep l =
-    let t = p .tells e (omega arith) (omega (arith, k .ahead, x .there .ahead)) in
-    rw (k .value, k .is, next-is s (x .there), t .next, t .holds)
+    rw (k .value, k .is, next-is s (x .there)) (whole-is s plan p ForValue e (omega arith) (omega (arith, k .ahead, x .there .ahead)))
 extent-is s plan p (inputAt k c x) deep l = rw (k .value, k .is, next-is s (c .there), next-is s (x .there))
 extent-is s plan p (outputAt k c e) deep l =
-    let t = p .tells e (omega arith) (omega (arith, k .ahead, c .there .ahead)) in
-    rw (k .value, k .is, next-is s (c .there), t .next, t .holds)
+    rw (k .value, k .is, next-is s (c .there)) (whole-is s plan p ForOutput e (omega arith) (omega (arith, k .ahead, c .there .ahead)))
 extent-is s plan p (varAt k c a) deep l =
     rw (k .value, k .is, c .there .value)
     (names-turn s plan _ _ _ _ (p .measures a (omega arith) (omega arith) (omega (arith, k .ahead, c .there .ahead))) l)

@@ -13,6 +13,7 @@ use Rattle.model.specs.Code.{prefixesOf, bytesIn, functionIn, operandIn, encode
 use Rattle.model.proofs.Coding.Realise.{encode-length}
 use Rattle.instruction.proofs.Stores.{sets-append, sets-comm, sets-join}
 use Rattle.instruction.proofs.Decodes.{coded-is}
+use Rattle.instruction.specs.Codes.{OPR}
 use Rattle.emitter.specs.Emits.{Code, at, plainInto, distanceInto, operationInto}
 
 pub bytes-append : (xs ys : List Instruction) → bytesIn (xs ++ ys) ≡ bytesIn xs + bytesIn ys
@@ -109,7 +110,7 @@ module _ (off : ℕ → ℕ) where
   pub operation-fills : (op : Operation) (n h : ℕ) (o : List ℕ) → n ≡ operationCode op → h + suc (fewest n) < 2 ^ 32
       → operationInto n (at h o) ≡ filled h (operation op ∷ []) o
   unfolding operationInto functionCode
-  operation-fills op n h o e l = rw e (plain-fills opr 0xf0 (operationCode op) h o refl (rw e at l))
+  operation-fills op n h o e l = rw e (plain-fills opr OPR (operationCode op) h o refl (rw e at l))
 
   -- a distance between two places
   pub distance-fills : (f : Function) (b reached user r a h : ℕ) (o : List ℕ) → b ≡ functionCode f * 16
@@ -131,7 +132,7 @@ module _ (off : ℕ → ℕ) where
   pub then-operation : (op : Operation) (n h : ℕ) (xs : List Instruction) (o : List ℕ) → n ≡ operationCode op
       → Room h (xs ++ operation op ∷ []) → operationInto n (filled h xs o) ≡ filled h (xs ++ operation op ∷ []) o
   unfolding operationInto functionCode
-  then-operation op n h xs o e l = rw e (then-plain opr 0xf0 (operationCode op) h xs o refl l)
+  then-operation op n h xs o e l = rw e (then-plain opr OPR (operationCode op) h xs o refl l)
 
   pub then-distance : (f : Function) (b reached user r a h : ℕ) (xs : List Instruction) (o : List ℕ) → b ≡ functionCode f * 16
       → off reached ≡ r → off (suc user) ≡ a → Room h (xs ++ distance f reached user ∷ [])

@@ -22,6 +22,7 @@ use Rattle.emitter.specs.Exprs.{Wrote, written, wholeInto}
 use Rattle.compiler.specs.Stmts.{seqInto, ifInto}
 use Rattle.model.specs.declared.kinds.StmtKind.the-variants.{Seq, If, While}
 use Rattle.numbers.specs.Kinds.{stmtKind, countIn}
+use Rattle.instruction.specs.Codes.{CJ, J}
 use Rattle.compiler.specs.Kinds.{stmtInto}
 use Rattle.compiler.proofs.Spelled.{KindAt, ExprAt, CountAt, StmtAt, StmtsAt, noStmtAt, stmtsAt, PairsAt, noPairAt, pairAt}
 use Rattle.compiler.proofs.Planned.{Plans}
@@ -63,8 +64,8 @@ module _ (word : Site → ℕ) (workspace : ℕ → ℕ) (off : ℕ → ℕ) (s 
         let b = stmtInto d (scopeOf w sc) vs cs plan s (t .next) (at begin (t .out)) in
         let next = low (b .here + 4) in
         let r = rest (b .next) (at next (b .out)) in
-        let j = distanceInto 0 (reached (r .here)) next (at (b .here) (r .out)) in
-        let cj = distanceInto 0xa0 next begin (at (t .here) (j .out)) in
+        let j = distanceInto J (reached (r .here)) next (at (b .here) (r .out)) in
+        let cj = distanceInto CJ next begin (at (t .here) (j .out)) in
         record { next = r .next; here = r .here; out = cj .out }
 
     -- the place of the J that leaves a tested body
@@ -124,7 +125,7 @@ module _ (word : Site → ℕ) (workspace : ℕ → ℕ) (off : ℕ → ℕ) (s 
           after .1,
           distance-fills off I.j 0 over leave _ next (begin + bytesIn B) _ refl (after .0) (rw left (stands-first off rest-stands))
               (omega arith),
-          distance-fills off cj 0xa0 (leave + 1) test _ begin (h + bytesIn E) _ refl (stands-first off rest-stands)
+          distance-fills off cj CJ (leave + 1) test _ begin (h + bytesIn E) _ refl (stands-first off rest-stands)
               (rw tested (stands-first off body-stands)) (omega arith),
           end,
           all,

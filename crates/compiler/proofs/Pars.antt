@@ -24,6 +24,7 @@ use Rattle.emitter.specs.Exprs.{written}
 use Rattle.compiler.specs.Stmts.{startsEnd, startInto, branchesInto, headerInto, parInto}
 use Rattle.model.specs.declared.kinds.StmtKind.the-variants.{Par}
 use Rattle.numbers.specs.Kinds.{stmtKind, countIn}
+use Rattle.instruction.specs.Codes.{LDC}
 use Rattle.compiler.specs.Kinds.{stmtInto, innerAt}
 use Rattle.compiler.proofs.Spelled.{KindAt, CountAt, StmtAt, StmtsAt, noStmtAt, stmtsAt}
 use Rattle.compiler.proofs.Planned.{Plans}
@@ -68,7 +69,7 @@ module _ (word : Site → ℕ) (workspace : ℕ → ℕ) (off : ℕ → ℕ) (s 
       rw (
         next,
         emits-at off two (st + 4) o (omega arith),
-        distance-fills off ldc 0x40 b (j + 2) hb (st + 4 + bytesIn two) st _ refl is end (omega arith),
+        distance-fills off ldc LDC b (j + 2) hb (st + 4 + bytesIn two) st _ refl is end (omega arith),
       )
       (rw (fill-before off st (distance ldc b (j + 2) ∷ []) two o)
       (ap (λ x. at x (sets o st (encode off (start d j b)))) (omega arith)))
@@ -208,7 +209,7 @@ module _ (word : Site → ℕ) (workspace : ℕ → ℕ) (off : ℕ → ℕ) (s 
           branches-fill (w - 2) (omega arith) scope inner (need b) (j + 6) hs (first + size b + 2) hn
               (sets (sets (sets o h (encode off H)) (ha + 4) (encode off U)) hc (encode off (C ++ L))) c (laid .1) (omega arith)
               (starts .0) ends (omega arith) (omega (arith, bytes, r2)),
-          distance-fills off ldc 0x40 over (j + 2) (hn + bytesIn N) (ha + 4 + bytesIn D) ha _ refl at-over at-user
+          distance-fills off ldc LDC over (j + 2) (hn + bytesIn N) (ha + 4 + bytesIn D) ha _ refl at-over at-user
               (omega (arith, bytes, r2)),
         )
         (let O = sets o h (encode off H) in

@@ -17,6 +17,7 @@ use Rattle.numbers.specs.declared.kinds.Shape.{Shape}
 use Rattle.numbers.specs.declared.kinds.Count.{Count}
 use Rattle.numbers.specs.declared.kinds.Count.the-variants.{UpTo, Fixed}
 use Rattle.numbers.specs.declared.Value.{Value}
+use Rattle.instruction.specs.Codes.{AJW, ALT, ALTEND, ALTWT, CJ, ENDP, J, LDC, LDLP, LDPI, STOPP}
 use Rattle.emitter.specs.Emits.{Code, at, plainInto, distanceInto, operationInto, declaredWords}
 use Rattle.emitter.specs.Exprs.{Wrote, written, codeOf, wholeInto}
 use Rattle.emitter.specs.Extents.{extentIn}
@@ -59,8 +60,8 @@ module _ (d : ℕ) (sc : Scope) (vs cs plan s : List ℕ) where
   body-channels x n i c p t m q e = e ∙ rw (m, q, p, t)
 
   pub declaration-is : (x : Declared) (i : ℕ) (c : Code) {n : Value} {m : ℕ} {a st e : Code} {b : Wrote}
-      → n ≡ valueAt s i → m ≡ minus (n .value) → a ≡ plainInto 0xb0 m c → st ≡ initialInto (n .value) x 0 a
-      → b ≡ bodyAt x (n .value) d sc vs cs plan s (n .next) st → e ≡ plainInto 0xb0 (n .value) (codeOf b)
+      → n ≡ valueAt s i → m ≡ minus (n .value) → a ≡ plainInto AJW m c → st ≡ initialInto (n .value) x 0 a
+      → b ≡ bodyAt x (n .value) d sc vs cs plan s (n .next) st → e ≡ plainInto AJW (n .value) (codeOf b)
       → written (b .next) e ≡ declarationAt x d sc vs cs plan s i c
   unfolding declarationAt bodyAt
   declaration-is x i c pn pm pa pst pb pe = rw (pe, pb, pst, pa, pm, pn)
@@ -77,14 +78,14 @@ module _ (d : ℕ) (sc : Scope) (vs cs plan s : List ℕ) where
   seq-more (suc n) i c l pp pr = let e : suc n - 1 ≡ n = omega arith in pr ∙ rw (pp, e)
 
   -- IF
-  pub if-none : (n i : ℕ) (c : Code) {e : Code} → n ≡ 0 → e ≡ operationInto 21 c → written i e ≡ ifAt n d sc vs cs plan s i c
+  pub if-none : (n i : ℕ) (c : Code) {e : Code} → n ≡ 0 → e ≡ operationInto STOPP c → written i e ≡ ifAt n d sc vs cs plan s i c
   unfolding ifAt ifInto
   if-none n i c z pe = rw (pe, z)
 
   pub if-more : (n i : ℕ) (c : Code) {t b r : Wrote} {begin next : ℕ} {j cj : Code} → (n ≡ 0 → ⊥)
       → t ≡ wholeInto d (sc .w) 0 vs plan s i c → begin ≡ low (t .here + 4) → b ≡ stmtInto d sc vs cs plan s (t .next) (at begin (t .out))
       → next ≡ low (b .here + 4) → r ≡ ifAt (n - 1) d sc vs cs plan s (b .next) (at next (b .out))
-      → j ≡ distanceInto 0 (r .here) next (at (b .here) (r .out)) → cj ≡ distanceInto 0xa0 next begin (at (t .here) (j .out))
+      → j ≡ distanceInto J (r .here) next (at (b .here) (r .out)) → cj ≡ distanceInto CJ next begin (at (t .here) (j .out))
       → record { next = r .next; here = r .here; out = cj .out } ≡ ifAt n d sc vs cs plan s i c
   unfolding ifAt ifInto
   if-more zero i c l pt pg pb pn pr pj pc = absurd (l refl)
@@ -93,15 +94,16 @@ module _ (d : ℕ) (sc : Scope) (vs cs plan s : List ℕ) where
   -- WHILE
   pub while-is : (i : ℕ) (c : Code) {t b : Wrote} {begin end : ℕ} {j cj : Code}
       → t ≡ wholeInto d (sc .w) 0 vs plan s i c → begin ≡ low (t .here + 4) → b ≡ stmtInto d sc vs cs plan s (t .next) (at begin (t .out))
-      → end ≡ low (b .here + 4) → j ≡ distanceInto 0 (c .here) end (at (b .here) (b .out))
-      → cj ≡ distanceInto 0xa0 end begin (at (t .here) (j .out))
+      → end ≡ low (b .here + 4) → j ≡ distanceInto J (c .here) end (at (b .here) (b .out))
+      → cj ≡ distanceInto CJ end begin (at (t .here) (j .out))
       → record { next = b .next; here = end; out = cj .out } ≡ whileAt d sc vs cs plan s i c
   unfolding whileAt
   while-is i c pt pg pb pn pj pc = rw (pc, pj, pn, pb, pg, pt)
 
   -- PAR
   pub branch-is : (b i : ℕ) (c : Code) {w : ℕ} {r : Wrote} {l e : Code} → w ≡ sc .w - b
-      → r ≡ stmtInto d (scoped w (sc .variables) (sc .channels)) vs cs plan s i c → l ≡ plainInto 0x10 b (codeOf r) → e ≡ operationInto 3 l
+      → r ≡ stmtInto d (scoped w (sc .variables) (sc .channels)) vs cs plan s i c → l ≡ plainInto LDLP b (codeOf r)
+      → e ≡ operationInto ENDP l
       → written (r .next) e ≡ branchAt b d sc vs cs plan s i c
   unfolding branchAt
   branch-is b i c pw pr pl pe = rw (pe, pl, pr, pw)
@@ -123,24 +125,24 @@ module _ (d : ℕ) (sc : Scope) (vs cs plan s : List ℕ) where
   par-none n i c e = rw (eq-eqb n 0 e)
 
   pub par-more : (n i : ℕ) (c : Code) {m o g w : ℕ} {a u h l z : Code} {e : Extent} {b r : Wrote}
-      → (n ≡ 0 → ⊥) → m ≡ minus 2 → a ≡ plainInto 0xb0 m c → o ≡ low (a .here + 4) → u ≡ operationInto 27 (at o (a .out))
+      → (n ≡ 0 → ⊥) → m ≡ minus 2 → a ≡ plainInto AJW m c → o ≡ low (a .here + 4) → u ≡ operationInto LDPI (at o (a .out))
       → h ≡ headerInto n u → e ≡ extentIn plan i → g ≡ startsEnd (n - 1) plan (e .next) (e .need) (h .here) → w ≡ sc .w - 2
       → b ≡ branchAt 0 d (scoped w (sc .variables) (sc .channels)) vs cs plan s i (at g (h .out))
       → r ≡ branchesAt (n - 1) d (scoped w (sc .variables) (sc .channels)) vs cs plan s (b .next) (e .need) (h .here) (codeOf b)
-      → l ≡ distanceInto 0x40 (r .here) (u .here) (at (a .here) (r .out)) → z ≡ plainInto 0xb0 2 (at (r .here) (l .out))
+      → l ≡ distanceInto LDC (r .here) (u .here) (at (a .here) (r .out)) → z ≡ plainInto AJW 2 (at (r .here) (l .out))
       → written (r .next) z ≡ parAt n d sc vs cs plan s i c
   unfolding parAt branchAt branchesAt
   par-more n i c q pm pa po pu ph pe pg pw pb pr pl pz =
       rw (pz, pl, pr, pb, pw, pg, pe, ph, pu, po, pa, pm, ne-eqb n 0 q)
 
   -- ALT
-  pub choice-waits : (g : Guard) (c : Code) {a : Code} {i r : Wrote} → a ≡ plainInto 0xb0 1 c
+  pub choice-waits : (g : Guard) (c : Code) {a : Code} {i r : Wrote} → a ≡ plainInto AJW 1 c
       → g .waits ≡ true → i ≡ inInto (sc .w) vs cs s (g .next) a → r ≡ stmtInto d sc vs cs plan s (i .next) (codeOf i)
       → r ≡ choiceAt g d sc vs cs plan s c
   unfolding choiceAt
   choice-waits g c pa t pi pr = pr ∙ rw (pi, pa, t)
 
-  pub choice-skips : (g : Guard) (c : Code) {a : Code} {r : Wrote} → a ≡ plainInto 0xb0 1 c
+  pub choice-skips : (g : Guard) (c : Code) {a : Code} {r : Wrote} → a ≡ plainInto AJW 1 c
       → g .waits ≡ false → r ≡ stmtInto d sc vs cs plan s (g .next) a → r ≡ choiceAt g d sc vs cs plan s c
   unfolding choiceAt
   choice-skips g c pa t pr = pr ∙ rw (pa, t)
@@ -153,16 +155,16 @@ module _ (d : ℕ) (sc : Scope) (vs cs plan s : List ℕ) where
       → (n ≡ 0 → ⊥) → w ≡ sc .w - 1 → g ≡ guardInto d w vs cs plan s i (at dis (c .out))
       → f ≡ disableInto (g .guard) (c .here) base (g .out) → b ≡ choiceAt (g .guard) d sc vs cs plan s (at (c .here) (f .out))
       → next ≡ low (b .here + 4) → r ≡ choicesAt (n - 1) d sc vs cs plan s (b .next) (f .here) base (at next (b .out))
-      → j ≡ distanceInto 0 (r .here) next (at (b .here) (r .out))
+      → j ≡ distanceInto J (r .here) next (at (b .here) (r .out))
       → record { next = r .next; here = r .here; out = j .out } ≡ choicesAt n d sc vs cs plan s i dis base c
   unfolding choicesAt choicesInto choiceAt
   choices-more zero i dis base c l pw pg pf pb pn pr pj = absurd (l refl)
   choices-more (suc n) i dis base c l pw pg pf pb pn pr pj = let e : suc n - 1 ≡ n = omega arith in rw (pj, pr, pn, pb, pf, pg, pw, e)
 
   pub alt-is : (n i : ℕ) (c : Code) {m w o : ℕ} {a b wt end : Code} {e : Enabling} {r : Wrote}
-      → m ≡ minus 1 → a ≡ plainInto 0xb0 m c → b ≡ operationInto 67 a → w ≡ sc .w - 1 → e ≡ enableInto n d w vs cs plan s i 0 b
-      → wt ≡ operationInto 68 (at (e .enabled .here) (e .out)) → o ≡ low (wt .here + e .enabled .disabling)
-      → end ≡ operationInto 69 (at o (wt .out)) → r ≡ choicesAt n d sc vs cs plan s i (wt .here) (end .here) end
+      → m ≡ minus 1 → a ≡ plainInto AJW m c → b ≡ operationInto ALT a → w ≡ sc .w - 1 → e ≡ enableInto n d w vs cs plan s i 0 b
+      → wt ≡ operationInto ALTWT (at (e .enabled .here) (e .out)) → o ≡ low (wt .here + e .enabled .disabling)
+      → end ≡ operationInto ALTEND (at o (wt .out)) → r ≡ choicesAt n d sc vs cs plan s i (wt .here) (end .here) end
       → r ≡ altAt n d sc vs cs plan s i c
   unfolding altAt choicesAt
   alt-is n i c pm pa pb pw pe pt po pz pr = pr ∙ rw (pz, po, pt, pe, pw, pb, pa, pm)

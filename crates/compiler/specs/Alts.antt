@@ -15,6 +15,7 @@ use Rattle.compiler.specs.declared.stmt.Scope.{Scope}
 use Rattle.compiler.specs.declared.alt.Guard.{Guard}
 use Rattle.compiler.specs.declared.alt.Enabled.{Enabled}
 use Rattle.numbers.specs.Kinds.{guardKind, byGuard}
+use Rattle.instruction.specs.Codes.{AJW, ALT, ALTEND, ALTWT, DISC, DISS, ENBC, ENBS, J, LDC, LDLP, REV}
 
 -- a guard's code so far, and the buffer
 pub record Guarded : Type 0 where
@@ -30,7 +31,7 @@ unfoldable pub guardInto : (depth w : ℕ) → (vs cs plan s : List ℕ) → (at
 guardInto d w vs cs p s i c =
     let k = valueAt s i in
     let t = wholeInto d w altWords vs p s (k .next) c in
-    let r = operationInto 0 (plainInto 0x10 (localOf cs (valueAt s (t .next) .value) w) (codeOf t)) in
+    let r = operationInto REV (plainInto LDLP (localOf cs (valueAt s (t .next) .value) w) (codeOf t)) in
     byGuard (guardKind (k .value)) (guarded (record { next = t .next; here = r .here; waits = true }) (r .out))
     (guarded (record { next = t .next; here = t .here; waits = false }) (t .out))
 
@@ -52,17 +53,17 @@ unfoldable pub enableInto : (left depth w : ℕ) → (vs cs plan s : List ℕ) �
 enableInto zero d w vs cs p s i n c = enabling (record { next = i; here = c .here; disabling = n }) (c .out)
 enableInto (suc l) d w vs cs p s i n c =
     let g = guardInto d w vs cs p s i c in
-    let e = operationInto (cond (g .guard .waits) 72 73) (at (g .guard .here) (g .out)) in
+    let e = operationInto (cond (g .guard .waits) ENBC ENBS) (at (g .guard .here) (g .out)) in
     enableInto l d w vs cs p s (extentIn p (behindGuard s (g .guard)) .next) (low (n + low (less (g .guard .here) (c .here) + 6))) e
 
 -- the rest of a guard's disabling. 01: LDC branch, DISC, or LDC branch, DISS
 unfoldable pub disableInto : Guard → (branch base : ℕ) → List ℕ → Code
-disableInto g branch base o = operationInto (cond (g .waits) 47 48) (distanceInto 0x40 branch base (at (g .here) o))
+disableInto g branch base o = operationInto (cond (g .waits) DISC DISS) (distanceInto LDC branch base (at (g .here) o))
 
 -- 01, per branch: AJW 1, the input if any, statement
 abbrev pub choiceInto : Guard → Inner → Scope → (vs cs : List ℕ) → List ℕ → Code → Wrote
 choiceInto g inner sc vs cs s c =
-    let a = plainInto 0xb0 1 c in
+    let a = plainInto AJW 1 c in
     let i = inInto (sc .w) vs cs s (g .next) a in
     cond (g .waits) (inner sc vs cs (i .next) (codeOf i)) (inner sc vs cs (g .next) a)
 
@@ -75,13 +76,13 @@ choicesInto (suc l) d inner sc vs cs p s i dis base c =
     let b = choiceInto (g .guard) inner sc vs cs s (at (c .here) (f .out)) in
     let next = low (b .here + 4) in
     let r = choicesInto l d inner sc vs cs p s (b .next) (f .here) base (at next (b .out)) in
-    let j = distanceInto 0 (r .here) next (at (b .here) (r .out)) in
+    let j = distanceInto J (r .here) next (at (b .here) (r .out)) in
     record { next = r .next; here = r .here; out = j .out }
 
 -- 01, ALT: AJW -1, ALT, the enabling, ALTWT, the disabling, ALTEND, the branches
 abbrev pub altInto : (count depth : ℕ) → Inner → Scope → (vs cs plan s : List ℕ) → (at : ℕ) → Code → Wrote
 altInto n d inner sc vs cs p s i c =
-    let e = enableInto n d (sc .w - 1) vs cs p s i 0 (operationInto 67 (plainInto 0xb0 (minus 1) c)) in
-    let wt = operationInto 68 (at (e .enabled .here) (e .out)) in
-    let end = operationInto 69 (at (low (wt .here + e .enabled .disabling)) (wt .out)) in
+    let e = enableInto n d (sc .w - 1) vs cs p s i 0 (operationInto ALT (plainInto AJW (minus 1) c)) in
+    let wt = operationInto ALTWT (at (e .enabled .here) (e .out)) in
+    let end = operationInto ALTEND (at (low (wt .here + e .enabled .disabling)) (wt .out)) in
     choicesInto n d inner sc vs cs p s i (wt .here) (end .here) end

@@ -12,15 +12,16 @@ use Rattle.compiler.specs.declared.stmt.Scope.{Scope}
 use Rattle.numbers.specs.Items.{valueAt}
 use Rattle.numbers.specs.Kinds.{byDeclared}
 use Rattle.numbers.specs.declared.kinds.Declared.{Declared}
+use Rattle.instruction.specs.Codes.{AJW, CJ, ENDP, J, LDC, LDLP, LDPI, MINT, STARTP, STL, STOPP}
 
 -- what a declared word starts as. 01: VAR LDC 0, CHAN the same with MINT
 unfoldable pub firstInto : Declared → Code → Code
-firstInto x c = byDeclared x (plainInto 0x40 0 c) (operationInto 66 c)
+firstInto x c = byDeclared x (plainInto LDC 0 c) (operationInto MINT c)
 
 -- so many words from the j-th on. 01: then STL j
 unfoldable pub initialInto : (left : ℕ) → Declared → (j : ℕ) → Code → Code
 initialInto zero x j c = c
-initialInto (suc n) x j c = initialInto n x (low (j + 1)) (plainInto 0xd0 j (firstInto x c))
+initialInto (suc n) x j c = initialInto n x (low (j + 1)) (plainInto STL j (firstInto x c))
 
 -- a generator of the statements inside
 abbrev pub Inner : Type 0
@@ -45,8 +46,8 @@ bodyInto x n inner sc vs cs at c =
 abbrev pub declarationInto : Declared → Inner → Scope → (vs cs : List ℕ) → List ℕ → (at : ℕ) → Code → Wrote
 declarationInto x inner sc vs cs s at c =
     let n = valueAt s at in
-    let b = bodyInto x (n .value) inner sc vs cs (n .next) (initialInto (n .value) x 0 (plainInto 0xb0 (minus (n .value)) c)) in
-    written (b .next) (plainInto 0xb0 (n .value) (codeOf b))
+    let b = bodyInto x (n .value) inner sc vs cs (n .next) (initialInto (n .value) x 0 (plainInto AJW (minus (n .value)) c)) in
+    written (b .next) (plainInto AJW (n .value) (codeOf b))
 
 -- SEQ: so many parts
 unfoldable pub seqInto : (left : ℕ) → (ℕ → Code → Wrote) → (at : ℕ) → Code → Wrote
@@ -55,15 +56,15 @@ seqInto (suc i) inner at c = let p = inner at c in seqInto i inner (p .next) (co
 
 -- 01, IF, per pair: condition, CJ next, statement, J end; the last pair too. 02, order 1: STOPP after the last pair, before the end
 unfoldable pub ifInto : (left depth w : ℕ) → List ℕ → (ℕ → Code → Wrote) → (plan s : List ℕ) → (at : ℕ) → Code → Wrote
-ifInto zero d w vs inner p s i c = written i (operationInto 21 c)
+ifInto zero d w vs inner p s i c = written i (operationInto STOPP c)
 ifInto (suc n) d w vs inner p s i c =
     let t = wholeInto d w 0 vs p s i c in
     let begin = low (t .here + 4) in
     let b = inner (t .next) (at begin (t .out)) in
     let next = low (b .here + 4) in
     let r = ifInto n d w vs inner p s (b .next) (at next (b .out)) in
-    let j = distanceInto 0 (r .here) next (at (b .here) (r .out)) in
-    let cj = distanceInto 0xa0 next begin (at (t .here) (j .out)) in
+    let j = distanceInto J (r .here) next (at (b .here) (r .out)) in
+    let cj = distanceInto CJ next begin (at (t .here) (j .out)) in
     record { next = r .next; here = r .here; out = cj .out }
 
 -- 01, WHILE: condition, CJ end, body, J start
@@ -73,8 +74,8 @@ whileInto d w vs inner p s i c =
     let begin = low (t .here + 4) in
     let b = inner (t .next) (at begin (t .out)) in
     let end = low (b .here + 4) in
-    let j = distanceInto 0 (c .here) end (at (b .here) (b .out)) in
-    let cj = distanceInto 0xa0 end begin (at (t .here) (j .out)) in
+    let j = distanceInto J (c .here) end (at (b .here) (b .out)) in
+    let cj = distanceInto CJ end begin (at (t .here) (j .out)) in
     record { next = b .next; here = end; out = cj .out }
 
 -- the place after the starts of so many branches, the first of which runs d words below
@@ -87,15 +88,15 @@ startsEnd (suc n) p i d h =
 -- 01, for each branch from the second: LDC start, LDLP -d, STARTP
 unfoldable pub startInto : (d start : ℕ) → Code → Code
 startInto d start c =
-    let e = operationInto 13 (plainInto 0x10 (minus d) (at (low (c .here + 4)) (c .out))) in
-    let f = distanceInto 0x40 start (e .here) (at (c .here) (e .out)) in
+    let e = operationInto STARTP (plainInto LDLP (minus d) (at (low (c .here + 4)) (c .out))) in
+    let f = distanceInto LDC start (e .here) (at (c .here) (e .out)) in
     at (e .here) (f .out)
 
 -- a branch d words below. 01: its code, LDLP d, ENDP
 abbrev pub branchInto : (d : ℕ) → Inner → Scope → (vs cs : List ℕ) → (at : ℕ) → Code → Wrote
 branchInto d inner sc vs cs i c =
     let b = inner (lowered d sc) vs cs i c in
-    written (b .next) (operationInto 3 (plainInto 0x10 d (codeOf b)))
+    written (b .next) (operationInto ENDP (plainInto LDLP d (codeOf b)))
 
 -- so many branches from the second on, each with its start
 unfoldable pub branchesInto : (left : ℕ) → Inner → Scope → (vs cs plan : List ℕ) → (at d start : ℕ) → Code → Wrote
@@ -107,17 +108,17 @@ branchesInto (suc n) inner sc vs cs p i d start c =
 
 -- what follows LDPI. 01: STL 0; LDC count, STL 1
 unfoldable pub headerInto : (count : ℕ) → Code → Code
-headerInto n c = plainInto 0xd0 1 (plainInto 0x40 n (plainInto 0xd0 0 c))
+headerInto n c = plainInto STL 1 (plainInto LDC n (plainInto STL 0 c))
 
 -- 01, PAR with branches: AJW -2; LDC end, LDPI, STL 0; LDC count, STL 1; the starts; the branches; AJW 2. PAR of none: no code
 abbrev pub parInto : (count : ℕ) → Inner → Scope → (vs cs plan : List ℕ) → (at : ℕ) → Code → Wrote
 parInto n inner sc vs cs p i c =
-    let a = plainInto 0xb0 (minus 2) c in
-    let u = operationInto 27 (at (low (a .here + 4)) (a .out)) in
+    let a = plainInto AJW (minus 2) c in
+    let u = operationInto LDPI (at (low (a .here + 4)) (a .out)) in
     let h = headerInto n u in
     let e = extentIn p i in
     let begin = startsEnd (n - 1) p (e .next) (e .need) (h .here) in
     let one = branchInto 0 inner (lowered 2 sc) vs cs i (at begin (h .out)) in
     let r = branchesInto (n - 1) inner (lowered 2 sc) vs cs p (one .next) (e .need) (h .here) (codeOf one) in
-    let l = distanceInto 0x40 (r .here) (u .here) (at (a .here) (r .out)) in
-    cond (eqb n 0) (written i c) (written (r .next) (plainInto 0xb0 2 (at (r .here) (l .out))))
+    let l = distanceInto LDC (r .here) (u .here) (at (a .here) (r .out)) in
+    cond (eqb n 0) (written i c) (written (r .next) (plainInto AJW 2 (at (r .here) (l .out))))

@@ -8,6 +8,7 @@ use lib.Dec.{ltb}
 use Rattle.model.specs.Word.{low, less}
 use Rattle.model.specs.Prefix.{fewest}
 use Rattle.instruction.specs.Coded.{coded}
+use Rattle.instruction.specs.Codes.{OPR}
 
 -- the place of the next byte, and the buffer
 pub record Code : Type 0 where
@@ -28,7 +29,7 @@ distanceInto f r a c = record { here = low (c .here + 4); out = sets (c .out) (c
 
 -- an operation, as the operand of OPR
 unfoldable pub operationInto : ℕ → Code → Code
-operationInto o c = plainInto 0xf0 o c
+operationInto o c = plainInto OPR o c
 
 -- a name's word. 01: word operands count from W as adjusted at that place
 unfoldable pub localOf : List ℕ → (name w : ℕ) → ℕ

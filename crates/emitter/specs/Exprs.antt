@@ -1,10 +1,12 @@
 -- The code of expressions as the generator writes it, by places of the table (01, "Workspace and code"; 02, order 2).
 use Prim.Native.Nat.{ℕ, zero, suc, _+_, _-_}
-use mathlib.Core.Bool.{cond, _&&_}
+use mathlib.Core.Bool.{cond}
 use mathlib.Core.List.{List}
-use lib.Dec.{ltb, eqb}
+use lib.Dec.{eqb}
 use Rattle.model.specs.Word.{low, minus}
-use Rattle.model.specs.Limits.{registerLimit}
+use Rattle.model.specs.Counts.{orderOf}
+use Rattle.model.specs.declared.kinds.Order.{Order}
+use Rattle.model.specs.declared.kinds.Order.the-variants.{LeftFirst, RightFirst, RightStored}
 use Rattle.numbers.specs.Items.{valueAt}
 use Rattle.emitter.specs.Emits.{Code, at, plainInto, operationInto, localOf}
 use Rattle.emitter.specs.Plans.{nextIn, registersIn, storedIn, planAt}
@@ -12,8 +14,8 @@ use Rattle.emitter.specs.declared.expr.Done.{Done}
 use Rattle.emitter.specs.declared.sides.Sides.{Sides}
 use Rattle.numbers.specs.Kinds.{exprKind, byExpr, operatorOf}
 use Rattle.model.specs.declared.kinds.Operator.{Operator}
-use Rattle.model.specs.declared.kinds.Operator.the-variants.{Plus as PLUS, Minus as MINUS, Times as TIMES, Gt as GT, Eq as EQ, And as AND}
-use Rattle.model.specs.declared.kinds.Operator.the-variants.{Or as OR, Xor as XOR}
+use Rattle.model.specs.declared.kinds.Operator.the-variants.{Plus, Minus, Times, Gt, Eq, And, Or, Xor}
+use Rattle.instruction.specs.Codes.{AJW, AND, DIFF, EQC, GT, LDC, LDL, OR, PROD, REV, STL, SUM, XOR}
 
 -- the place after what was compiled, the place after its code, and the buffer
 pub record Wrote : Type 0 where
@@ -33,61 +35,50 @@ written n c = record { next = n; here = c .here; out = c .out }
 abbrev pub codeOf : Wrote → Code
 codeOf r = record { here = r .here; out = r .out }
 
--- the orders of two sides by number
-abbrev pub leftFirstOrder : ℕ
-leftFirstOrder = 0
-
-abbrev pub rightFirstOrder : ℕ
-rightFirstOrder = 1
-
-abbrev pub rightStoredOrder : ℕ
-rightStoredOrder = 2
-
 -- an operator. 01: SUM, DIFF, PROD, GT, AND, OR, XOR; EQ is DIFF, EQC 0
 unfoldable pub operatorInto : Operator → Code → Code
-operatorInto PLUS c = operationInto 82 c
-operatorInto MINUS c = operationInto 4 c
-operatorInto TIMES c = operationInto 8 c
-operatorInto GT c = operationInto 9 c
-operatorInto EQ c = plainInto 0xc0 0 (operationInto 4 c)
-operatorInto AND c = operationInto 70 c
-operatorInto OR c = operationInto 75 c
-operatorInto XOR c = operationInto 51 c
+operatorInto Plus c = operationInto SUM c
+operatorInto Minus c = operationInto DIFF c
+operatorInto Times c = operationInto PROD c
+operatorInto Gt c = operationInto GT c
+operatorInto Eq c = plainInto EQC 0 (operationInto DIFF c)
+operatorInto And c = operationInto AND c
+operatorInto Or c = operationInto OR c
+operatorInto Xor c = operationInto XOR c
 
 -- 01: LDC a constant, LDL a variable
 unfoldable pub constantInto : List ℕ → (at : ℕ) → Code → Wrote
-constantInto s at c = let v = valueAt s at in written (v .next) (plainInto 0x40 (v .value) c)
+constantInto s at c = let v = valueAt s at in written (v .next) (plainInto LDC (v .value) c)
 
 unfoldable pub variableInto : (w : ℕ) → (vs s : List ℕ) → (at : ℕ) → Code → Wrote
-variableInto w vs s at c = let v = valueAt s at in written (v .next) (plainInto 0x70 (localOf vs (v .value) w) c)
-
--- the order of two sides by their registers, as a number: left first, right first, or right first and stored (02, order 2)
-unfoldable pub orderNumber : (left right : ℕ) → ℕ
-orderNumber l r = cond (ltb l r) rightFirstOrder (cond (eqb l registerLimit && eqb r registerLimit) rightStoredOrder leftFirstOrder)
+variableInto w vs s at c = let v = valueAt s at in written (v .next) (plainInto LDL (localOf vs (v .value) w) c)
 
 -- between two sides: STL where the first value is stored, as number h
-unfoldable pub betweenInto : (order h : ℕ) → Code → Code
-betweenInto o h c = cond (eqb o rightStoredOrder) (plainInto 0xd0 h c) c
+unfoldable pub betweenInto : Order → (h : ℕ) → Code → Code
+betweenInto LeftFirst h c = c
+betweenInto RightFirst h c = c
+betweenInto RightStored h c = plainInto STL h c
 
 -- behind two sides: REV where right went first, LDL where it was stored
-unfoldable pub behindInto : (order h : ℕ) → Code → Code
-behindInto o h c = cond (eqb o rightFirstOrder) (operationInto 0 c) (cond (eqb o rightStoredOrder) (plainInto 0x70 h c) c)
+unfoldable pub behindInto : Order → (h : ℕ) → Code → Code
+behindInto LeftFirst h c = c
+behindInto RightFirst h c = operationInto REV c
+behindInto RightStored h c = plainInto LDL h c
 
--- two sides, the left one at a place, with h values held before: their order, the side that goes first, the other side and the values held
--- before it, and the place after both. The plan tells where right is and which goes first
+-- two sides at their places, with h values held before: their order, the side that goes first, the other side and the values held before
+-- it, and the place after both
+abbrev pub inOrder : Order → (h left right next : ℕ) → Sides
+inOrder LeftFirst h l r n = record { order = LeftFirst; first = l; second = r; held = h; next = n }
+inOrder RightFirst h l r n = record { order = RightFirst; first = r; second = l; held = h; next = n }
+inOrder RightStored h l r n = record { order = RightStored; first = r; second = l; held = low (h + 1); next = n }
+
+-- the same of the left one's place. The plan tells where right is and which goes first
 abbrev pub arranged : (plan : List ℕ) → (h at : ℕ) → Sides
 arranged p h at =
     let l = planAt p at in
     let right = nextIn l in
     let r = planAt p right in
-    let o = orderNumber (registersIn l) (registersIn r) in
-    record {
-      order = o;
-      first = cond (eqb o leftFirstOrder) at right;
-      second = cond (eqb o leftFirstOrder) right at;
-      held = cond (eqb o rightStoredOrder) (low (h + 1)) h;
-      next = nextIn r;
-    }
+    inOrder (orderOf (registersIn l) (registersIn r)) h at right (nextIn r)
 
 -- two sides, the left one at a place, apart from the operator; h values are held before
 abbrev pub sidesInto : (inner : (held at : ℕ) → Code → Wrote) → (plan : List ℕ) → (h at : ℕ) → Code → Wrote
@@ -106,7 +97,7 @@ operatedInto inner p s h at c =
 
 -- 01: NOT is EQC 0
 abbrev pub notInto : Wrote → Wrote
-notInto r = written (r .next) (plainInto 0xc0 0 (codeOf r))
+notInto r = written (r .next) (plainInto EQC 0 (codeOf r))
 
 -- an expression by its kind; h values are held before
 unfoldable pub exprInto : (depth w : ℕ) → (vs plan s : List ℕ) → (h at : ℕ) → Code → Wrote
@@ -131,7 +122,7 @@ lowering t more = cond (eqb t 0) 0 (low (t + more))
 
 -- AJW where W is lowered
 unfoldable pub adjustInto : (lowered operand : ℕ) → Code → Code
-adjustInto n operand c = cond (eqb n 0) c (plainInto 0xb0 operand c)
+adjustInto n operand c = cond (eqb n 0) c (plainInto AJW operand c)
 
 -- a whole expression. 02, order 2: wrapped in AJW -t and AJW t, in an ALT's guards in AJW -t-5 and AJW t + 5
 unfoldable pub wholeInto : (depth w more : ℕ) → (vs plan s : List ℕ) → (at : ℕ) → Code → Wrote

@@ -7,12 +7,14 @@ use lib.ListN.{getD}
 use lib.Dec.{ltb}
 use Rattle.model.specs.Limits.{tableLimit}
 use Rattle.model.specs.Word.{low}
-use Rattle.model.specs.Counts.{guardWords}
+use Rattle.counts.specs.Words.{asked, leastWords}
+use Rattle.counts.specs.declared.Role.{Role}
+use Rattle.counts.specs.declared.Role.the-variants.{Value as ForValue, Output as ForOutput, Guard as ForGuard}
 use Rattle.numbers.specs.Items.{valueAt}
 use Rattle.numbers.specs.declared.Value.{Value}
 use Rattle.emitter.specs.Plans.{nextOf, nextIn, storedIn, planAt}
 use Rattle.emitter.specs.declared.extent.Extent.{Extent}
-use Rattle.numbers.specs.Kinds.{stmtKind, guardKind, byGuard, byHead, byShape, shapeOf, countIn, leastWords}
+use Rattle.numbers.specs.Kinds.{stmtKind, guardKind, byGuard, byHead, byShape, shapeOf, countIn}
 use Rattle.numbers.specs.declared.kinds.Simple.{Simple}
 use Rattle.numbers.specs.declared.kinds.Simple.the-variants.{Skip, Stop, Assign, Input, Output}
 use Rattle.numbers.specs.declared.kinds.Head.{Head}
@@ -35,26 +37,28 @@ statementAt p at = cond (ltb at tableLimit) (getD p (tableLimit + at) 0) 0
 unfoldable pub extentIn : (plan : List ℕ) → (at : ℕ) → Extent
 extentIn p at = let e = statementAt p at in extended (e / 2 ^ 16) (e % 2 ^ 16)
 
--- what follows the kind of a statement without statements inside. 01: SKIP, STOP, assignment 2; input 3; output 4. 02, order 2: at least
--- t + 2, an output t + 3
+-- the place after an expression that stands in no other, and the words that it asks for
+unfoldable pub wholeExtent : Role → (plan : List ℕ) → (at : ℕ) → Extent
+wholeExtent r p at = let e = planAt p at in extended (nextIn e) (asked r (storedIn e))
+
+-- what follows the kind of a statement without statements inside. 01: SKIP, STOP 2; input 3
 unfoldable pub simpleExtent : Simple → (plan s : List ℕ) → (at : ℕ) → Extent
 simpleExtent Skip p s at = extended at 2
 simpleExtent Stop p s at = extended at 2
-simpleExtent Assign p s at = let e = planAt p (nextOf s at) in extended (nextIn e) (storedIn e + 2)
+simpleExtent Assign p s at = wholeExtent ForValue p (nextOf s at)
 simpleExtent Input p s at = extended (nextOf s (nextOf s at)) 3
-simpleExtent Output p s at = let e = planAt p (nextOf s at) in extended (nextIn e) (max 4 (storedIn e + 3))
+simpleExtent Output p s at = wholeExtent ForOutput p (nextOf s at)
 
--- the place after a guard, and the words that its condition asks for. 02, order 2: at least t + 8
+-- the place after a guard, and the words that its condition asks for
 unfoldable pub guardExtent : (plan s : List ℕ) → (at : ℕ) → Extent
 guardExtent p s at =
     let k = valueAt s at in
-    let e = planAt p (k .next) in
-    let c = nextIn e in
-    extended (byGuard (guardKind (k .value)) (nextOf s (nextOf s c)) c) (guardWords (storedIn e))
+    let e = wholeExtent ForGuard p (k .next) in
+    byGuard (guardKind (k .value)) (extended (nextOf s (nextOf s (e .next))) (e .need)) e
 
 -- the place after what stands before the statement of a part, and the words that it asks for
 unfoldable pub headExtent : Head → (plan s : List ℕ) → (at : ℕ) → Extent
-headExtent h p s at = let e = planAt p at in byHead h (extended at 0) (extended (nextIn e) (storedIn e + 2)) (guardExtent p s at)
+headExtent h p s at = byHead h (extended at 0) (wholeExtent ForValue p at) (guardExtent p s at)
 
 -- what is needed with one more part. 01: PAR the sum of branches; SEQ, IF, WHILE, ALT the most of the parts
 abbrev pub joined : (beside : Bool) → (before part : ℕ) → ℕ

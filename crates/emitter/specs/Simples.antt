@@ -7,21 +7,22 @@ use Rattle.emitter.specs.Emits.{Code, plainInto, operationInto, localOf}
 use Rattle.emitter.specs.Exprs.{Wrote, written, codeOf, wholeInto}
 use Rattle.numbers.specs.declared.kinds.Simple.{Simple}
 use Rattle.numbers.specs.declared.kinds.Simple.the-variants.{Skip, Stop, Assign, Input, Output}
+use Rattle.instruction.specs.Codes.{AJW, IN, LDC, LDLP, OUTWORD, REV, STL, STOPP}
 
 -- 01, input: LDLP variable, LDLP channel, LDC 4, IN
 unfoldable pub inputInto : (channel variable : ℕ) → Code → Code
-inputInto ch x c = operationInto 7 (plainInto 0x40 4 (plainInto 0x10 ch (plainInto 0x10 x c)))
+inputInto ch x c = operationInto IN (plainInto LDC 4 (plainInto LDLP ch (plainInto LDLP x c)))
 
 -- 01, output, behind the value: LDLP channel, REV, AJW -1, OUTWORD, AJW 1
 unfoldable pub outputInto : (channel : ℕ) → Code → Code
-outputInto ch c = plainInto 0xb0 1 (operationInto 15 (plainInto 0xb0 (minus 1) (operationInto 0 (plainInto 0x10 ch c))))
+outputInto ch c = plainInto AJW 1 (operationInto OUTWORD (plainInto AJW (minus 1) (operationInto REV (plainInto LDLP ch c))))
 
 -- 01, assign: value, STL
 unfoldable pub assignInto : (depth w : ℕ) → (vs plan s : List ℕ) → (at : ℕ) → Code → Wrote
 assignInto d w vs p s at c =
     let x = valueAt s at in
     let e = wholeInto d w 0 vs p s (x .next) c in
-    written (e .next) (plainInto 0xd0 (localOf vs (x .value) w) (codeOf e))
+    written (e .next) (plainInto STL (localOf vs (x .value) w) (codeOf e))
 
 -- an input: channel and variable of the table
 unfoldable pub inInto : (w : ℕ) → (vs cs : List ℕ) → List ℕ → (at : ℕ) → Code → Wrote
@@ -40,7 +41,7 @@ outInto d w vs cs p s at c =
 -- what follows the kind of a statement without statements inside: SKIP has no code. 01: STOP is STOPP
 unfoldable pub simpleInto : Simple → (depth w : ℕ) → (vs cs plan s : List ℕ) → (at : ℕ) → Code → Wrote
 simpleInto Skip d w vs cs p s at c = written at c
-simpleInto Stop d w vs cs p s at c = written at (operationInto 21 c)
+simpleInto Stop d w vs cs p s at c = written at (operationInto STOPP c)
 simpleInto Assign d w vs cs p s at c = assignInto d w vs p s at c
 simpleInto Input d w vs cs p s at c = inInto w vs cs s at c
 simpleInto Output d w vs cs p s at c = outInto d w vs cs p s at c

@@ -95,7 +95,8 @@ fn gen_sides(
         out,
         here,
     );
-    let next = crate::sides::put_between(sides.order, held, out, one.here);
+    let order = sides.order;
+    let next = crate::sides::put_between(order, held, out, one.here);
     let two = gen_expr(
         table,
         plan,
@@ -107,7 +108,7 @@ fn gen_sides(
         out,
         next,
     );
-    let end = crate::sides::put_behind(sides.order, held, out, two.here);
+    let end = crate::sides::put_behind(order, held, out, two.here);
     Done {
         next: sides.next,
         here: end,

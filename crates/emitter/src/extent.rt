@@ -1,9 +1,8 @@
 // The place after a part, and the words that a statement needs: each statement by the entries of later places, without recursion.
 ghost use mathlib.Core.Path.{_≡_};
-ghost use Rattle.model.specs.Counts.{guardWords};
-ghost use Rattle.emitter.specs.Plans.{storedIn};
-ghost use Rattle.emitter.specs.Extents.{extentEntry, statementAt, extentIn, simpleExtent, guardExtent, headExtent, joined as needed};
-ghost use Rattle.emitter.specs.Extents.{partsExtent, declaredExtent, stmtExtent};
+ghost use Rattle.emitter.specs.Extents.{extentEntry, statementAt, extentIn, wholeExtent, simpleExtent, guardExtent, headExtent};
+ghost use Rattle.emitter.specs.Extents.{joined as needed, partsExtent, declaredExtent, stmtExtent};
+use counts::Role;
 use model::kinds::GuardKind;
 use numbers::kinds::Head;
 use numbers::kinds::Shape;
@@ -44,43 +43,37 @@ pub fn extent_in(plan: &[u32; 32768], at: usize) -> Extent
     }
 }
 
+// The place after an expression that stands in no other, and the words that it asks for.
+fn whole_extent(plan: &[u32; 32768], at: usize, role: Role) -> Extent
+    ensures { λ r. ⌜ r ≡ wholeExtent role (now (plan .entry)) at ⌝ }
+{
+    let entry = crate::plan::entry_at(plan, at);
+    Extent {
+        next: crate::plan::next_in(entry),
+        need: counts::ask(role, crate::plan::stored_in(entry)),
+    }
+}
+
 // What follows the kind of a statement without statements inside.
 fn simple_extent(table: &[u8], plan: &[u32; 32768], at: usize, simple: Simple) -> Extent
     ensures { λ r. ⌜ r ≡ simpleExtent simple (now (plan .entry)) (now (table .entry)) at ⌝ }
 {
     match simple {
-        Simple::Skip => Extent { next: at, need: 2 },
-        Simple::Stop => Extent { next: at, need: 2 },
-        Simple::Assign => {
-            let value = crate::plan::entry_at(plan, numbers::skip(table, at));
-            Extent {
-                next: crate::plan::next_in(value),
-                need: crate::plan::stored_in(value) + 2,
-            }
-        }
+        Simple::Skip => Extent {
+            next: at,
+            need: counts::IDLE_WORDS,
+        },
+        Simple::Stop => Extent {
+            next: at,
+            need: counts::IDLE_WORDS,
+        },
+        Simple::Assign => whole_extent(plan, numbers::skip(table, at), Role::Value),
         Simple::Input => Extent {
             next: numbers::skip(table, numbers::skip(table, at)),
-            need: 3,
+            need: counts::INPUT_WORDS,
         },
-        Simple::Output => {
-            let value = crate::plan::entry_at(plan, numbers::skip(table, at));
-            Extent {
-                next: crate::plan::next_in(value),
-                need: crate::plan::larger(4, crate::plan::stored_in(value) + 3),
-            }
-        }
+        Simple::Output => whole_extent(plan, numbers::skip(table, at), Role::Output),
     }
-}
-
-// The words that a guard's condition asks for, by its entry.
-fn guard_words(condition: u32) -> u32
-    ensures { λ r. ⌜ r ≡ guardWords (storedIn condition) ⌝ }
-{
-    let stored = crate::plan::stored_in(condition);
-    if stored == 0 {
-        return 0;
-    }
-    stored + 8
 }
 
 // The place after a guard, and the words that its condition asks for.
@@ -88,18 +81,13 @@ fn guard_extent(table: &[u8], plan: &[u32; 32768], at: usize) -> Extent
     ensures { λ r. ⌜ r ≡ guardExtent (now (plan .entry)) (now (table .entry)) at ⌝ }
 {
     let number = numbers::value_at(table, at);
-    let condition = crate::plan::entry_at(plan, number.next);
-    let behind = crate::plan::next_in(condition);
-    let need = guard_words(condition);
+    let condition = whole_extent(plan, number.next, Role::Guard);
     match numbers::kinds::guard_kind(number.value as u64) {
         GuardKind::Input => Extent {
-            next: numbers::skip(table, numbers::skip(table, behind)),
-            need: need,
+            next: numbers::skip(table, numbers::skip(table, condition.next)),
+            need: condition.need,
         },
-        GuardKind::Skip => Extent {
-            next: behind,
-            need: need,
-        },
+        GuardKind::Skip => condition,
     }
 }
 
@@ -109,13 +97,7 @@ fn head_extent(table: &[u8], plan: &[u32; 32768], at: usize, head: Head) -> Exte
 {
     match head {
         Head::Nothing => Extent { next: at, need: 0 },
-        Head::Condition => {
-            let condition = crate::plan::entry_at(plan, at);
-            Extent {
-                next: crate::plan::next_in(condition),
-                need: crate::plan::stored_in(condition) + 2,
-            }
-        }
+        Head::Condition => whole_extent(plan, at, Role::Value),
         Head::Guard => guard_extent(table, plan, at),
     }
 }
@@ -127,7 +109,7 @@ fn joined(beside: bool, before: u32, part: u32) -> u32
     if beside {
         return word::plus(before, part);
     }
-    crate::plan::larger(before, part)
+    counts::larger(before, part)
 }
 
 // So many parts, each by its entry, behind some that need so many words.
@@ -148,7 +130,7 @@ fn parts_extent(
     while 0 < left {
         let before = head_extent(table, plan, at, head);
         let part = extent_in(plan, before.next);
-        need = joined(beside, crate::plan::larger(need, before.need), part.need);
+        need = joined(beside, counts::larger(need, before.need), part.need);
         at = part.next;
         left -= 1;
     }
@@ -180,11 +162,19 @@ pub fn stmt_extent(table: &[u8], plan: &[u32; 32768], number: numbers::Value) ->
         Shape::Declares(declared) => declared_extent(plan, numbers::value_at(table, number.next)),
         Shape::Branches(count) => {
             let n = numbers::kinds::count_at(table, number.next, count);
-            parts_extent(table, plan, n.next, Head::Nothing, true, n.value, 2)
+            parts_extent(
+                table,
+                plan,
+                n.next,
+                Head::Nothing,
+                true,
+                n.value,
+                counts::PAR_WORDS,
+            )
         }
         Shape::Parts(head, count) => {
             let n = numbers::kinds::count_at(table, number.next, count);
-            let least = numbers::kinds::least_words(head);
+            let least = counts::least_words(head);
             parts_extent(table, plan, n.next, head, false, n.value, least)
         }
     }

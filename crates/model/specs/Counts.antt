@@ -3,6 +3,8 @@ use Prim.Native.Nat.{ℕ, zero, suc, _+_, min, max}
 use mathlib.Core.Bool.{cond, _&&_}
 use lib.Dec.{ltb, eqb}
 use Rattle.model.specs.Limits.{registerLimit}
+use Rattle.model.specs.declared.kinds.Order.{Order}
+use Rattle.model.specs.declared.kinds.Order.the-variants.{LeftFirst, RightFirst, RightStored}
 use Rattle.model.specs.Syntax.{Expr, constant, variable, NOT, binary, Stmt, SKIP, STOP, assign, input, output, VAR, CHAN, SEQ, PAR}
 use Rattle.model.specs.Syntax.{IF, WHILE, ALT, Stmts, noStmt, stmt, Pairs, noPair, pair, condition, Guards, noGuard, guard}
 
@@ -17,13 +19,10 @@ registers (variable x) = 1
 registers (NOT e) = registers e
 registers (binary op l r) = sidesNeed (registers l) (registers r)
 
--- how two sides are brought in: left first, then right (01); right first, then left; or the right value is stored while left follows
-pub data Order : Type 0 where
-  leftFirst rightFirst rightStored : Order
-
--- 02, order 2: right goes first where the right side needs more than the left; the right value is stored where both need 3
+-- how two sides are brought in. 02, order 2: right goes first where the right side needs more than the left; the right value is stored
+-- where both need 3
 unfoldable pub orderOf : (left right : ℕ) → Order
-orderOf l r = cond (ltb l r) rightFirst (cond (eqb l registerLimit && eqb r registerLimit) rightStored leftFirst)
+orderOf l r = cond (ltb l r) RightFirst (cond (eqb l registerLimit && eqb r registerLimit) RightStored LeftFirst)
 
 -- the same for two expressions
 abbrev pub order : (left right : Expr) → Order
@@ -31,9 +30,9 @@ order l r = orderOf (registers l) (registers r)
 
 -- the stored values that two sides hold together at most, by what each holds: where the right value is stored, left holds it beside its own
 unfoldable pub sidesHold : Order → (left right : ℕ) → ℕ
-sidesHold leftFirst l r = max l r
-sidesHold rightFirst l r = max l r
-sidesHold rightStored l r = max (suc l) r
+sidesHold LeftFirst l r = max l r
+sidesHold RightFirst l r = max l r
+sidesHold RightStored l r = max (suc l) r
 
 -- 02, order 2, t: the stored values that an expression holds together at most
 unfoldable pub temporaries : Expr → ℕ

@@ -8,7 +8,9 @@ use Rattle.model.specs.Syntax.{noGuard, guard, Program}
 use Rattle.model.specs.declared.kinds.Operator.{Operator}
 use Rattle.model.specs.declared.kinds.Operator.the-variants.{Plus as PLUS, Minus as MINUS, Times as TIMES, Gt as GT, Eq as EQ}
 use Rattle.model.specs.declared.kinds.Operator.the-variants.{And as AND, Or as OR, Xor as XOR}
-use Rattle.model.specs.Counts.{Order, leftFirst, rightFirst, rightStored, order, temporaries, need}
+use Rattle.model.specs.Counts.{order, temporaries, need}
+use Rattle.model.specs.declared.kinds.Order.{Order}
+use Rattle.model.specs.declared.kinds.Order.the-variants.{LeftFirst, RightFirst, RightStored}
 use Rattle.model.specs.Layout.{base, wordOf}
 use Rattle.model.specs.Instruction as I
 use Rattle.model.specs.Instruction.{Instruction, plain, distance, operation, ldlp, ldc, ldl, cj, ajw, eqc, stl, rev, endp, diff, «in»}
@@ -29,9 +31,9 @@ operatorCode XOR = operation I.xor ∷ []
 -- then REV; or right is stored, left follows, and the word is loaded. `h` values are held before: that is the stored value's number, and
 -- left is computed with one more held
 unfoldable pub sidesCode : Order → (h : ℕ) → (left : ℕ → List Instruction) → (right : List Instruction) → List Instruction
-sidesCode leftFirst h left right = left h ++ right
-sidesCode rightFirst h left right = right ++ left h ++ operation rev ∷ []
-sidesCode rightStored h left right = right ++ plain stl h ∷ left (suc h) ++ plain ldl h ∷ []
+sidesCode LeftFirst h left right = left h ++ right
+sidesCode RightFirst h left right = right ++ left h ++ operation rev ∷ []
+sidesCode RightStored h left right = right ++ plain stl h ∷ left (suc h) ++ plain ldl h ∷ []
 
 -- code with t stored values, at w lowered by t and so many words more; without stored values, at w
 unfoldable pub wrapped : (t more w : ℕ) → (ℕ → List Instruction) → List Instruction
@@ -60,9 +62,9 @@ operatorSize XOR = 1
 
 -- how many instructions bring in two sides, by how many each has: REV, or STL and LDL, beside them
 unfoldable pub sidesSize : Order → (left right : ℕ) → ℕ
-sidesSize leftFirst l r = l + r
-sidesSize rightFirst l r = l + r + 1
-sidesSize rightStored l r = l + r + 2
+sidesSize LeftFirst l r = l + r
+sidesSize RightFirst l r = l + r + 1
+sidesSize RightStored l r = l + r + 2
 
 -- how many instructions an expression has
 unfoldable pub exprSize : Expr → ℕ

@@ -1,5 +1,5 @@
 // The kinds and operators of document 01's table ("The program table"). Their numbers stand in specs/Reader.antt, and for the code in
-// crate `numbers`.
+// crate `numbers`. And how an operator's sides are brought in.
 
 // Statements.
 pub enum StmtKind {
@@ -41,4 +41,12 @@ pub enum Operator {
     And,
     Or,
     Xor,
+}
+
+// How two sides are brought in: left first, then right (document 01); right first, then left; or the right value is stored while left
+// follows (document 02, order 2).
+pub enum Order {
+    LeftFirst,
+    RightFirst,
+    RightStored,
 }

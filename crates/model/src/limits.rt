@@ -17,10 +17,10 @@ pub const MEMORY: usize = WORDS as usize;
 pub const DEPTH: u64 = 32;
 
 // Processes that are live together.
-pub const PROCESSES: u64 = 64;
+pub const PROCESSES: u32 = 64;
 
 // The registers that an expression's code may use.
-pub const REGISTERS: u64 = 3;
+pub const REGISTERS: u32 = 3;
 
 // Outside inputs, and outside outputs: as a table's count, and as a start's.
 pub const CHANNELS: u64 = 8;

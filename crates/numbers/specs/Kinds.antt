@@ -107,10 +107,6 @@ abbrev pub byCount : {R : Type 0} → Count → (upTo fixed : R) → R
 byCount (UpTo m) u f = u
 byCount (Fixed n) u f = f
 
--- the least words that a statement of parts needs. 01: SEQ, IF, WHILE at least 2; ALT at least 4
-abbrev pub leastWords : Head → ℕ
-leastWords h = byHead h 2 2 4
-
 -- the count of parts, where one is read, and the place after it
 unfoldable pub countAt : Count → List ℕ → (at : ℕ) → Item
 countAt (UpTo m) s at = betweenAt 0 m s at

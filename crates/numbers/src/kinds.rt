@@ -1,6 +1,6 @@
 // The kinds and operators of document 01's table by their numbers, and how statements of a kind are laid out ("The program table").
 ghost use mathlib.Core.Path.{_≡_};
-ghost use Rattle.numbers.specs.Kinds.{stmtKind, exprKind, guardKind, operatorOf, shapeOf, leastWords, countAt, countIn};
+ghost use Rattle.numbers.specs.Kinds.{stmtKind, exprKind, guardKind, operatorOf, shapeOf, countAt, countIn};
 use model::kinds::ExprKind;
 use model::kinds::GuardKind;
 use model::kinds::Operator;
@@ -153,17 +153,6 @@ pub fn shape_of(kind: StmtKind) -> Shape
         StmtKind::If => Shape::Parts(Head::Condition, Count::UpTo(model::limits::PARTS)),
         StmtKind::While => Shape::Parts(Head::Condition, Count::Fixed(1)),
         StmtKind::Alt => Shape::Parts(Head::Guard, Count::UpTo(model::limits::PARTS)),
-    }
-}
-
-// The least words that a statement of parts needs.
-pub fn least_words(head: Head) -> u32
-    ensures { λ r. ⌜ r ≡ leastWords head ⌝ }
-{
-    match head {
-        Head::Nothing => 2,
-        Head::Condition => 2,
-        Head::Guard => 4,
     }
 }
 

@@ -9,7 +9,8 @@ use Rattle.model.specs.Syntax as M
 use Rattle.model.specs.Reader.{Parsed, onward, pure, Scope, readExpr, Inner, stmtOf, applied, readGuard, guardOf, guardKinds, readStmt}
 use Rattle.model.specs.Usage.{_⊕_, reading, usage, firstClash, guardUsage, usageGuards, firstClashGuards}
 use Rattle.model.specs.Counts.{temporaries, guardWords, processes, need, guardNeed, guardProcesses}
-use Rattle.table.specs.Stmts.{asked, wholeAt, takenAt, Fits, stmtAt, headAt, withHead, withStmt, guardAt, behind, nothing as no-part}
+use Rattle.counts.specs.Words.{asked}
+use Rattle.table.specs.Stmts.{wholeAt, takenAt, Fits, stmtAt, headAt, withHead, withStmt, guardAt, behind, nothing as no-part}
 use Rattle.table.specs.Stmts.{partAt, mostFrom, gathered, takenUses, guardUses, headUses, partUses, stmtUses}
 use Rattle.table.specs.Exprs.{exprUses}
 use Rattle.numbers.specs.declared.Item.the-variants.{Item as Found}
@@ -17,7 +18,7 @@ use Rattle.model.specs.declared.kinds.StmtKind.the-variants.{Alt}
 use Rattle.model.specs.declared.kinds.GuardKind.{GuardKind}
 use Rattle.model.specs.declared.kinds.GuardKind.the-variants.{Input as InputGuard, Skip as SkipGuard}
 use Rattle.numbers.specs.declared.kinds.Head.the-variants.{Guard}
-use Rattle.table.specs.declared.stmt.Role.the-variants.{Guard as ForGuard}
+use Rattle.counts.specs.declared.Role.the-variants.{Guard as ForGuard}
 use Rattle.numbers.specs.Kinds.{guardKind, byGuard}
 use Rattle.table.specs.declared.stmt.Names.{Names}
 use Rattle.table.specs.declared.stmt.StmtRead.{StmtRead}

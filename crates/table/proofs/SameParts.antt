@@ -9,14 +9,15 @@ use Rattle.model.specs.Syntax as M
 use Rattle.model.specs.Reader.{Reader, onward, pure, Scope, readExpr, Inner, stmtOf, readMany, applied, readPair, readStmt, readCount}
 use Rattle.model.specs.Usage.{Usage, _⊕_, reading, usage, firstClash, usageAll, usagePairs, firstClashAll, firstClashPairs}
 use Rattle.model.specs.Counts.{temporaries, processes, need, mostNeed, pairNeed, mostProcesses, pairProcesses}
-use Rattle.table.specs.Stmts.{asked, wholeAt, Fits, stmtAt, headAt, behind, nothing as no-part, withHead, withStmt, added, partAt}
+use Rattle.counts.specs.Words.{asked}
+use Rattle.table.specs.Stmts.{wholeAt, Fits, stmtAt, headAt, behind, nothing as no-part, withHead, withStmt, added, partAt}
 use Rattle.table.specs.Stmts.{mostFrom, gathered, headUses, partUses, mostUse, stmtUses}
 use Rattle.table.specs.Exprs.{kept, exprUses}
 use Rattle.model.specs.declared.kinds.StmtKind.the-variants.{Seq, If, While}
 use Rattle.numbers.specs.declared.kinds.Head.{Head}
 use Rattle.numbers.specs.declared.kinds.Head.the-variants.{Nothing, Condition}
-use Rattle.table.specs.declared.stmt.Role.{Role}
-use Rattle.table.specs.declared.stmt.Role.the-variants.{Value}
+use Rattle.counts.specs.declared.Role.{Role}
+use Rattle.counts.specs.declared.Role.the-variants.{Value}
 use Rattle.table.specs.declared.stmt.Names.{Names}
 use Rattle.table.specs.declared.stmt.StmtRead.{StmtRead}
 use Rattle.table.specs.declared.stmt.StmtRead.the-variants.{Stmt, Refused as NoStmt}

@@ -1,5 +1,5 @@
 -- What is counted of statements and how they use names, against the model; statements without statements inside.
-use Prim.Native.Nat.{ℕ, zero, suc, _+_, _-_, _≤_, _<_, max}
+use Prim.Native.Nat.{ℕ, zero, suc, _+_, _-_, _≤_, _<_}
 use native.Mathlib.Omega.{arith}
 use mathlib.Core.Path.{_≡_, refl, sym, _∙_}
 use mathlib.Core.Logic.{_⊎_, inl, inr, ⊎-elim}
@@ -17,11 +17,12 @@ use Rattle.model.specs.Reader.{parsed, Reader, onward, pure, Scope, numbered, n
 use Rattle.model.specs.Reader.{Inner, stmtOf}
 use Rattle.model.specs.declared.kinds.StmtKind.the-variants.{Assign, Input, Output}
 use Rattle.numbers.specs.declared.kinds.Simple.the-variants.{Assign as Assigning, Input as Inputting, Output as Outputting}
-use Rattle.table.specs.declared.stmt.Role.{Role}
-use Rattle.table.specs.declared.stmt.Role.the-variants.{Value, Output as Outward}
+use Rattle.counts.specs.declared.Role.{Role}
+use Rattle.counts.specs.declared.Role.the-variants.{Value, Output as Outward}
 use Rattle.model.specs.Usage.{Usage, nothing, _⊕_, reading, changing, inputting, same, isIn, reads, usage, firstClash}
 use Rattle.model.specs.Counts.{temporaries, processes, need}
-use Rattle.table.specs.Stmts.{asked, wholeAt, variableAt, inputAt, outputAt, leaf, valueAt, takenAt, withHead, simpleAt, takenUses}
+use Rattle.counts.specs.Words.{asked}
+use Rattle.table.specs.Stmts.{wholeAt, variableAt, inputAt, outputAt, leaf, valueAt, takenAt, withHead, simpleAt, takenUses}
 use Rattle.table.specs.Stmts.{simpleUses, stmtUses}
 use Rattle.table.specs.Scopes.{Fresh, Below, Scoped}
 use Rattle.table.specs.Uses.{markAt, changeAt}
@@ -149,15 +150,15 @@ idle-same sc s place at st none-used is =
     })
 
 -- an expression at the end of a statement without statements inside
-value-same : (role : Role) (least d : ℕ) (sc : Scope) (s : List ℕ) (at : ℕ) (of : M.Expr → M.Stmt) (R : M.Stmt → ℕ → StmtRead → Type 0)
+value-same : (role : Role) (d : ℕ) (sc : Scope) (s : List ℕ) (at : ℕ) (of : M.Expr → M.Stmt) (R : M.Stmt → ℕ → StmtRead → Type 0)
     → Bytes s
     → Numbers sc
-    → ((e : M.Expr) (n : ℕ) (x : HeadRead) → WholeIs s role d sc at e n x → R (of e) n (leaf n (max least (asked role (temporaries e)))))
-    → Same s R NoStmt (valueAt role least d (length (sc .variables)) s at) (onward (readExpr d sc at (drop at s)) (λ e. pure (of e)))
+    → ((e : M.Expr) (n : ℕ) (x : HeadRead) → WholeIs s role d sc at e n x → R (of e) n (leaf n (asked role (temporaries e))))
+    → Same s R NoStmt (valueAt role d (length (sc .variables)) s at) (onward (readExpr d sc at (drop at s)) (λ e. pure (of e)))
 unfolding valueAt
-value-same role least d sc s at of R b o h =
-    onwards (λ x. withHead NoStmt x (λ m a. leaf m (max least a))) (λ e. pure (of e)) (whole-same role d sc s at b o)
-    (λ e n y k q. rw (k .is) (gives (of e) n (leaf n (max least (asked role (temporaries e)))) (h e n y k))) (λ j p. refl)
+value-same role d sc s at of R b o h =
+    onwards (λ x. withHead NoStmt x leaf) (λ e. pure (of e)) (whole-same role d sc s at b o)
+    (λ e n y k q. rw (k .is) (gives (of e) n (leaf n (asked role (temporaries e))) (h e n y k))) (λ j p. refl)
 
 input-same : (w : Names) (sc : Scope) (place : ℕ) (s : List ℕ) (at : ℕ) → Bytes s → Scoped w sc place
     → Same s (Listed s at (sc .channels)) Refused (inputAt w s at) (readName canInput (sc .channels) at (drop at s))
@@ -174,11 +175,11 @@ pub assign-same : (d : ℕ) (w : Names) (sc : Scope) (s : List ℕ) (place at : 
 unfolding simpleAt simpleUses stmtOf asked need processes firstClash usage
 assign-same d w sc s place at stmts b h o =
     rw (h .variables) (
-    onwards (λ i. withItem NoStmt i (λ x n. valueAt Value 2 d (length (sc .variables)) s n)) _ (variable-same (sc .variables) s at b)
+    onwards (λ i. withItem NoStmt i (λ x n. valueAt Value d (length (sc .variables)) s n)) _ (variable-same (sc .variables) s at b)
     (λ x n y k q. rw (k .found) (
-    value-same Value 2 d sc s n (λ e. M.assign x e) (RestIs sc place at _) b o (λ e m z r.
+    value-same Value d sc s n (λ e. M.assign x e) (RestIs sc place at _) b o (λ e m z r.
     record {
-      is = let words : max 2 (temporaries e + 2) ≡ temporaries e + 2 = omega arith in rw words refl;
+      is = refl;
       ahead = omega (arith, k .there .ahead, r .ahead);
       uses = rw (q ∙ k .found)
           (use-both {f = changeAt (k .value)} {g = exprWay d sc s n}
@@ -254,9 +255,9 @@ pub output-stmt-same : (d : ℕ) (w : Names) (sc : Scope) (s : List ℕ) (place 
 unfolding simpleAt simpleUses stmtOf asked need processes firstClash usage
 output-stmt-same d w sc s place at stmts b h o =
     rw (h .variables) (
-    onwards (λ i. withItem NoStmt i (λ x n. valueAt Outward 4 d (length (sc .variables)) s n)) _ (output-same w sc place s at b h)
+    onwards (λ i. withItem NoStmt i (λ x n. valueAt Outward d (length (sc .variables)) s n)) _ (output-same w sc place s at b h)
     (λ ch n y k q. rw (k .found) (
-    value-same Outward 4 d sc s n (λ e. M.output ch e) (RestIs sc place at _) b o (λ e m z r.
+    value-same Outward d sc s n (λ e. M.output ch e) (RestIs sc place at _) b o (λ e m z r.
     record {
       is = refl;
       ahead = omega (arith, k .there .ahead, r .ahead);

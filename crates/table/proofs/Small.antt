@@ -24,14 +24,15 @@ use Rattle.numbers.specs.declared.kinds.Shape.{Shape}
 use Rattle.numbers.specs.declared.kinds.Shape.the-variants.{Simple as Bare, Declares, Branches as Side, Parts}
 use Rattle.numbers.specs.declared.kinds.Count.{Count}
 use Rattle.numbers.specs.declared.kinds.Count.the-variants.{UpTo, Fixed}
-use Rattle.table.specs.declared.stmt.Role.{Role}
-use Rattle.table.specs.declared.stmt.Role.the-variants.{Value, Output as Outward, Guard as ForGuard}
+use Rattle.counts.specs.declared.Role.{Role}
+use Rattle.counts.specs.declared.Role.the-variants.{Value, Output as Outward, Guard as ForGuard}
 use Rattle.model.specs.Counts.{orderOf, guardWords}
 use Rattle.model.proofs.Tables.Needs.{sides-hold}
 use Rattle.table.specs.Exprs.{withExpr, single, constantAt, usedAt, sides, operated, exprAt}
-use Rattle.table.specs.Stmts.{asked, wholeAt, variableAt, inputAt, withHead, withStmt, outputAt, leaf, valueAt, takenAt, simpleAt}
+use Rattle.counts.specs.Words.{asked, leastWords}
+use Rattle.table.specs.Stmts.{wholeAt, variableAt, inputAt, withHead, withStmt, outputAt, leaf, valueAt, takenAt, simpleAt}
 use Rattle.table.specs.Stmts.{guardAt, headAt, nothing, added, partAt, mostFrom, gathered, Branches, joinedBy, BranchesRead, all}
-use Rattle.table.specs.Stmts.{stopped, withBranches, branchesFrom, noBranches, parOf, moreNames, declaring, leastWords, insideOf}
+use Rattle.table.specs.Stmts.{stopped, withBranches, branchesFrom, noBranches, parOf, moreNames, declaring, insideOf}
 use Rattle.table.specs.Stmts.{stmtAt, stmtUses, partIn}
 use Rattle.table.specs.Uses.{noNames}
 use Rattle.numbers.specs.declared.NumberRead.{NumberRead}
@@ -222,12 +223,12 @@ whole-in r d vs s at =
     of-expr (InHead at at (length s)) (InExpr at (length s)) (λ j p. tt) (exprAt d vs s at) (expr-in d vs s at) (λ e h.
     (omega (arith, h .0), h .1, omega (arith, h .0, h .2, asked-most r (e .stored))))
 
-value-in : (r : Role) (least d vs : ℕ) (s : List ℕ) (base from at : ℕ) → base < from → from ≤ at → least ≤ 4
-    → In base from (length s) (valueAt r least d vs s at)
+value-in : (r : Role) (d vs : ℕ) (s : List ℕ) (base from at : ℕ) → base < from → from ≤ at
+    → In base from (length s) (valueAt r d vs s at)
 unfolding valueAt
-value-in r least d vs s base from at l m w =
+value-in r d vs s base from at l m =
     of-head (In base from (length s)) (InHead at at (length s)) (λ j p. tt) (wholeAt r d vs s at) (whole-in r d vs s at) (λ n a h.
-    leaf-small n (max least a) base from (length s) l (omega (arith, m, h .0)) (h .1) (omega (arith, l, m, w, h .0, h .2)))
+    leaf-small n a base from (length s) l (omega (arith, m, h .0)) (h .1) (omega (arith, l, m, h .0, h .2)))
 
 -- a channel and a variable, behind what asks for so many words from base on
 taken-in : (w : Names) (s : List ℕ) (base at a : ℕ) → base ≤ at → a ≤ 40 * (at - base) → InHead base at (length s) (takenAt w s at a)
@@ -244,14 +245,14 @@ simple-in Idle d w s base at l u = leaf-small at 2 base at (length s) l (omega a
 simple-in Stopping d w s base at l u = leaf-small at 2 base at (length s) l (omega arith) u (omega (arith, l))
 simple-in Assigning d w s base at l u =
     of-item (In base at (length s)) (InItem at (length s)) (λ j p. tt) (variableAt w s at) (name-in _ _ _ s at) (λ x n h.
-    value-in Value 2 d (w .variables) s base at n l (omega (arith, h .0)) (omega arith))
+    value-in Value d (w .variables) s base at n l (omega (arith, h .0)))
 simple-in Inputting d w s base at l u =
     of-head (In base at (length s)) (InHead base at (length s)) (λ j p. tt) (takenAt w s at 3)
     (taken-in w s base at 3 (omega (arith, l)) (omega (arith, l))) (λ m a h.
     leaf-small m a base at (length s) l (h .0) (h .1) (h .2))
 simple-in Outputting d w s base at l u =
     of-item (In base at (length s)) (InItem at (length s)) (λ j p. tt) (outputAt w s at) (name-in _ _ _ s at) (λ x n h.
-    value-in Outward 4 d (w .variables) s base at n l (omega (arith, h .0)) (omega arith))
+    value-in Outward d (w .variables) s base at n l (omega (arith, h .0)))
 
 guard-in : (d : ℕ) (w : Names) (s : List ℕ) (at : ℕ) → InHead at at (length s) (guardAt d w s at)
 unfolding guardAt

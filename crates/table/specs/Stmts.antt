@@ -18,7 +18,6 @@ use Rattle.table.specs.declared.stmt.HeadRead.the-variants.{Head as Befo
 use Rattle.table.specs.declared.stmt.Sum.{Sum}
 use Rattle.table.specs.declared.stmt.SumRead.{SumRead}
 use Rattle.table.specs.declared.stmt.SumRead.the-variants.{Sum as Total, Refused as NoSum}
-use Rattle.model.specs.Counts.{guardWords}
 use Rattle.model.specs.Limits.{nameLimit}
 use Rattle.model.specs.declared.kinds.StmtKind.{StmtKind}
 use Rattle.numbers.specs.Kinds.{lastStatement, stmtKind, lastGuard, guardKind, byGuard, byHead, byDeclared, byShape, shapeOf, countAt}
@@ -26,8 +25,9 @@ use Rattle.numbers.specs.declared.kinds.Simple.{Simple}
 use Rattle.numbers.specs.declared.kinds.Simple.the-variants.{Skip, Stop, Assign, Input, Output}
 use Rattle.numbers.specs.declared.kinds.Declared.{Declared}
 use Rattle.numbers.specs.declared.kinds.Head.{Head}
-use Rattle.table.specs.declared.stmt.Role.{Role}
-use Rattle.table.specs.declared.stmt.Role.the-variants.{Value as ForValue, Output as ForOutput, Guard as ForGuard}
+use Rattle.counts.specs.Words.{asked, leastWords}
+use Rattle.counts.specs.declared.Role.{Role}
+use Rattle.counts.specs.declared.Role.the-variants.{Value as ForValue, Output as ForOutput, Guard as ForGuard}
 
 abbrev pub firstOf : First → First → First
 firstOf Nowhere o = o
@@ -41,12 +41,6 @@ withHead refuse (NoHead k p) f = refuse k p
 abbrev pub withStmt : {R : Type 0} → (refuse : ℕ → ℕ → R) → StmtRead → (Part → R) → R
 withStmt refuse (Stmt p) f = f p
 withStmt refuse (NoStmt k p) f = refuse k p
-
--- 02, order 2: the words that a statement asks for, by the stored values of an expression in it
-unfoldable pub asked : Role → (stored : ℕ) → ℕ
-asked ForValue t = t + 2
-asked ForOutput t = t + 3
-asked ForGuard t = guardWords t
 
 -- an expression of a statement that stands in no other
 unfoldable pub wholeAt : Role → (depth variables : ℕ) → List ℕ → (at : ℕ) → HeadRead
@@ -64,9 +58,9 @@ outputAt w s at = nameAt (w .channels) 0 (w .inputs) s at
 abbrev pub leaf : (next words : ℕ) → StmtRead
 leaf n words = Stmt (record { next = n; words = words; processes = 1; clash = Nowhere })
 
--- an expression as the end of a statement without statements inside, which needs at least so many words
-unfoldable pub valueAt : Role → (least depth variables : ℕ) → List ℕ → (at : ℕ) → StmtRead
-valueAt r least d vs s at = withHead NoStmt (wholeAt r d vs s at) (λ m a. leaf m (max least a))
+-- an expression as the end of a statement without statements inside
+unfoldable pub valueAt : Role → (depth variables : ℕ) → List ℕ → (at : ℕ) → StmtRead
+valueAt r d vs s at = withHead NoStmt (wholeAt r d vs s at) leaf
 
 -- a channel to input from and a variable, behind what has been read
 unfoldable pub takenAt : Names → List ℕ → (at words : ℕ) → HeadRead
@@ -80,9 +74,9 @@ takenUses w s at l =
 unfoldable pub simpleAt : Simple → (depth : ℕ) → Names → List ℕ → (at : ℕ) → StmtRead
 simpleAt Skip d w s at = leaf at 2
 simpleAt Stop d w s at = leaf at 2
-simpleAt Assign d w s at = withItem NoStmt (variableAt w s at) (λ x n. valueAt ForValue 2 d (w .variables) s n)
+simpleAt Assign d w s at = withItem NoStmt (variableAt w s at) (λ x n. valueAt ForValue d (w .variables) s n)
 simpleAt Input d w s at = withHead NoStmt (takenAt w s at 3) (λ m a. leaf m a)
-simpleAt Output d w s at = withItem NoStmt (outputAt w s at) (λ c n. valueAt ForOutput 4 d (w .variables) s n)
+simpleAt Output d w s at = withItem NoStmt (outputAt w s at) (λ c n. valueAt ForOutput d (w .variables) s n)
 
 unfoldable pub simpleUses : Simple → (depth : ℕ) → Names → List ℕ → (at : ℕ) → List ℕ → List ℕ
 simpleUses Skip d w s at l = l
@@ -149,10 +143,6 @@ mostUse zero h d w inner uses s at l = l
 mostUse (suc i) h d w inner uses s at l =
     let half = partUses h d w uses s at l in
     withStmt (kept half) (partAt h d w inner s at) (λ p. mostUse i h d w inner uses s (p .next) half)
-
--- the least words of a statement of parts. 01: SEQ, IF, WHILE at least 2; ALT at least 4
-abbrev pub leastWords : Head → ℕ
-leastWords h = byHead h 2 2 4
 
 -- what is counted of it
 abbrev pub gathered : Head → SumRead → StmtRead

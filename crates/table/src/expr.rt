@@ -1,7 +1,6 @@
 // Expressions, and the variables that they use.
 ghost use mathlib.Core.Path.{_≡_};
-ghost use Prim.Native.Nat.{_+_, _<_, _≤_, max};
-ghost use Rattle.model.specs.Counts.{sidesNeed, orderOf, sidesHold};
+ghost use Prim.Native.Nat.{_+_, _<_, _≤_};
 ghost use Rattle.table.specs.Exprs.{single, joined, usedAt, exprAt, sidesAt, usedUses, exprUses, sidesUse, Within};
 ghost use Rattle.table.specs.declared.expr.ExprRead.the-variants.{Refused as NoExpr};
 ghost use Rattle.numbers.specs.Items.{withItem};
@@ -10,19 +9,13 @@ use model::kinds::ExprKind;
 // What is counted of an expression: the place after it, the registers that it needs and the values that it stores (document 02, order 2).
 pub struct Term {
     pub next: usize,
-    pub registers: u64,
-    pub stored: u64,
+    pub registers: u32,
+    pub stored: u32,
 }
 
 pub enum ExprRead {
     Expr(Term),
     Refused(u32, usize),
-}
-
-pub fn larger(a: u64, b: u64) -> u64
-    ensures { λ r. ⌜ r ≡ max a b ⌝ }
-{
-    if a < b { b } else { a }
 }
 
 // A variable, which is used.
@@ -61,42 +54,14 @@ fn no_expr(item: numbers::Item) -> ExprRead
     }
 }
 
-// The registers of an operator, by what its sides need: one more where both need the same, but never over 3.
-fn join_registers(left: u64, right: u64) -> u64
-    requires { ⌜ (left ≤ 3) × (right ≤ 3) ⌝ }
-    ensures { λ r. ⌜ r ≡ sidesNeed left right ⌝ }
-{
-    if left < right {
-        return right;
-    }
-    if right < left {
-        return left;
-    }
-    if left < model::limits::REGISTERS {
-        left + 1
-    } else {
-        left
-    }
-}
-
-// The values that two sides hold together at most: where both need 3 registers, left holds the right value beside its own.
-fn join_stored(left: Term, right: Term) -> u64
-    requires { ⌜ left .stored ≤ 32 ⌝ }
-    ensures { λ r. ⌜ r ≡ sidesHold (orderOf (left .registers) (right .registers)) (left .stored) (right .stored) ⌝ }
-{
-    if left.registers == model::limits::REGISTERS && right.registers == model::limits::REGISTERS {
-        return larger(left.stored + 1, right.stored);
-    }
-    larger(left.stored, right.stored)
-}
-
 // An operator by its sides.
 fn join(left: Term, right: Term) -> ExprRead
-    requires { ⌜ (left .registers ≤ 3) × (right .registers ≤ 3) × (left .stored ≤ 32) ⌝ }
+    requires { ⌜ left .stored ≤ 32 ⌝ }
     ensures { λ r. ⌜ r ≡ joined left right ⌝ }
 {
-    let registers = join_registers(left.registers, right.registers);
-    let stored = join_stored(left, right);
+    let registers = counts::sides_need(left.registers, right.registers);
+    let order = counts::order_of(left.registers, right.registers);
+    let stored = counts::sides_hold(order, left.stored, right.stored);
     ExprRead::Expr(Term {
         next: right.next,
         registers: registers,

@@ -2,8 +2,8 @@
 ghost use mathlib.Core.Path.{_≡_};
 ghost use Prim.Native.Nat.{_+_, _<_, _≤_};
 ghost use lib.ListN.{length};
-ghost use Rattle.table.specs.Stmts.{firstOf, leaf, asked, wholeAt, valueAt, takenAt, simpleAt, guardAt, headAt, behind, withStmt};
-ghost use Rattle.table.specs.Stmts.{nothing, added, leastWords, gathered, parOf, moreNames, declaring, SmallWords, Numbered, Fits};
+ghost use Rattle.table.specs.Stmts.{firstOf, leaf, wholeAt, valueAt, takenAt, simpleAt, guardAt, headAt, behind, withStmt};
+ghost use Rattle.table.specs.Stmts.{nothing, added, gathered, parOf, moreNames, declaring, SmallWords, Numbered, Fits};
 ghost use Rattle.table.specs.Stmts.{partIn, mostAt, parAt, declaredAt, insideAt, stmtAt, takenUses, simpleUses, guardUses, headUses};
 ghost use Rattle.table.specs.Stmts.{partUsesIn, mostUsesAt, parUsesAt, declaredUses, insideUses, stmtUses};
 ghost use Rattle.table.specs.Exprs.{exprUses};
@@ -11,6 +11,7 @@ ghost use Rattle.table.specs.Sets.{Exact};
 ghost use Rattle.table.specs.declared.stmt.StmtRead.the-variants.{Stmt, Refused as NoStmt};
 ghost use Rattle.table.specs.declared.stmt.SumRead.the-variants.{Sum as Total};
 ghost use Rattle.numbers.specs.Items.{withItem};
+use counts::Role;
 use model::kinds::GuardKind;
 use model::kinds::StmtKind;
 use numbers::kinds::Declared;
@@ -35,8 +36,8 @@ pub enum First {
 // What is counted of a statement: the place after it, words needed, live processes and the first PAR with a clash.
 pub struct Part {
     pub next: usize,
-    pub words: u64,
-    pub processes: u64,
+    pub words: u32,
+    pub processes: u32,
     pub clash: First,
 }
 
@@ -47,30 +48,23 @@ pub enum StmtRead {
 
 // What stands before a part's statement: the place after it, and the words that it asks for.
 pub enum HeadRead {
-    Head(usize, u64),
+    Head(usize, u32),
     Refused(u32, usize),
 }
 
 // What is counted over the parts of a statement: the most and the sum of words and of processes.
 pub struct Sum {
     pub next: usize,
-    pub most: u64,
-    pub sum: u64,
-    pub live: u64,
-    pub all: u64,
+    pub most: u32,
+    pub sum: u32,
+    pub live: u32,
+    pub all: u32,
     pub clash: First,
 }
 
 pub enum SumRead {
     Sum(Sum),
     Refused(u32, usize),
-}
-
-// What an expression that stands in no other is: a value or a condition, what is output, or a guard's condition.
-pub enum Role {
-    Value,
-    Output,
-    Guard,
 }
 
 fn earlier(a: First, b: First) -> First
@@ -83,7 +77,7 @@ fn earlier(a: First, b: First) -> First
 }
 
 // A statement without statements inside.
-fn leaf_part(next: usize, words: u64) -> StmtRead
+fn leaf_part(next: usize, words: u32) -> StmtRead
     ensures { λ r. ⌜ r ≡ leaf next words ⌝ }
 {
     StmtRead::Stmt(Part {
@@ -92,18 +86,6 @@ fn leaf_part(next: usize, words: u64) -> StmtRead
         processes: 1,
         clash: First::Nowhere,
     })
-}
-
-// The words that a statement asks for, by the stored values of an expression in it (document 02, order 2).
-fn ask(role: Role, stored: u64) -> u64
-    requires { ⌜ stored ≤ 32 ⌝ }
-    ensures { λ r. ⌜ r ≡ asked role stored ⌝ }
-{
-    match role {
-        Role::Value => stored + 2,
-        Role::Output => stored + 3,
-        Role::Guard => { if stored == 0 { 0 } else { stored + 8 } }
-    }
 }
 
 // An expression of a statement that stands in no other.
@@ -120,33 +102,32 @@ fn read_whole(
     ensures uses { λ r. ⌜ now (sets .exit) ≡ exprUses depth variables (now (table .entry)) at (now (sets .entry)) ⌝ }
 {
     match crate::expr::read_expr(table, at, depth, variables, sets) {
-        crate::expr::ExprRead::Expr(e) => HeadRead::Head(e.next, ask(role, e.stored)),
+        crate::expr::ExprRead::Expr(e) => HeadRead::Head(e.next, counts::ask(role, e.stored)),
         crate::expr::ExprRead::Refused(n, p) => HeadRead::Refused(n, p),
     }
 }
 
-// An expression as the end of a statement without statements inside, which needs at least so many words.
+// An expression as the end of a statement without statements inside.
 fn read_value(
     table: &[u8],
     at: usize,
     role: Role,
-    least: u64,
     depth: u64,
     variables: u64,
     sets: &mut [u64; 64],
 ) -> StmtRead
     requires { ⌜ (depth ≤ 32) × (variables ≤ 1024) ⌝ }
-    ensures said { λ r. ⌜ r ≡ valueAt role least depth variables (now (table .entry)) at ⌝ }
+    ensures said { λ r. ⌜ r ≡ valueAt role depth variables (now (table .entry)) at ⌝ }
     ensures uses { λ r. ⌜ now (sets .exit) ≡ exprUses depth variables (now (table .entry)) at (now (sets .entry)) ⌝ }
 {
     match read_whole(table, at, role, depth, variables, sets) {
-        HeadRead::Head(next, words) => leaf_part(next, crate::expr::larger(least, words)),
+        HeadRead::Head(next, words) => leaf_part(next, words),
         HeadRead::Refused(n, p) => StmtRead::Refused(n, p),
     }
 }
 
 // A channel to input from and a variable, behind what has been read.
-fn read_input(table: &[u8], at: usize, names: Names, words: u64, sets: &mut [u64; 64]) -> HeadRead
+fn read_input(table: &[u8], at: usize, names: Names, words: u32, sets: &mut [u64; 64]) -> HeadRead
     requires { ⌜ Numbered names ⌝ }
     ensures said { λ r. ⌜ r ≡ takenAt names (now (table .entry)) at words ⌝ }
     ensures uses { λ r. ⌜ now (sets .exit) ≡ takenUses names (now (table .entry)) at (now (sets .entry)) ⌝ }
@@ -190,23 +171,23 @@ fn read_simple(
     ensures uses { λ r. ⌜ now (sets .exit) ≡ simpleUses simple depth names (now (table .entry)) at (now (sets .entry)) ⌝ }
 {
     match simple {
-        Simple::Skip => leaf_part(at, 2),
-        Simple::Stop => leaf_part(at, 2),
+        Simple::Skip => leaf_part(at, counts::IDLE_WORDS),
+        Simple::Stop => leaf_part(at, counts::IDLE_WORDS),
         Simple::Assign => match numbers::read_name(table, at, names.variables, 0, 0) {
             numbers::Item::Item(target, next) => {
                 crate::usage::change(sets, target);
-                read_value(table, next, Role::Value, 2, depth, names.variables, sets)
+                read_value(table, next, Role::Value, depth, names.variables, sets)
             }
             numbers::Item::Refused(n, p) => StmtRead::Refused(n, p),
         },
-        Simple::Input => match read_input(table, at, names, 3, sets) {
+        Simple::Input => match read_input(table, at, names, counts::INPUT_WORDS, sets) {
             HeadRead::Head(next, words) => leaf_part(next, words),
             HeadRead::Refused(n, p) => StmtRead::Refused(n, p),
         },
         Simple::Output => match numbers::read_name(table, at, names.channels, 0, names.inputs) {
             numbers::Item::Item(channel, next) => {
                 crate::usage::mark(sets, crate::usage::OUTPUTS, channel);
-                read_value(table, next, Role::Output, 4, depth, names.variables, sets)
+                read_value(table, next, Role::Output, depth, names.variables, sets)
             }
             numbers::Item::Refused(n, p) => StmtRead::Refused(n, p),
         },
@@ -263,7 +244,7 @@ fn no_stmt(item: numbers::Item) -> StmtRead
     ensures { λ r. ⌜ r ≡ withItem NoStmt item (λ v n. leaf n 2) ⌝ }
 {
     match item {
-        numbers::Item::Item(v, next) => leaf_part(next, 2),
+        numbers::Item::Item(v, next) => leaf_part(next, counts::IDLE_WORDS),
         numbers::Item::Refused(n, p) => StmtRead::Refused(n, p),
     }
 }
@@ -287,8 +268,8 @@ fn add(sum: Sum, part: Part) -> Sum
     requires { ⌜ (sum .sum ≤ 32000000) × (sum .all ≤ 32000000) × (part .words ≤ 1000000) × (part .processes ≤ 1000000) ⌝ }
     ensures { λ r. ⌜ r ≡ added sum part ⌝ }
 {
-    let most = crate::expr::larger(sum.most, part.words);
-    let live = crate::expr::larger(sum.live, part.processes);
+    let most = counts::larger(sum.most, part.words);
+    let live = counts::larger(sum.live, part.processes);
     let clash_before = sum.clash;
     let clash_here = part.clash;
     let clash = earlier(clash_before, clash_here);
@@ -302,23 +283,12 @@ fn add(sum: Sum, part: Part) -> Sum
     }
 }
 
-// The least words of a statement of parts.
-fn least_words(head: Head) -> u64
-    ensures { λ r. ⌜ r ≡ leastWords head ⌝ }
-{
-    match head {
-        Head::Nothing => 2,
-        Head::Condition => 2,
-        Head::Guard => 4,
-    }
-}
-
 // What is counted of a statement of parts.
 fn gather(head: Head, sum: Sum) -> StmtRead
     ensures { λ r. ⌜ r ≡ gathered head (Total sum) ⌝ }
 {
-    let words = crate::expr::larger(least_words(head), sum.most);
-    let processes = crate::expr::larger(1, sum.live);
+    let words = counts::larger(counts::least_words(head), sum.most);
+    let processes = counts::larger(1, sum.live);
     let clash = sum.clash;
     StmtRead::Stmt(Part {
         next: sum.next,
@@ -340,22 +310,22 @@ fn close_par(place: usize, sum: Sum, bad: bool) -> StmtRead
     };
     let inner = sum.clash;
     let clash = earlier(own, inner);
-    let processes = crate::expr::larger(1, sum.all);
+    let processes = counts::larger(1, sum.all);
     StmtRead::Stmt(Part {
         next: sum.next,
-        words: 2 + sum.sum,
+        words: counts::PAR_WORDS + sum.sum,
         processes: processes,
         clash: clash,
     })
 }
 
 // A statement behind a head.
-fn behind_head(asked: u64, read: StmtRead) -> StmtRead
+fn behind_head(asked: u32, read: StmtRead) -> StmtRead
     ensures { λ r. ⌜ r ≡ withStmt NoStmt read (λ p. Stmt (behind asked p)) ⌝ }
 {
     match read {
         StmtRead::Stmt(p) => {
-            let words = crate::expr::larger(asked, p.words);
+            let words = counts::larger(asked, p.words);
             let clash = p.clash;
             StmtRead::Stmt(Part {
                 next: p.next,
@@ -378,7 +348,7 @@ fn in_scope(count: u64, read: StmtRead) -> StmtRead
             let clash = p.clash;
             StmtRead::Stmt(Part {
                 next: p.next,
-                words: count + p.words,
+                words: count as u32 + p.words,
                 processes: p.processes,
                 clash: clash,
             })

@@ -18,10 +18,10 @@ fn finish(ins: u64, outs: u64, length: usize, part: crate::stmt::Part) -> model:
         crate::stmt::First::Nowhere => {
             if part.processes <= model::limits::PROCESSES {
                 model::Reading::Accepted(model::Facts {
-                    words: (part.words + ins + outs) as u32,
+                    words: part.words + ins as u32 + outs as u32,
                     inputs: ins as u32,
                     outputs: outs as u32,
-                    processes: part.processes as u32,
+                    processes: part.processes,
                 })
             } else {
                 model::Reading::Refused(9, 0)

@@ -13,7 +13,9 @@ use Rattle.model.specs.declared.kinds.Operator.{Operator}
 use Rattle.model.specs.declared.kinds.Operator.the-variants.{Plus as PLUS, Minus as MINUS, Times as TIMES, Gt as GT, Eq as EQ}
 use Rattle.model.specs.declared.kinds.Operator.the-variants.{And as AND, Or as OR, Xor as XOR}
 use Rattle.model.specs.Reader.{Scope, withVariables, withChannels}
-use Rattle.model.specs.Counts.{Order, leftFirst, rightFirst, rightStored, order, sidesHold, temporaries, guardWords, need, mostNeed}
+use Rattle.model.specs.Counts.{order, sidesHold, temporaries, guardWords, need, mostNeed}
+use Rattle.model.specs.declared.kinds.Order.{Order}
+use Rattle.model.specs.declared.kinds.Order.the-variants.{LeftFirst, RightFirst, RightStored}
 use Rattle.model.specs.Counts.{sumNeed, pairNeed, guardNeed}
 use Rattle.model.specs.Instruction.{operationCode, Instruction, plain, distance, operation, ldc, mint}
 use Rattle.model.specs.Layout.{base, wordOf}
@@ -69,9 +71,9 @@ module _ (count : ℕ) where
       → ((k : ℕ) → k + a ≤ wordLimit → AllFit count (left k)) → (h + b ≤ wordLimit → AllFit count right)
       → AllFit count (sidesCode o h left right)
   unfolding sidesCode sidesHold operationCode
-  sides-fit leftFirst h a b left right few l r = l h (omega arith) ⊕ r (omega arith)
-  sides-fit rightFirst h a b left right few l r = r (omega arith) ⊕ l h (omega arith) ⊕ omega arith ▸ nil-fits
-  sides-fit rightStored h a b left right few l r = r (omega arith) ⊕ omega arith ▸ l (suc h) (omega arith) ⊕ omega arith ▸ nil-fits
+  sides-fit LeftFirst h a b left right few l r = l h (omega arith) ⊕ r (omega arith)
+  sides-fit RightFirst h a b left right few l r = r (omega arith) ⊕ l h (omega arith) ⊕ omega arith ▸ nil-fits
+  sides-fit RightStored h a b left right few l r = r (omega arith) ⊕ omega arith ▸ l (suc h) (omega arith) ⊕ omega arith ▸ nil-fits
 
   wrapped-fits : (t more w : ℕ) (code : ℕ → List Instruction) → t ≤ wordLimit → more ≤ wordLimit → ((v : ℕ) → AllFit count (code v))
       → AllFit count (wrapped t more w code)

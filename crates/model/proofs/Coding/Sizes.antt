@@ -10,7 +10,9 @@ use Rattle.model.specs.Syntax.{noGuard, guard}
 use Rattle.model.specs.declared.kinds.Operator.{Operator}
 use Rattle.model.specs.declared.kinds.Operator.the-variants.{Plus as PLUS, Minus as MINUS, Times as TIMES, Gt as GT, Eq as EQ}
 use Rattle.model.specs.declared.kinds.Operator.the-variants.{And as AND, Or as OR, Xor as XOR}
-use Rattle.model.specs.Counts.{Order, leftFirst, rightFirst, rightStored, order, temporaries, need}
+use Rattle.model.specs.Counts.{order, temporaries, need}
+use Rattle.model.specs.declared.kinds.Order.{Order}
+use Rattle.model.specs.declared.kinds.Order.the-variants.{LeftFirst, RightFirst, RightStored}
 use Rattle.model.specs.Instruction.{Instruction}
 use Rattle.model.specs.Scheme.{operatorCode, operatorSize, initialise, sidesCode, sidesSize, exprSize, wrapped, wrapSize, wholeSize}
 use Rattle.model.specs.Scheme.{altWords, howMany, size, sizeAll, sizePar, sizeEnds, sizePairs, sizeEnable, sizeDisable, sizeBranches}
@@ -37,9 +39,9 @@ initialise-length first (suc n) = simp (length-append, initialise-length first n
 pub sides-length : (o : Order) (h : ℕ) (left : ℕ → List Instruction) (right : List Instruction) {l r : ℕ}
     → ((k : ℕ) → length (left k) ≡ l) → length right ≡ r → length (sidesCode o h left right) ≡ sidesSize o l r
 unfolding sidesCode sidesSize
-sides-length leftFirst h left right el er = omega (arith, length-append (left h) right, el h)
-sides-length rightFirst h left right el er = simp (length-append, el h, er) (omega arith)
-sides-length rightStored h left right el er = simp (length-append, el (suc h), er) (omega arith)
+sides-length LeftFirst h left right el er = omega (arith, length-append (left h) right, el h)
+sides-length RightFirst h left right el er = simp (length-append, el h, er) (omega arith)
+sides-length RightStored h left right el er = simp (length-append, el (suc h), er) (omega arith)
 
 pub wrapped-length : (t more w : ℕ) (code : ℕ → List Instruction) {n : ℕ} → ((v : ℕ) → length (code v) ≡ n)
     → length (wrapped t more w code) ≡ n + wrapSize t

@@ -15,7 +15,9 @@ use Rattle.model.specs.declared.kinds.Operator.{Operator}
 use Rattle.model.specs.declared.kinds.Operator.the-variants.{Plus as PLUS, Minus as MINUS, Times as TIMES, Gt as GT, Eq as EQ}
 use Rattle.model.specs.declared.kinds.Operator.the-variants.{And as AND, Or as OR, Xor as XOR}
 use Rattle.model.specs.Usage.{reads}
-use Rattle.model.specs.Counts.{Order, leftFirst, rightFirst, rightStored, order, temporaries}
+use Rattle.model.specs.Counts.{order, temporaries}
+use Rattle.model.specs.declared.kinds.Order.{Order}
+use Rattle.model.specs.declared.kinds.Order.the-variants.{LeftFirst, RightFirst, RightStored}
 use Rattle.model.specs.Instruction as I
 use Rattle.model.specs.Instruction.{Function, Instruction, plain, distance}
 use Rattle.model.specs.Scheme.{operatorCode, sidesCode, exprCode}
@@ -70,9 +72,9 @@ plain-operator XOR = tt
 plain-sides : (o : Order) (h : ℕ) (l : ℕ → List Instruction) (r : List Instruction) → ((k : ℕ) → Plain (l k)) → Plain r
     → Plain (sidesCode o h l r)
 unfolding sidesCode
-plain-sides leftFirst h l r p q = plain-append (l h) r (p h) q
-plain-sides rightFirst h l r p q = plain-append (r ++ l h) _ (plain-append r (l h) q (p h)) tt
-plain-sides rightStored h l r p q = plain-append (r ++ plain I.stl h ∷ l (suc h)) _ (plain-append r _ q (p (suc h))) tt
+plain-sides LeftFirst h l r p q = plain-append (l h) r (p h) q
+plain-sides RightFirst h l r p q = plain-append (r ++ l h) _ (plain-append r (l h) q (p h)) tt
+plain-sides RightStored h l r p q = plain-append (r ++ plain I.stl h ∷ l (suc h)) _ (plain-append r _ q (p (suc h))) tt
 
 plain-expr : (word : Site → ℕ) (w h : ℕ) (e : Expr) → Plain (exprCode word w h e)
 unfolding exprCode

@@ -15,7 +15,9 @@ use Rattle.model.specs.declared.kinds.Operator.the-variants.{Plus as PLU
 use Rattle.model.specs.declared.kinds.Operator.the-variants.{And as AND, Or as OR, Xor as XOR}
 use Rattle.model.specs.Instruction.{ajw, eqc, ldl, stl, Instruction, plain, operation, opr}
 use Rattle.model.specs.Instruction as I
-use Rattle.model.specs.Counts.{sidesNeed, registers, Order, leftFirst, rightFirst, rightStored, orderOf, order, sidesHold}
+use Rattle.model.specs.Counts.{sidesNeed, registers, orderOf, order, sidesHold}
+use Rattle.model.specs.declared.kinds.Order.{Order}
+use Rattle.model.specs.declared.kinds.Order.the-variants.{LeftFirst, RightFirst, RightStored}
 use Rattle.model.specs.Counts.{temporaries}
 use Rattle.model.specs.Scheme.{operatorCode, sidesCode, wrapped, exprCode}
 use Rattle.model.specs.Execute.{above}
@@ -32,9 +34,9 @@ use Rattle.model.proofs.Tables.Needs.{sides-two, registers-pos, registe
 
 -- which order two sides have, by the registers that they need
 pub data Ordered (l r : ℕ) : Order → Type 0 where
-  left-first : r ≤ l → (l ≡ registerLimit → r ≡ registerLimit → ⊥) → Ordered l r leftFirst
-  right-first : l < r → Ordered l r rightFirst
-  right-stored : l ≡ registerLimit → r ≡ registerLimit → Ordered l r rightStored
+  left-first : r ≤ l → (l ≡ registerLimit → r ≡ registerLimit → ⊥) → Ordered l r LeftFirst
+  right-first : l < r → Ordered l r RightFirst
+  right-stored : l ≡ registerLimit → r ≡ registerLimit → Ordered l r RightStored
 
 pub ordered : (l r : ℕ) → Ordered l r (orderOf l r)
 unfolding orderOf
@@ -163,7 +165,7 @@ module _ (xs : List Instruction) (off : ℕ → ℕ) (word : Site → ℕ) (Poin
           → Slots (h + sidesHold o (temporaries l) (temporaries r)) → q .w ≡ w
           → ((μ′ : Mem) (q′ : Regs) → Brought σ w h o l r μ μ′ q q′ → Goes hi μ′ i′ q′) → Goes hi μ i q
       unfolding sidesCode sidesHold
-      brings l r ev-l ev-r leftFirst (left-first le unlike) h g s p next =
+      brings l r ev-l ev-r LeftFirst (left-first le unlike) h g s p next =
           let pos-l = registers-pos l in
           let pos-r = registers-pos r in
           let three-l = registers-three l in
@@ -188,7 +190,7 @@ module _ (xs : List Instruction) (off : ℕ → ℕ) (word : Site → ℕ) (Poin
           few a b =
               by-bool (ltb (registers r) 3) (λ e. omega (arith, ltb-true (registers r) 3 e))
               (λ e. let f : 3 ≤ registers r = ltb-false (registers r) 3 e in absurd (unlike (omega arith) (omega arith)))
-      brings l r ev-l ev-r rightFirst (right-first lt) h g s p next =
+      brings l r ev-l ev-r RightFirst (right-first lt) h g s p next =
           let pos-l = registers-pos l in
           let pos-r = registers-pos r in
           let three-r = registers-three r in
@@ -210,7 +212,7 @@ module _ (xs : List Instruction) (off : ℕ → ℕ) (word : Site → ℕ) (Poin
                   }))))
             ]
           ]
-      brings l r ev-l ev-r rightStored (right-stored el er) h {μ} g s p next =
+      brings l r ev-l ev-r RightStored (right-stored el er) h {μ} g s p next =
           let v = w + h in
           let own : Spare v = s h (omega arith) in
           elim (apart (exprCode word w h r ++ plain stl h ∷ exprCode word w (suc h) l) g) [

@@ -4,7 +4,9 @@ use native.Mathlib.Omega.{arith}
 use lib.Dec.{eqb}
 use borrow.Author.Tests.{eqb-true, eqb-false}
 use Rattle.model.specs.Syntax.{Expr, constant, variable, NOT, binary}
-use Rattle.model.specs.Counts.{sidesNeed, registers, Order, leftFirst, rightFirst, rightStored, sidesHold}
+use Rattle.model.specs.Counts.{sidesNeed, registers, sidesHold}
+use Rattle.model.specs.declared.kinds.Order.{Order}
+use Rattle.model.specs.declared.kinds.Order.the-variants.{LeftFirst, RightFirst, RightStored}
 use Rattle.model.proofs.Cases.{by-bool}
 
 -- an operator needs two registers at least, and never over 3
@@ -40,6 +42,6 @@ both-two l r h k b =
 -- two sides hold at most one value beside those of either
 pub sides-hold : (o : Order) (l r : ℕ) → sidesHold o l r ≤ max (suc l) r
 unfolding sidesHold
-sides-hold leftFirst l r = omega arith
-sides-hold rightFirst l r = omega arith
-sides-hold rightStored l r = omega arith
+sides-hold LeftFirst l r = omega arith
+sides-hold RightFirst l r = omega arith
+sides-hold RightStored l r = omega arith

@@ -20,6 +20,7 @@ use mathlib.Core.Bool.{cond}
 use mathlib.Core.List.{List}
 use mathlib.Core.Path.{_≡_, refl, sym}
 use Rattle.model.specs.Word.{low, less}
+use Rattle.instruction.specs.Codes.{ENBC, ENBS}
 use Rattle.emitter.specs.Emits.{Code, at, operationInto}
 use Rattle.emitter.specs.Extents.{extentIn}
 use Rattle.compiler.specs.Alts.{Guarded, guardInto, behindGuard, Enabling, enabling, enableInto}
@@ -34,7 +35,7 @@ abbrev behindOne : (n d w : ℕ) → (vs cs plan s : List ℕ) → (k here : ℕ
 behindOne n d w vs cs plan s k h g =
     enableInto (n - 1) d w vs cs plan s (extentIn plan (behindGuard s (g .guard)) .next)
     (low (k + low (less (g .guard .here) h + 6)))
-    (operationInto (cond (g .guard .waits) 72 73) (at (g .guard .here) (g .out)))
+    (operationInto (cond (g .guard .waits) ENBC ENBS) (at (g .guard .here) (g .out)))
 
 turn : (n d w : ℕ) (vs cs plan s : List ℕ) (i k : ℕ) (c : Code) → (n ≡ 0 → ⊥)
     → enableInto n d w vs cs plan s i k c ≡ behindOne n d w vs cs plan s k (c .here) (guardInto d w vs cs plan s i c)

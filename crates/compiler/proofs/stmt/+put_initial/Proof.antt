@@ -16,6 +16,7 @@ use mathlib.Core.Path.{_≡_, refl, sym}
 use Rattle.model.specs.Word.{low}
 use Rattle.emitter.specs.Emits.{Code, plainInto}
 use Rattle.numbers.specs.declared.kinds.Declared.{Declared}
+use Rattle.instruction.specs.Codes.{STL}
 use Rattle.compiler.specs.Stmts.{firstInto, initialInto}
 
 none : (n : ℕ) (k : Declared) (j : ℕ) (c : Code) → n ≡ 0 → initialInto n k j c ≡ c
@@ -24,7 +25,7 @@ none n k j c e = rw e
 
 -- `initialInto` unrolled once where a word is left
 turn : (n : ℕ) (k : Declared) (j : ℕ) (c : Code) → (n ≡ 0 → ⊥)
-    → initialInto n k j c ≡ initialInto (n - 1) k (low (j + 1)) (plainInto 0xd0 j (firstInto k c))
+    → initialInto n k j c ≡ initialInto (n - 1) k (low (j + 1)) (plainInto STL j (firstInto k c))
 unfolding initialInto
 turn zero k j c p = absurd (p refl)
 turn (suc n) k j c p = let e : suc n - 1 ≡ n = omega arith in rw e

@@ -2,13 +2,7 @@
 use borrow.Author.Needs.{needs}
 use Rattle.emitter.proofs.extent.head_extent.Statement.{statement}
 use Rattle.emitter.proofs.extent.head_extent.Tie as tie
-use native.Mathlib.Omega.{arith}
-use Rattle.emitter.specs.Plans.{storedIn}
 use Rattle.emitter.specs.Extents.{headExtent}
-
-add-t9 : tie.Need-add-t9
-unfolding storedIn
-add-t9 c = omega arith
 
 returns : tie.Need-returns
 unfolding headExtent
@@ -16,13 +10,7 @@ returns c = simp (c .enum-told .given .1)
 
 returns-2 : tie.Need-returns-2
 unfolding headExtent
-returns-2 c =
-    simp (
-      c .before .before .before .enum-told2 .given .1,
-      ← c .before .before .entry-at .ensures,
-      ← c .before .next-in .ensures,
-      ← c .stored-in .ensures,
-    )
+returns-2 c = simp (c .before .enum-told2 .given .1) (c .whole-extent .ensures)
 
 returns-3 : tie.Need-returns-3
 unfolding headExtent
@@ -35,9 +23,6 @@ head-extent-spec =
     (λ c. search needs)
     (λ c. search needs)
     (λ c κs. search needs)
-    (λ c κs. search needs)
-    (λ c κs. search needs)
-    add-t9
     (λ c. search needs)
     (λ c κs. search needs)
     returns

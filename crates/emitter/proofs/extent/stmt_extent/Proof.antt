@@ -5,7 +5,8 @@ use Rattle.emitter.proofs.extent.stmt_extent.Tie as tie
 use mathlib.Core.Bool.{true, false}
 use mathlib.Core.Path.{_≡_, sym, _∙_}
 use Rattle.numbers.specs.Items.{valueAt}
-use Rattle.numbers.specs.Kinds.{byShape, countIn, leastWords}
+use Rattle.numbers.specs.Kinds.{byShape, countIn}
+use Rattle.counts.specs.Words.{leastWords}
 use Rattle.numbers.specs.declared.kinds.Head.the-variants.{Nothing}
 use Rattle.numbers.specs.declared.kinds.Shape.{Shape}
 use Rattle.emitter.specs.Extents.{simpleExtent, declaredExtent, partsExtent, stmtExtent}

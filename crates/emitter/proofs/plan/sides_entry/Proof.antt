@@ -1,18 +1,26 @@
 -- `emitter::plan::sides_entry` meets its contract. Assumes nothing.
 use borrow.Author.Needs.{needs}
-use Rattle.emitter.specs.Plans.{sidesEntry}
 use Rattle.emitter.proofs.plan.sides_entry.Statement.{statement}
 use Rattle.emitter.proofs.plan.sides_entry.Tie as tie
+use native.Mathlib.Omega.{arith}
+use Rattle.emitter.specs.Plans.{storedIn, sidesEntry}
+
+sides-hold-requires : tie.Need-sides-hold-requires
+unfolding storedIn
+sides-hold-requires c κs = omega (arith, c .before .stored-in .ensures)
 
 returns : tie.Need-returns
 unfolding sidesEntry
 returns c =
-    rw (
-      ← c .before .sides-hold .ensures,
-      ← c .before .before .before .before .before .registers-in .ensures,
-      ← c .before .before .before .before .registers-in2 .ensures,
-      ← c .before .before .before .sides-need .ensures,
+    simp (
+      ← c .before .before .before .before .before .before .before .before .registers-in .ensures,
+      ← c .before .before .before .before .before .before .before .registers-in2 .ensures,
+      ← c .before .before .before .before .before .before .order-of .ensures,
+      ← c .before .before .before .before .before .stored-in .ensures,
+      ← c .before .before .before .before .stored-in2 .ensures,
+      ← c .before .before .before .sides-hold .ensures,
       ← c .before .before .next-in .ensures,
+      ← c .before .sides-need .ensures,
     ) (c .entry .ensures)
 
 pub sides-entry-spec : {M : Type 1} → statement M
@@ -22,6 +30,9 @@ sides-entry-spec =
     (λ c κs. search needs)
     (λ c κs. search needs)
     (λ c κs. search needs)
+    (λ c κs. search needs)
+    (λ c κs. search needs)
+    sides-hold-requires
     (λ c κs. search needs)
     (λ c κs. search needs)
     (λ c κs. search needs)

@@ -1,23 +1,30 @@
 -- `emitter::sides::put_between` meets its contract. Assumes nothing.
 use borrow.Author.Needs.{needs}
-use borrow.Author.Tests.{eq-eqb, ne-eqb}
-use Rattle.emitter.specs.Exprs.{betweenInto}
 use Rattle.emitter.proofs.sides.put_between.Statement.{statement}
 use Rattle.emitter.proofs.sides.put_between.Tie as tie
+use Rattle.emitter.specs.Exprs.{betweenInto}
 
 returns : tie.Need-returns
 unfolding betweenInto
-returns c = simp (eq-eqb _ _ (c .before .before .before .before .if1 .taken)) (c .before .before .plain .ensures)
+returns c = simp (c .enum-told .given .1)
 
 returns-2 : tie.Need-returns-2
 unfolding betweenInto
-returns-2 c = simp (ne-eqb _ _ (c .if1 .left))
+returns-2 c = simp (c .enum-told2 .given .1)
+
+returns-3 : tie.Need-returns-3
+unfolding betweenInto
+returns-3 c = simp (c .before .before .before .before .enum-told3 .given .1) (c .before .before .plain .ensures)
 
 pub put-between-spec : {M : Type 1} → statement M
 put-between-spec =
     tie.close
     (tie.spec
-    (λ c κs. search needs)
     (λ c. search needs)
+    (λ c. search needs)
+    (λ c. search needs)
+    (λ c κs. search needs)
     returns
-    returns-2)
+    returns-2
+    (λ c. search needs)
+    returns-3)

@@ -221,8 +221,7 @@ left-within c = rw (c .left .given .1) at (c .before .before .read-expr .ensures
 
 read-sides-join-requires : (t : ℕ) → read-sides-lts.Need-join-requires (read-sides-claims t) (read-sides-at t) read-sides.Post
 read-sides-join-requires t c κs =
-    let l = left-within (c .before .before .before .before .before .before) in
-    let r = rw (c .before .right .given .1) at (c .before .before .before .read-expr2 .ensures .1 .1) in (l .0, r .0, omega (arith, l .1))
+    omega (arith, left-within (c .before .before .before .before .before .before) .1)
 
 read-sides-returns : (t : ℕ) → read-sides-lts.Need-returns (read-sides-claims t) (read-sides-at t) read-sides.Post
 unfolding sidesAt sidesUse

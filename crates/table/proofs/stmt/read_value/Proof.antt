@@ -8,9 +8,8 @@ use Rattle.table.specs.Stmts.{valueAt}
 returns : tie.Need-returns
 unfolding valueAt
 returns c =
-    let k = c .before .before .before in
-    let r = k .before .before .read-whole .ensures in
-    (simp (c .leaf-part .ensures, c .before .larger .ensures, sym (r .0) ∙ k .next .given .1), r .1)
+    let k = c .before .before in
+    let r = k .before .before .read-whole .ensures in (simp (c .leaf-part .ensures, sym (r .0) ∙ k .next .given .1), r .1)
 
 returns-2 : tie.Need-returns-2
 unfolding valueAt
@@ -22,7 +21,6 @@ read-value-spec =
     (tie.spec
     (λ c κs. search needs)
     (λ c. search needs)
-    (λ c κs. search needs)
     (λ c κs. search needs)
     (λ c. search needs)
     returns

@@ -16,14 +16,14 @@ returns-2 c = simp (le-ltb _ _ (c .before .before .before .if1 .left), c .before
 returns-3 : tie.Need-returns-3
 unfolding finished
 returns-3 c =
-    let b = c .before .before .before .before in
-    simp (le-ltb _ _ (b .before .before .if1 .left), b .enum-told .given .1, le-leb _ _ (c .before .before .if2 .taken))
+    let k = c .before .before .before in
+    simp (le-ltb _ _ (k .before .before .if1 .left), k .enum-told .given .1, le-leb _ _ (c .before .if2 .taken))
 
 returns-4 : tie.Need-returns-4
 unfolding finished
 returns-4 c =
-    let b = c .before .before in
-    simp (le-ltb _ _ (b .before .before .if1 .left), b .enum-told .given .1, lt-leb _ _ (c .if2 .left))
+    let k = c .before .before in
+    simp (le-ltb _ _ (k .before .before .if1 .left), k .enum-told .given .1, lt-leb _ _ (c .if2 .left))
 
 pub finish-spec : {M : Type 1} → statement M
 finish-spec =

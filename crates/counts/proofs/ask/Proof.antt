@@ -1,11 +1,11 @@
--- `table::stmt::ask` meets its contract. Assumes nothing.
+-- `counts::ask` meets its contract. Assumes nothing.
 use borrow.Author.Needs.{needs}
-use Rattle.table.proofs.stmt.ask.Statement.{statement}
-use Rattle.table.proofs.stmt.ask.Tie as tie
+use Rattle.counts.proofs.ask.Statement.{statement}
+use Rattle.counts.proofs.ask.Tie as tie
 use Prim.Native.Nat.{ℕ, zero, suc, _+_}
 use mathlib.Core.Path.{_≡_, refl}
 use Rattle.model.specs.Counts.{guardWords}
-use Rattle.table.specs.Stmts.{asked}
+use Rattle.counts.specs.Words.{asked}
 
 -- a guard's words, by whether its condition stores
 none : (t : ℕ) → t ≡ 0 → guardWords t ≡ 0
@@ -23,7 +23,7 @@ returns c = simp (c .enum-told .given .1)
 
 returns-2 : tie.Need-returns-2
 unfolding asked
-returns-2 c = simp (c .enum-told2 .given .1)
+returns-2 c = simp (c .before .enum-told2 .given .1) (c .larger .ensures)
 
 returns-3 : tie.Need-returns-3
 unfolding asked
@@ -41,6 +41,7 @@ ask-spec =
     (λ c. search needs)
     (λ c. search needs)
     (λ c. search needs)
+    (λ c κs. search needs)
     (λ c. search needs)
     (λ c. search needs)
     returns

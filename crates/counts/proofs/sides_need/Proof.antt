@@ -1,4 +1,4 @@
--- `emitter::plan::sides_need` meets its contract. Assumes nothing.
+-- `counts::sides_need` meets its contract. Assumes nothing.
 use borrow.Author.Needs.{needs}
 use borrow.Author.Tests.{eqb-true, eq-eqb, ne-eqb}
 use native.Mathlib.Omega.{arith}
@@ -7,8 +7,8 @@ use mathlib.Core.Bool.{Bool, true, false, cond}
 use mathlib.Core.Path.{_≡_, refl}
 use lib.Dec.{eqb}
 use Rattle.model.specs.Counts.{sidesNeed}
-use Rattle.emitter.proofs.plan.sides_need.Statement.{statement}
-use Rattle.emitter.proofs.plan.sides_need.Tie as tie
+use Rattle.counts.proofs.sides_need.Statement.{statement}
+use Rattle.counts.proofs.sides_need.Tie as tie
 
 -- never over 3
 capped : (b : Bool) (x y : ℕ) → (b ≡ true → 3 ≤ x) → 3 ≤ y → 3 ≡ min 3 (cond b x y)
