@@ -20,15 +20,27 @@ fn print_words(memory: &[u32]) {
     }
 }
 
+// The instructions of a run whose budget was used; 0 for any other answer.
+fn spent(answer: model::RunAnswer) -> u64 {
+    match answer {
+        model::RunAnswer::Ran(outcome) => match outcome {
+            model::Outcome::Ended(_) => 0,
+            model::Outcome::Waiting(_) => 0,
+            model::Outcome::Spent(n) => n,
+            model::Outcome::Fault(_, _) => 0,
+        },
+        model::RunAnswer::Short(_) => 0,
+    }
+}
+
 // Starts a machine over a code with W = 20 and no outside channels, runs it, and writes the answer and the memory.
 fn measure(name: &[u8], code: &[u8]) {
     let mut memory = [0; 20];
     let begun = machine::start(code, &mut memory, 20, 0, 0, model::limits::BENCH_SLICE);
-    let course = show::go_on(show::begin(begun.machine), code, &mut memory, 10000000);
+    let ran = machine::run(begun.machine, code, &mut memory, 10000000);
+    let answer = ran.answer;
     lines::write(name);
-    lines::write(b" ");
-    show::print_kind(course.kind);
-    print(b" ", course.total);
+    print(b" spent ", spent(answer));
     print_words(&memory);
     lines::write(b"\n");
 }
