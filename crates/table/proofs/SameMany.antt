@@ -11,8 +11,6 @@ use Rattle.model.specs.Counts.{processes}
 use Rattle.table.specs.Stmts.{firstOf, added, partAt, mostFrom, partUses, mostUse, withStmt}
 use Rattle.numbers.specs.declared.kinds.Head.{Head}
 use Rattle.table.specs.declared.stmt.Names.{Names}
-use Rattle.table.specs.declared.stmt.First.{First}
-use Rattle.table.specs.declared.stmt.First.the-variants.{Nowhere, At}
 use Rattle.table.specs.declared.stmt.Part.{Part}
 use Rattle.table.specs.declared.stmt.StmtRead.{StmtRead}
 use Rattle.table.specs.declared.stmt.StmtRead.the-variants.{Stmt, Refused as NoStmt}
@@ -23,13 +21,13 @@ use Rattle.table.specs.declared.stmt.SumRead.{SumRead}
 use Rattle.table.specs.declared.stmt.SumRead.the-variants.{Sum as Total, Refused as NoSum}
 use Rattle.table.proofs.SameSimple.{first, Within, wider, within-both, within-nothing}
 
-pub firstOf-nowhere : (a : First) → firstOf a Nowhere ≡ a
-firstOf-nowhere Nowhere = refl
-firstOf-nowhere (At p) = refl
+pub firstOf-none : (a : ℕ) → firstOf a 0 ≡ a
+firstOf-none zero = refl
+firstOf-none (suc p) = refl
 
-pub firstOf-assoc : (a b c : First) → firstOf (firstOf a b) c ≡ firstOf a (firstOf b c)
-firstOf-assoc Nowhere b c = refl
-firstOf-assoc (At p) b c = refl
+pub firstOf-assoc : (a b c : ℕ) → firstOf (firstOf a b) c ≡ firstOf a (firstOf b c)
+firstOf-assoc zero b c = refl
+firstOf-assoc (suc p) b c = refl
 
 pub first-orElse : (a b : Option ℕ) → first (orElse a b) ≡ firstOf (first a) (first b)
 first-orElse none b = refl
@@ -52,7 +50,7 @@ pub record PartIs {L : Type 0} (K : Counting L) (sc : Scope) (place at : ℕ) (w
     : Type 0 where
   pub words : ℕ
   pub processes : ℕ
-  pub clash : First
+  pub clash : ℕ
   pub use-of : Usage
   pub is : x ≡ Stmt (record { next = n; words = words; processes = processes; clash = clash })
   pub ahead : at ≤ n
@@ -93,7 +91,7 @@ many-same K more part s d w sc inner uses zero head place t l parts =
       ahead = omega arith;
       most = rw (K .no-needs) (omega arith);
       live = rw (K .no-lives) (omega arith);
-      clash = rw (K .no-clashes) (sym (firstOf-nowhere (t .clash)));
+      clash = rw (K .no-clashes) (sym (firstOf-none (t .clash)));
       uses = rw (K .no-usages) (use-nothing sc);
       within = rw (K .no-usages) (within-nothing sc place (t .next));
     })

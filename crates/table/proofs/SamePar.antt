@@ -29,7 +29,7 @@ use Rattle.table.proofs.SameExpr.{Numbers}
 use Rattle.table.proofs.SameSimple.{first, partOf, Within, RestIs, StmtIs, wider, within-both, within-nothing, DeclaredIn}
 use Rattle.table.proofs.SameDeclare.{InnerIs}
 use Rattle.numbers.specs.Items.{betweenAt, withItem}
-use Rattle.table.proofs.SameMany.{first-orElse, firstOf-assoc, firstOf-nowhere}
+use Rattle.table.proofs.SameMany.{first-orElse, firstOf-assoc, firstOf-none}
 use Rattle.table.proofs.Clash.{clashing-is, clashesBefore, before-any}
 use Rattle.table.proofs.SameParts.{scoped-later, innerUses, plus-assoc}
 
@@ -84,7 +84,7 @@ branches-same s d w sc zero place b u l h f o inner sets within =
       ahead = omega arith;
       sum = omega arith;
       live = omega arith;
-      clash-in = sym (firstOf-nowhere (b .total .clash));
+      clash-in = sym (firstOf-none (b .total .clash));
       clashing-in = sym (or-false (b .bad));
       sets = rw (plus-nothing u) sets;
       within = within-nothing sc place (b .total .next);

@@ -29,8 +29,6 @@ use Rattle.table.specs.Uses.{markAt, changeAt}
 use Rattle.numbers.specs.declared.Item.{Item}
 use Rattle.numbers.specs.declared.Item.the-variants.{Refused}
 use Rattle.table.specs.declared.stmt.Names.{Names}
-use Rattle.table.specs.declared.stmt.First.{First}
-use Rattle.table.specs.declared.stmt.First.the-variants.{Nowhere, At}
 use Rattle.table.specs.declared.stmt.Part.{Part}
 use Rattle.table.specs.declared.stmt.StmtRead.{StmtRead}
 use Rattle.table.specs.declared.stmt.StmtRead.the-variants.{Stmt, Refused as NoStmt}
@@ -44,9 +42,9 @@ use Rattle.table.proofs.SameExpr.{Numbers, exprWay, expr-same, variable
 use Rattle.numbers.specs.Items.{withItem}
 use Rattle.table.specs.Exprs.{withExpr}
 
-abbrev pub first : Option ℕ → First
-first none = Nowhere
-first (some p) = At p
+abbrev pub first : Option ℕ → ℕ
+first none = 0
+first (some p) = suc p
 
 -- what is counted of a statement that ends at a place
 abbrev pub partOf : M.Stmt → ℕ → Part
@@ -138,7 +136,7 @@ within-changing sc lo hi k x e = within-both (within-only changed sc lo hi k x e
 
 -- SKIP and STOP
 pub idle-same : (sc : Scope) (s : List ℕ) (place at : ℕ) (st : M.Stmt) → usage st ≡ nothing
-    → partOf st at ≡ record { next = at; words = 2; processes = 1; clash = Nowhere }
+    → partOf st at ≡ record { next = at; words = 2; processes = 1; clash = 0 }
     → Same s (RestIs sc place at (λ l. l)) NoStmt (leaf at 2) (parsed st at (drop at s))
 idle-same sc s place at st none-used is =
     gives st at (leaf at 2)

@@ -112,7 +112,7 @@ groups-in (suc k) s at =
     of-cond (InNumber at (length s)) (eqb v 0) tt
     (of-cond (InNumber at (length s)) (ltb v 33554432) (omega (arith, h .0, h .1)) tt)))))
 
-between-in : (lo hi : ℕ) (s : List ℕ) (at : ℕ) → InItem at (length s) (betweenAt lo hi s at)
+pub between-in : (lo hi : ℕ) (s : List ℕ) (at : ℕ) → InItem at (length s) (betweenAt lo hi s at)
 unfolding betweenAt
 between-in lo hi s at =
     of-number (InItem at (length s)) (InNumber at (length s)) tt (groupsAt 5 s at) (groups-in 5 s at) (λ v n h.

@@ -8,8 +8,6 @@ use Rattle.table.specs.Exprs.{exprAt, withExpr, kept, exprUses}
 use Rattle.table.specs.Uses.{inputsSet, outputsSet, noNames, markAt, changeAt, leaveAt, clashing, merged}
 use Rattle.numbers.specs.declared.Item.{Item}
 use Rattle.table.specs.declared.stmt.Names.{Names}
-use Rattle.table.specs.declared.stmt.First.{First}
-use Rattle.table.specs.declared.stmt.First.the-variants.{Nowhere, At}
 use Rattle.table.specs.declared.stmt.Part.{Part}
 use Rattle.table.specs.declared.stmt.StmtRead.{StmtRead}
 use Rattle.table.specs.declared.stmt.StmtRead.the-variants.{Stmt, Refused as NoStmt}
@@ -29,9 +27,10 @@ use Rattle.counts.specs.Words.{asked, leastWords}
 use Rattle.counts.specs.declared.Role.{Role}
 use Rattle.counts.specs.declared.Role.the-variants.{Value as ForValue, Output as ForOutput, Guard as ForGuard}
 
-abbrev pub firstOf : First → First → First
-firstOf Nowhere o = o
-firstOf (At p) o = At p
+-- a clash is told by one more than the place of its PAR, and 0 is none: the first of two
+abbrev pub firstOf : ℕ → ℕ → ℕ
+firstOf zero o = o
+firstOf (suc p) o = suc p
 
 -- what follows a head, and what follows a statement; `refuse` answers a refusal
 abbrev pub withHead : {R : Type 0} → (refuse : ℕ → ℕ → R) → HeadRead → (ℕ → ℕ → R) → R
@@ -56,7 +55,7 @@ abbrev pub outputAt : Names → List ℕ → ℕ → Item
 outputAt w s at = nameAt (w .channels) 0 (w .inputs) s at
 
 abbrev pub leaf : (next words : ℕ) → StmtRead
-leaf n words = Stmt (record { next = n; words = words; processes = 1; clash = Nowhere })
+leaf n words = Stmt (record { next = n; words = words; processes = 1; clash = 0 })
 
 -- an expression as the end of a statement without statements inside
 unfoldable pub valueAt : Role → (depth variables : ℕ) → List ℕ → (at : ℕ) → StmtRead
@@ -109,7 +108,7 @@ abbrev pub behind : (words : ℕ) → Part → Part
 behind a p = record { next = p .next; words = max a (p .words); processes = p .processes; clash = p .clash }
 
 abbrev pub nothing : ℕ → Sum
-nothing at = record { next = at; most = 0; sum = 0; live = 0; all = 0; clash = Nowhere }
+nothing at = record { next = at; most = 0; sum = 0; live = 0; all = 0; clash = 0 }
 
 abbrev pub added : Sum → Part → Sum
 added t p =
@@ -193,7 +192,7 @@ parOf at t bad =
       next = t .next;
       words = 2 + t .sum;
       processes = max 1 (t .all);
-      clash = firstOf (cond bad (At at) Nowhere) (t .clash);
+      clash = firstOf (cond bad (suc at) 0) (t .clash);
     })
 
 -- so many more names

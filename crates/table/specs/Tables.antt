@@ -1,5 +1,5 @@
 -- A whole table as the reader answers it: the channel counts, the statement, and what is tested after it was read.
-use Prim.Native.Nat.{ℕ, _+_}
+use Prim.Native.Nat.{ℕ, zero, suc, _+_}
 use mathlib.Core.Bool.{cond}
 use mathlib.Core.List.{List}
 use lib.ListN.{length}
@@ -8,16 +8,14 @@ use Rattle.model.specs.declared.Reading.{Reading}
 use Rattle.model.specs.declared.Reading.the-variants.{Accepted, Refused}
 use Rattle.numbers.specs.Items.{betweenAt, withItem}
 use Rattle.table.specs.Stmts.{stmtAt, withStmt}
-use Rattle.table.specs.declared.stmt.First.{First}
-use Rattle.table.specs.declared.stmt.First.the-variants.{Nowhere, At}
 use Rattle.table.specs.declared.stmt.Part.{Part}
 use Rattle.model.specs.Limits.{tableLimit, depthLimit, channelLimit}
 use Rattle.model.specs.Accept.{limit}
 
 -- 7 at the place found, if one was; else what is tested next
-abbrev pub clashOr : First → Reading → Reading
-clashOr Nowhere r = r
-clashOr (At p) r = Refused 7 p
+abbrev pub clashOr : (clash : ℕ) → Reading → Reading
+clashOr zero r = r
+clashOr (suc p) r = Refused 7 p
 
 -- the answer for a statement that was read: refusals 6, 7 and 9, lowest first, then the facts
 unfoldable pub finished : (ins outs len : ℕ) → Part → Reading

@@ -27,18 +27,13 @@ pub struct Names {
     pub outputs: u64,
 }
 
-// A place, or none.
-pub enum First {
-    Nowhere,
-    At(usize),
-}
-
-// What is counted of a statement: the place after it, words needed, live processes and the first PAR with a clash.
+// What is counted of a statement: the place after it, words needed, live processes, and one more than the place of the first PAR with a
+// clash, 0 for none.
 pub struct Part {
     pub next: usize,
     pub words: u32,
     pub processes: u32,
-    pub clash: First,
+    pub clash: usize,
 }
 
 pub enum StmtRead {
@@ -59,7 +54,7 @@ pub struct Sum {
     pub sum: u32,
     pub live: u32,
     pub all: u32,
-    pub clash: First,
+    pub clash: usize,
 }
 
 pub enum SumRead {
@@ -67,13 +62,11 @@ pub enum SumRead {
     Refused(u32, usize),
 }
 
-fn earlier(a: First, b: First) -> First
+// The first of two that is not 0.
+fn earlier(a: usize, b: usize) -> usize
     ensures { λ r. ⌜ r ≡ firstOf a b ⌝ }
 {
-    match a {
-        First::Nowhere => b,
-        First::At(p) => First::At(p),
-    }
+    if a == 0 { b } else { a }
 }
 
 // A statement without statements inside.
@@ -84,7 +77,7 @@ fn leaf_part(next: usize, words: u32) -> StmtRead
         next: next,
         words: words,
         processes: 1,
-        clash: First::Nowhere,
+        clash: 0,
     })
 }
 
@@ -259,7 +252,7 @@ fn no_parts(at: usize) -> Sum
         sum: 0,
         live: 0,
         all: 0,
-        clash: First::Nowhere,
+        clash: 0,
     }
 }
 
@@ -270,9 +263,7 @@ fn add(sum: Sum, part: Part) -> Sum
 {
     let most = counts::larger(sum.most, part.words);
     let live = counts::larger(sum.live, part.processes);
-    let clash_before = sum.clash;
-    let clash_here = part.clash;
-    let clash = earlier(clash_before, clash_here);
+    let clash = earlier(sum.clash, part.clash);
     Sum {
         next: part.next,
         most: most,
@@ -289,27 +280,21 @@ fn gather(head: Head, sum: Sum) -> StmtRead
 {
     let words = counts::larger(counts::least_words(head), sum.most);
     let processes = counts::larger(1, sum.live);
-    let clash = sum.clash;
     StmtRead::Stmt(Part {
         next: sum.next,
         words: words,
         processes: processes,
-        clash: clash,
+        clash: sum.clash,
     })
 }
 
 // What is counted of the PAR at a place.
 fn close_par(place: usize, sum: Sum, bad: bool) -> StmtRead
-    requires { ⌜ sum .sum ≤ 32000000 ⌝ }
+    requires { ⌜ (sum .sum ≤ 32000000) × (place ≤ 16384) ⌝ }
     ensures { λ r. ⌜ r ≡ parOf place sum bad ⌝ }
 {
-    let own = if bad {
-        First::At(place)
-    } else {
-        First::Nowhere
-    };
-    let inner = sum.clash;
-    let clash = earlier(own, inner);
+    let own = if bad { place + 1 } else { 0 };
+    let clash = earlier(own, sum.clash);
     let processes = counts::larger(1, sum.all);
     StmtRead::Stmt(Part {
         next: sum.next,
@@ -326,12 +311,11 @@ fn behind_head(asked: u32, read: StmtRead) -> StmtRead
     match read {
         StmtRead::Stmt(p) => {
             let words = counts::larger(asked, p.words);
-            let clash = p.clash;
             StmtRead::Stmt(Part {
                 next: p.next,
                 words: words,
                 processes: p.processes,
-                clash: clash,
+                clash: p.clash,
             })
         }
         StmtRead::Refused(n, p) => StmtRead::Refused(n, p),
@@ -344,15 +328,12 @@ fn in_scope(count: u64, read: StmtRead) -> StmtRead
     ensures { λ r. ⌜ r ≡ declaring count read ⌝ }
 {
     match read {
-        StmtRead::Stmt(p) => {
-            let clash = p.clash;
-            StmtRead::Stmt(Part {
-                next: p.next,
-                words: count as u32 + p.words,
-                processes: p.processes,
-                clash: clash,
-            })
-        }
+        StmtRead::Stmt(p) => StmtRead::Stmt(Part {
+            next: p.next,
+            words: count as u32 + p.words,
+            processes: p.processes,
+            clash: p.clash,
+        }),
         StmtRead::Refused(n, p) => StmtRead::Refused(n, p),
     }
 }
@@ -420,7 +401,7 @@ fn read_par(
     names: Names,
     sets: &mut [u64; 64],
 ) -> StmtRead
-    requires { ⌜ Fits names depth × (names .channels ≤ 1024) × (length (now table) ≤ 16384) × (count ≤ 32) ⌝ }
+    requires { ⌜ Fits names depth × (names .channels ≤ 1024) × (length (now table) ≤ 16384) × (count ≤ 32) × (place ≤ 16384) ⌝ }
     ensures said { λ r. ⌜ r ≡ parAt place count depth names (now (table .entry)) at ⌝ }
     ensures uses { λ r. ⌜ now (sets .exit) ≡ parUsesAt count depth names (now (table .entry)) at (now (sets .entry)) ⌝ }
 {
@@ -496,7 +477,7 @@ fn read_inside(
     names: Names,
     sets: &mut [u64; 64],
 ) -> StmtRead
-    requires { ⌜ Fits names (depth + 1) × (length (now table) ≤ 16384) ⌝ }
+    requires { ⌜ Fits names (depth + 1) × (length (now table) ≤ 16384) × (place ≤ 16384) ⌝ }
     ensures said { λ r. ⌜ r ≡ insideAt place kind depth names (now (table .entry)) at ⌝ }
     ensures uses { λ r. ⌜ now (sets .exit) ≡ insideUses kind depth names (now (table .entry)) at (now (sets .entry)) ⌝ }
 {

@@ -12,22 +12,18 @@ fn finish(ins: u64, outs: u64, length: usize, part: crate::stmt::Part) -> model:
     if part.next < length {
         return model::Reading::Refused(6, part.next);
     }
-    let clash = part.clash;
-    match clash {
-        crate::stmt::First::At(p) => model::Reading::Refused(7, p),
-        crate::stmt::First::Nowhere => {
-            if part.processes <= model::limits::PROCESSES {
-                model::Reading::Accepted(model::Facts {
-                    words: part.words + ins as u32 + outs as u32,
-                    inputs: ins as u32,
-                    outputs: outs as u32,
-                    processes: part.processes,
-                })
-            } else {
-                model::Reading::Refused(9, 0)
-            }
-        }
+    if 0 < part.clash {
+        return model::Reading::Refused(7, part.clash - 1);
     }
+    if model::limits::PROCESSES < part.processes {
+        return model::Reading::Refused(9, 0);
+    }
+    model::Reading::Accepted(model::Facts {
+        words: part.words + ins as u32 + outs as u32,
+        inputs: ins as u32,
+        outputs: outs as u32,
+        processes: part.processes,
+    })
 }
 
 // The statement behind the channel counts, and nothing behind it.

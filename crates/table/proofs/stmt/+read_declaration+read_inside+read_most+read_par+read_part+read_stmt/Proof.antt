@@ -71,7 +71,7 @@ use Rattle.table.specs.declared.stmt.SumRead.{SumRead}
 use Rattle.table.specs.declared.stmt.SumRead.the-variants.{Sum as Total, Refused as NoSum}
 use Rattle.table.specs.Sets.{Exact}
 use Rattle.table.proofs.SameStmt.{exact-uses}
-use Rattle.table.proofs.Small.{Small, count-most, FewIn, few, count-few, stmt-small, stmt-counts, part-counts}
+use Rattle.table.proofs.Small.{Small, between-in, count-most, FewIn, few, count-few, stmt-small, stmt-counts, part-counts}
 
 -- more names fit where there is depth left, and what is counted in a table fits
 more-fits : (x : Declared) (n d : ℕ) (w : Names) → n ≤ 32 → Fits w (d + 1) → Fits (moreNames x n w) d
@@ -466,8 +466,10 @@ read-inside-read-par-requires t c κs =
     let k = r .before .before in
     let o = k .before .before .before .before in
     let l = counts-few (k .before .before) (k .count .given .1) in
-    let e = sym (r .read-count .ensures) ∙ n .n3 .given .1 in
-    (omega (arith, o .pre .0), (less-fits _ _ (o .pre .1 .0), omega (arith, o .pre .1 .0 .2), o .pre .1 .1, count-few _ _ _ l e))
+    let e = sym (r .read-count .ensures) ∙ n .n3 .given .1 in (
+      omega (arith, o .pre .0),
+      (less-fits _ _ (o .pre .1 .0), omega (arith, o .pre .1 .0 .2), o .pre .1 .1, count-few _ _ _ l e, o .pre .1 .2),
+    )
 
 read-inside-read-most-requires : (t : ℕ)
     → read-inside-lts.Need-read-most-requires (read-inside-claims t) (read-inside-at t) read-inside.Post
@@ -675,7 +677,11 @@ read-stmt-read-inside-requires : (t : ℕ) → read-stmt-lts.Need-read-inside-re
 read-stmt-read-inside-requires t c κs =
     let k = c .before .before .before in
     let o = k .before .before .before .before .before in
-    (omega (arith, o .pre .0), (same-fits _ _ (k .before .before .before .if1 .left) (o .pre .1 .0), o .pre .1 .1))
+    let e = sym (k .before .before .read-between .ensures) ∙ k .number .given .1 in
+    let b = rw e at (between-in 0 11 (o .args .table .now) (o .args .at)) in (
+      omega (arith, o .pre .0),
+      (same-fits _ _ (k .before .before .before .if1 .left) (o .pre .1 .0), o .pre .1 .1, omega (arith, b, o .pre .1 .1)),
+    )
 
 read-stmt-returns-2 : (t : ℕ) → read-stmt-lts.Need-returns-2 (read-stmt-claims t) (read-stmt-at t) read-stmt.Post
 read-stmt-returns-2 t c =
