@@ -1,5 +1,6 @@
 // What is counted of the parts of a program, for the reader and for the compiler: registers and stored values (document 02, order 2), and
-// words (document 01, "Workspace and code").
+// words (document 01, "Workspace and code"). Stored values are at most 255 where they are summed: an expression of 32 levels has fewer than
+// 32, and an entry of the compiler's plan has 8 bits for them.
 ghost use mathlib.Core.Path.{_≡_};
 ghost use Prim.Native.Nat.{_≤_, max};
 ghost use Rattle.model.specs.Counts.{sidesNeed, orderOf, sidesHold};

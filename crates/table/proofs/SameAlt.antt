@@ -19,7 +19,7 @@ use Rattle.model.specs.declared.kinds.GuardKind.{GuardKind}
 use Rattle.model.specs.declared.kinds.GuardKind.the-variants.{Input as InputGuard, Skip as SkipGuard}
 use Rattle.numbers.specs.declared.kinds.Head.the-variants.{Guard}
 use Rattle.counts.specs.declared.Role.the-variants.{Guard as ForGuard}
-use Rattle.numbers.specs.Kinds.{guardKind, byGuard}
+use Rattle.numbers.specs.Kinds.{guardKind, byGuard, lastGuard}
 use Rattle.table.specs.declared.stmt.Names.{Names}
 use Rattle.table.specs.declared.stmt.StmtRead.{StmtRead}
 use Rattle.table.specs.declared.stmt.StmtRead.the-variants.{Stmt, Refused as NoStmt}
@@ -67,7 +67,7 @@ record GuardIs (sc : Scope) (place at : ℕ) (way : List ℕ → List ℕ) (g : 
 
 module _ (s : List ℕ) (d : ℕ) (w : Names) (sc : Scope) (place : ℕ) (b : Bytes s) (h : Scoped w sc place) (o : Numbers sc) where
   -- what follows a guard's number
-  skip-head : (at v n : ℕ) → at < n → betweenAt 0 1 s at ≡ Found v n → guardKind v ≡ SkipGuard
+  skip-head : (at v n : ℕ) → at < n → betweenAt 0 lastGuard s at ≡ Found v n → guardKind v ≡ SkipGuard
       → Same s (GuardIs sc place at (guardUses d w s at)) NoHead
       (withHead NoHead (wholeAt ForGuard d (w .variables) s n) (λ m a. Before m a))
       (guardOf sc (readExpr d sc) SkipGuard n (drop n s))
@@ -80,7 +80,7 @@ module _ (s : List ℕ) (d : ℕ) (w : Names) (sc : Scope) (place : ℕ) (b : By
       (record { is = refl; ahead = omega (arith, t, r .ahead); uses = rw (item, kind, q ∙ r .is) value; within = r .within place })))
       (λ j p. refl)
 
-  input-head : (at v n : ℕ) → at < n → betweenAt 0 1 s at ≡ Found v n → guardKind v ≡ InputGuard
+  input-head : (at v n : ℕ) → at < n → betweenAt 0 lastGuard s at ≡ Found v n → guardKind v ≡ InputGuard
       → Same s (GuardIs sc place at (guardUses d w s at)) NoHead
       (withHead NoHead (wholeAt ForGuard d (w .variables) s n) (λ m a. takenAt w s m a))
       (guardOf sc (readExpr d sc) InputGuard n (drop n s))
@@ -148,7 +148,7 @@ module _ (s : List ℕ) (d : ℕ) (w : Names) (sc : Scope) (place : ℕ) (b : By
         rw (k .found, e) (guard-then at l (rw (q ∙ k .found, e) refl) (of-kind kind (k .value) n (k .there .ahead) (q ∙ k .found) e)))
         (λ j p. refl))
       where
-        of-kind : (kind : GuardKind) (v n : ℕ) → at < n → betweenAt 0 1 s at ≡ Found v n → guardKind v ≡ kind
+        of-kind : (kind : GuardKind) (v n : ℕ) → at < n → betweenAt 0 lastGuard s at ≡ Found v n → guardKind v ≡ kind
             → Same s (GuardIs sc place at (guardUses d w s at)) NoHead
             (withHead NoHead (wholeAt ForGuard d (w .variables) s n) (λ m a. byGuard kind (takenAt w s m a) (Before m a)))
             (guardOf sc (readExpr d sc) kind n (drop n s))

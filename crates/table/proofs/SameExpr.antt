@@ -11,7 +11,7 @@ use Rattle.model.specs.Syntax as M
 use Rattle.model.specs.Reader.{Parsed, Reader, pure, Scope, readName, anySite, exprKinds, operators, exprOf, readExpr}
 use Rattle.model.specs.declared.kinds.ExprKind.{ExprKind}
 use Rattle.model.specs.declared.kinds.ExprKind.the-variants.{Constant, Variable, Not, Binary}
-use Rattle.numbers.specs.Kinds.{exprKind, byExpr}
+use Rattle.numbers.specs.Kinds.{exprKind, byExpr, lastExpression}
 use Rattle.model.specs.Usage.{reading, isIn, reads}
 use Rattle.model.proofs.Cases.{never}
 use Rattle.model.specs.Counts.{registers, temporaries}
@@ -143,7 +143,7 @@ expr-same (suc d) names s at b o =
     of-kind inner n Binary =
         binary-same names (λ i. exprAt d (length (names .variables)) s i) (exprWay d names s) (readExpr d names) s n b inner
 
-    with-kind : (v : ℕ) (k : ExprKind) (n : ℕ) (x : ExprRead) (r : Parsed M.Expr) → betweenAt 0 3 s at ≡ Found v n → exprKind v ≡ k
+    with-kind : (v : ℕ) (k : ExprKind) (n : ℕ) (x : ExprRead) (r : Parsed M.Expr) → betweenAt 0 lastExpression s at ≡ Found v n → exprKind v ≡ k
         → NumberAt s at v n → Same s (ExprIs names n (uses-of k n)) NoExpr x r
         → Same s (ExprIs names at (exprWay (suc d) names s at)) NoExpr x r
     with-kind v k n x r f g t (gives e m y h) =

@@ -9,7 +9,7 @@ use Rattle.model.specs.Syntax as M
 use Rattle.model.specs.Reader.{Parsed, parsed, Scope, readExpr, Inner, stmtOf, readStmt, stmtKinds}
 use Rattle.model.specs.declared.kinds.StmtKind.{StmtKind}
 use Rattle.model.specs.declared.kinds.StmtKind.the-variants.{Skip, Stop, Assign, Input, Output, Var, Chan, Seq, Par, If, While, Alt}
-use Rattle.numbers.specs.Kinds.{stmtKind, countAt}
+use Rattle.numbers.specs.Kinds.{stmtKind, countAt, lastStatement}
 use Rattle.model.specs.Usage.{usage, firstClash}
 use Rattle.model.specs.Counts.{processes, need}
 use Rattle.table.specs.Stmts.{leaf, simpleAt, Fits, stmtAt, insideOf, simpleUses, stmtUses, insideUsesOf}
@@ -79,7 +79,7 @@ stmt-same (suc d) s b w sc at h f =
     of-kind down fits o n l While = loop-same s d w sc at n inner b (omega (arith, l)) h o fits down refl refl
     of-kind down fits o n l Alt = alternative-same s d w sc at n inner b (omega (arith, l)) h o fits down refl refl
 
-    with-kind : (v : ℕ) (k : StmtKind) (n : ℕ) (x : StmtRead) (r : Parsed M.Stmt) → betweenAt 0 11 s at ≡ Found v n → stmtKind v ≡ k
+    with-kind : (v : ℕ) (k : StmtKind) (n : ℕ) (x : StmtRead) (r : Parsed M.Stmt) → betweenAt 0 lastStatement s at ≡ Found v n → stmtKind v ≡ k
         → NumberAt s at v n → Same s (RestIs sc at n (uses-of k n)) NoStmt x r → Same s (StmtIs s (suc d) w sc at) NoStmt x r
     with-kind v k n x r f g t (gives st m y r2) =
         gives st m y

@@ -22,7 +22,7 @@ use native.Mathlib.Omega.{arith}
 use mathlib.Core.List.{List}
 use mathlib.Core.Path.{_≡_, refl, sym, _∙_}
 use Rattle.numbers.specs.Items.{betweenAt, nameAt, deepAt, groupsAt, withNumber, withItem}
-use Rattle.numbers.specs.Kinds.{exprKind, byExpr}
+use Rattle.numbers.specs.Kinds.{exprKind, byExpr, lastExpression, lastOperator}
 use Rattle.model.specs.declared.kinds.ExprKind.{ExprKind}
 use Rattle.table.specs.Exprs.{single, joined, exprAt, constantAt, usedAt, sidesAt, kept, usedUses, exprUses, sidesUse, Within}
 use Rattle.numbers.specs.declared.Item.{Item}
@@ -49,8 +49,8 @@ abbrev usesByKind : (d vs : ℕ) → List ℕ → List ℕ → ExprKind → ℕ 
 usesByKind d vs s l k n = byExpr k l (usedUses vs s n l) (exprUses (d - 1) vs s n l) (sidesUse (d - 1) vs s n l)
 
 turn : (d vs : ℕ) (s : List ℕ) (at : ℕ) (l : List ℕ) → (d ≡ 0 → ⊥)
-    → (exprAt d vs s at ≡ withItem NoExpr (betweenAt 0 3 s at) (λ k n. byKind d vs s (exprKind k) n))
-    × (exprUses d vs s at l ≡ withItem (kept l) (betweenAt 0 3 s at) (λ k n. usesByKind d vs s l (exprKind k) n))
+    → (exprAt d vs s at ≡ withItem NoExpr (betweenAt 0 lastExpression s at) (λ k n. byKind d vs s (exprKind k) n))
+    × (exprUses d vs s at l ≡ withItem (kept l) (betweenAt 0 lastExpression s at) (λ k n. usesByKind d vs s l (exprKind k) n))
 unfolding exprAt sidesAt exprUses sidesUse
 turn zero vs s at l p = absurd (p refl)
 turn (suc d) vs s at l p = let e : suc d - 1 ≡ d = omega arith in (rw e, rw e)
@@ -212,7 +212,7 @@ read-sides-read-expr-requires-2 t c κs =
 -- the operator that was read, and what is counted of the left side
 operator-is : {t : ℕ} (c : read-sides-lts.After-operator (read-sides-claims t) (read-sides-at t) read-sides.Post)
     → let a = c .before .before .before .before .args in
-    betweenAt 0 7 (a .table .now) (a .at) ≡ Found (c .operator .given .0 .0) (c .operator .given .0 .1 .0)
+    betweenAt 0 lastOperator (a .table .now) (a .at) ≡ Found (c .operator .given .0 .0) (c .operator .given .0 .1 .0)
 operator-is c = sym (c .before .before .read-between .ensures) ∙ c .operator .given .1
 
 left-within : {t : ℕ} (c : read-sides-lts.After-left (read-sides-claims t) (read-sides-at t) read-sides.Post)

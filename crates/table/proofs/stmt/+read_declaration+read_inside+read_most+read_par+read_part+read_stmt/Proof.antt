@@ -53,7 +53,7 @@ use lib.ListN.{length}
 use Rattle.table.specs.Uses.{noNames, clashing}
 use Rattle.table.specs.Exprs.{kept}
 use Rattle.numbers.specs.Items.{betweenAt, deepAt, withItem}
-use Rattle.numbers.specs.Kinds.{stmtKind, countAt, byShape}
+use Rattle.numbers.specs.Kinds.{stmtKind, countAt, byShape, lastStatement}
 use Rattle.numbers.specs.declared.kinds.Declared.{Declared}
 use Rattle.numbers.specs.declared.kinds.Declared.the-variants.{Variables, Channels}
 use Rattle.numbers.specs.declared.kinds.Head.{Head}
@@ -95,8 +95,8 @@ unfolding stmtAt stmtUses
 none d w s at l e = (rw e, rw e)
 
 turn : (d : ℕ) (w : Names) (s : List ℕ) (at : ℕ) (l : List ℕ) → (d ≡ 0 → ⊥)
-    → (stmtAt d w s at ≡ withItem NoStmt (betweenAt 0 11 s at) (λ k n. insideAt at (stmtKind k) (d - 1) w s n))
-    × (stmtUses d w s at l ≡ withItem (kept l) (betweenAt 0 11 s at) (λ k n. insideUses (stmtKind k) (d - 1) w s n l))
+    → (stmtAt d w s at ≡ withItem NoStmt (betweenAt 0 lastStatement s at) (λ k n. insideAt at (stmtKind k) (d - 1) w s n))
+    × (stmtUses d w s at l ≡ withItem (kept l) (betweenAt 0 lastStatement s at) (λ k n. insideUses (stmtKind k) (d - 1) w s n l))
 unfolding stmtAt stmtUses insideAt insideUses
 turn zero w s at l p = absurd (p refl)
 turn (suc d) w s at l p = let e : suc d - 1 ≡ d = omega arith in (rw e, rw e)
@@ -678,7 +678,7 @@ read-stmt-read-inside-requires t c κs =
     let k = c .before .before .before in
     let o = k .before .before .before .before .before in
     let e = sym (k .before .before .read-between .ensures) ∙ k .number .given .1 in
-    let b = rw e at (between-in 0 11 (o .args .table .now) (o .args .at)) in (
+    let b = rw e at (between-in 0 lastStatement (o .args .table .now) (o .args .at)) in (
       omega (arith, o .pre .0),
       (same-fits _ _ (k .before .before .before .if1 .left) (o .pre .1 .0), o .pre .1 .1, omega (arith, b, o .pre .1 .1)),
     )

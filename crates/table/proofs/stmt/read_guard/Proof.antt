@@ -6,11 +6,12 @@ use mathlib.Core.Path.{_≡_, sym, _∙_}
 use Rattle.numbers.specs.Items.{betweenAt}
 use Rattle.numbers.specs.declared.Item.the-variants.{Item as Found}
 use Rattle.table.specs.Stmts.{guardAt, guardUses}
+use Rattle.numbers.specs.Kinds.{lastGuard}
 
 -- the number that was read
 number-is : (c : tie.After-number)
     → let a = c .before .before .before .before .args in
-    betweenAt 0 1 (a .table .now) (a .at) ≡ Found (c .number .given .0 .0) (c .number .given .0 .1 .0)
+    betweenAt 0 lastGuard (a .table .now) (a .at) ≡ Found (c .number .given .0 .0) (c .number .given .0 .1 .0)
 number-is c = sym (c .before .before .read-between .ensures) ∙ c .number .given .1
 
 returns : tie.Need-returns
