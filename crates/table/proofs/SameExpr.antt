@@ -143,8 +143,8 @@ expr-same (suc d) names s at b o =
     of-kind inner n Binary =
         binary-same names (λ i. exprAt d (length (names .variables)) s i) (exprWay d names s) (readExpr d names) s n b inner
 
-    with-kind : (v : ℕ) (k : ExprKind) (n : ℕ) (x : ExprRead) (r : Parsed M.Expr) → betweenAt 0 lastExpression s at ≡ Found v n → exprKind v ≡ k
-        → NumberAt s at v n → Same s (ExprIs names n (uses-of k n)) NoExpr x r
+    with-kind : (v : ℕ) (k : ExprKind) (n : ℕ) (x : ExprRead) (r : Parsed M.Expr) → betweenAt 0 lastExpression s at ≡ Found v n
+        → exprKind v ≡ k → NumberAt s at v n → Same s (ExprIs names n (uses-of k n)) NoExpr x r
         → Same s (ExprIs names at (exprWay (suc d) names s at)) NoExpr x r
     with-kind v k n x r f g t (gives e m y h) =
         gives e m y (record { is = h .is; ahead = omega (arith, t .ahead, h .ahead); uses = rw (f, g) (h .uses); within = h .within })

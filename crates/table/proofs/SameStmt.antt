@@ -79,8 +79,9 @@ stmt-same (suc d) s b w sc at h f =
     of-kind down fits o n l While = loop-same s d w sc at n inner b (omega (arith, l)) h o fits down refl refl
     of-kind down fits o n l Alt = alternative-same s d w sc at n inner b (omega (arith, l)) h o fits down refl refl
 
-    with-kind : (v : ℕ) (k : StmtKind) (n : ℕ) (x : StmtRead) (r : Parsed M.Stmt) → betweenAt 0 lastStatement s at ≡ Found v n → stmtKind v ≡ k
-        → NumberAt s at v n → Same s (RestIs sc at n (uses-of k n)) NoStmt x r → Same s (StmtIs s (suc d) w sc at) NoStmt x r
+    with-kind : (v : ℕ) (k : StmtKind) (n : ℕ) (x : StmtRead) (r : Parsed M.Stmt) → betweenAt 0 lastStatement s at ≡ Found v n
+        → stmtKind v ≡ k → NumberAt s at v n → Same s (RestIs sc at n (uses-of k n)) NoStmt x r
+        → Same s (StmtIs s (suc d) w sc at) NoStmt x r
     with-kind v k n x r f g t (gives st m y r2) =
         gives st m y
         (record { is = r2 .is; ahead = omega (arith, t .ahead, r2 .ahead); uses = rw (f, g) (r2 .uses); within = r2 .within })

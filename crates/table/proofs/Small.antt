@@ -181,7 +181,8 @@ expr-in : (d vs : ℕ) (s : List ℕ) (at : ℕ) → InExpr at (length s) (exprA
 unfolding exprAt usedAt
 expr-in zero vs s at = of-item (InExpr at (length s)) IsRefused (λ k p. tt) (deepAt s at) (deep-refused s at) (λ v n h. absurd h)
 expr-in (suc d) vs s at =
-    of-item (InExpr at (length s)) (InItem at (length s)) (λ k p. tt) (betweenAt 0 lastExpression s at) (between-in 0 lastExpression s at) (λ k n h.
+    of-item (InExpr at (length s)) (InItem at (length s)) (λ k p. tt) (betweenAt 0 lastExpression s at)
+    (between-in 0 lastExpression s at) (λ k n h.
     earlier-expr (kinds (exprKind k) n) at n (length s) (h .0) (of-kind (λ i. expr-in d vs s i) (exprKind k) n))
   where
     kinds : ExprKind → ℕ → ExprRead
@@ -192,7 +193,8 @@ expr-in (suc d) vs s at =
     of-kind h Variable n = leaf-in (nameAt vs 0 0 s n) n (length s) (name-in vs 0 0 s n)
     of-kind h Not n = h n
     of-kind h Binary n =
-        of-item (InExpr n (length s)) (InItem n (length s)) (λ j p. tt) (betweenAt 0 lastOperator s n) (between-in 0 lastOperator s n) (λ o m g.
+        of-item (InExpr n (length s)) (InItem n (length s)) (λ j p. tt) (betweenAt 0 lastOperator s n)
+        (between-in 0 lastOperator s n) (λ o m g.
         earlier-expr (sides (λ i. exprAt d vs s i) m) n m (length s) (g .0) (sides-in (λ i. exprAt d vs s i) m (length s) h))
 
 -- what is counted from base on, for a statement that ends from `from` on
@@ -258,7 +260,8 @@ simple-in Outputting d w s base at l u =
 guard-in : (d : ℕ) (w : Names) (s : List ℕ) (at : ℕ) → InHead at at (length s) (guardAt d w s at)
 unfolding guardAt
 guard-in d w s at =
-    of-item (InHead at at (length s)) (InItem at (length s)) (λ k p. tt) (betweenAt 0 lastGuard s at) (between-in 0 lastGuard s at) (λ g n b.
+    of-item (InHead at at (length s)) (InItem at (length s)) (λ k p. tt) (betweenAt 0 lastGuard s at)
+    (between-in 0 lastGuard s at) (λ g n b.
     of-head (InHead at at (length s)) (InHead n n (length s)) (λ k p. tt) (wholeAt ForGuard d (w .variables) s n)
     (whole-in ForGuard d (w .variables) s n) (λ m a h.
     let l : at ≤ m = omega (arith, b .0, h .0) in
@@ -460,7 +463,8 @@ pub stmt-small : (d : ℕ) (w : Names) (s : List ℕ) (at : ℕ) → Small at (l
 unfolding stmtAt
 stmt-small zero w s at = of-item (Small at (length s)) IsRefused (λ k p. tt) (deepAt s at) (deep-refused s at) (λ v n h. absurd h)
 stmt-small (suc d) w s at =
-    of-item (Small at (length s)) (InItem at (length s)) (λ j p. tt) (betweenAt 0 lastStatement s at) (between-in 0 lastStatement s at) (λ k n h.
+    of-item (Small at (length s)) (InItem at (length s)) (λ j p. tt) (betweenAt 0 lastStatement s at)
+    (between-in 0 lastStatement s at) (λ k n h.
     inside-in at (stmtKind k) d w (λ v i. stmtAt d v s i) (λ v i j. stmtUses d v s i j) s n (h .0) (h .1) (λ v i. stmt-small d v s i))
 
 pub stmt-counts : {p : Part} (d : ℕ) (w : Names) (s : List ℕ) (at : ℕ) → stmtAt d w s at ≡ Stmt p → Small at (length s) (Stmt p)
