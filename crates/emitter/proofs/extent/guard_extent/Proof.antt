@@ -22,7 +22,8 @@ returns-2 : tie.Need-returns-2
 unfolding guardExtent
 returns-2 c =
     let w = c .before .before .before .before in
-    simp (← w .before .value-at .ensures, ← w .whole-extent .ensures, sym (c .before .before .guard-kind .ensures) ∙ c .enum-told2 .given .1)
+    let k = sym (c .before .before .guard-kind .ensures) ∙ c .enum-told2 .given .1 in
+    simp (← w .before .value-at .ensures, ← w .whole-extent .ensures, k)
 
 pub guard-extent-spec : {M : Type 1} → statement M
 guard-extent-spec =
