@@ -22,7 +22,7 @@ use Rattle.model.specs.Scheme.{codeBranches, altWords, inputSize, enableCode, d
 use Rattle.model.proofs.Tables.WellFormed.{Laid, LaidGuards}
 use Rattle.model.proofs.Coding.Sizes.{code-length, enable-length, disable-length, branches-length}
 use Rattle.emitter.specs.Emits.{at, operationInto}
-use Rattle.emitter.specs.Extents.{extentIn}
+use Rattle.plan.specs.Extents.{extentIn}
 use Rattle.emitter.specs.Simples.{inInto, inputInto}
 use Rattle.compiler.specs.Alts.{guardInto, guarded, behindGuard, enableInto, enabling, disableInto, choiceInto, choicesInto}
 use Rattle.model.specs.declared.kinds.StmtKind.the-variants.{Alt}

@@ -20,7 +20,7 @@ use Rattle.model.proofs.Tables.Accepts.{compile-accepts}
 use Rattle.model.proofs.Cases.{never}
 use Rattle.table.proofs.SameItems.{Bytes}
 use Rattle.emitter.specs.Emits.{at}
-use Rattle.emitter.specs.Makes.{planOf}
+use Rattle.plan.specs.Makes.{planOf}
 use Rattle.compiler.specs.Codes.{tableInto, sizeOf}
 use Rattle.compiler.proofs.TableCode.{factsOf, table-code}
 

@@ -18,8 +18,8 @@ use Rattle.numbers.specs.declared.kinds.Head.the-variants.{Nothing, Condition, 
 use Rattle.counts.specs.Words.{asked}
 use Rattle.counts.specs.declared.Role.{Role}
 use Rattle.counts.specs.declared.Role.the-variants.{Value as ForValue, Output as ForOutput, Guard as ForGuard}
-use Rattle.emitter.specs.Extents.{extended, extentIn, wholeExtent, simpleExtent, guardExtent, headExtent, partsExtent, declaredExtent}
-use Rattle.emitter.specs.Extents.{stmtExtent}
+use Rattle.plan.specs.Extents.{extended, extentIn, wholeExtent, simpleExtent, guardExtent, headExtent, partsExtent, declaredExtent}
+use Rattle.plan.specs.Extents.{stmtExtent}
 use Rattle.compiler.proofs.Spelled.{ExprAt, StmtAt, skipAt, stopAt, assignAt, inputAt, outputAt, varAt, chanAt, seqAt, parAt, ifAt}
 use Rattle.compiler.proofs.Spelled.{whileAt, altAt, StmtsAt, noStmtAt, stmtsAt, PairsAt, noPairAt, pairAt, GuardAt, inputGuardAt}
 use Rattle.compiler.proofs.Spelled.{skipGuardAt, GuardsAt, noGuardAt, guardsAt}

@@ -12,9 +12,9 @@ use Rattle.model.specs.Syntax.{Stmt, Stmts, Pairs, Guards}
 use Rattle.model.specs.Reader.{Scope}
 use Rattle.model.specs.Counts.{need}
 use Rattle.numbers.specs.Items.{valueAt}
-use Rattle.emitter.specs.Plans.{planAt, exprEntry}
-use Rattle.emitter.specs.Extents.{extended, extentEntry, statementAt, extentIn, stmtExtent}
-use Rattle.emitter.specs.Makes.{plannedAt, plannedBelow, planOf}
+use Rattle.plan.specs.Entries.{planAt, exprEntry}
+use Rattle.plan.specs.Extents.{extended, extentEntry, statementAt, extentIn, stmtExtent}
+use Rattle.plan.specs.Makes.{plannedAt, plannedBelow, planOf}
 use Rattle.compiler.proofs.Spelled.{StmtAt, skipAt, stopAt, assignAt, inputAt, outputAt, varAt, chanAt, seqAt, parAt, ifAt, whileAt}
 use Rattle.compiler.proofs.Spelled.{altAt, StmtsAt, noStmtAt, stmtsAt, PairsAt, noPairAt, pairAt, GuardsAt, noGuardAt, guardsAt}
 use Rattle.compiler.proofs.Bounds.{stmt-bound}

@@ -12,8 +12,8 @@ use Rattle.model.specs.Counts.{order, registers, temporaries, need}
 use Rattle.model.proofs.Tables.Needs.{registers-three, sides-hold}
 use Rattle.numbers.specs.Items.{valueAt}
 use Rattle.numbers.specs.declared.Value.{Value}
-use Rattle.emitter.specs.Plans.{nextOf, entry, nextIn, registersIn, storedIn, planAt, sidesEntry, exprEntry}
-use Rattle.emitter.specs.Extents.{extended, extentIn}
+use Rattle.plan.specs.Entries.{nextOf, entry, nextIn, registersIn, storedIn, planAt, sidesEntry, exprEntry}
+use Rattle.plan.specs.Extents.{extended, extentIn}
 use Rattle.compiler.proofs.Spelled.{NumeralAt, ExprAt, constantAt, variableAt, notAt, binaryAt, StmtAt}
 
 -- an entry tells the place after an expression, its registers and its stored values

@@ -30,7 +30,7 @@ use Rattle.model.proofs.Quiet.Setting.{getElem-inside as inside}
 use Rattle.table.proofs.SameItems.{Bytes}
 use Rattle.table.proofs.SameSimple.{numbered-at, lookup-append, length-numbered}
 use Rattle.emitter.specs.Emits.{at, declaredWords}
-use Rattle.emitter.specs.Makes.{planOf}
+use Rattle.plan.specs.Makes.{planOf}
 use Rattle.emitter.specs.Exprs.{written}
 use Rattle.compiler.specs.Stmts.{scoped}
 use Rattle.compiler.specs.Kinds.{stmtInto}

@@ -20,9 +20,9 @@ use Rattle.numbers.specs.declared.Value.{Value}
 use Rattle.instruction.specs.Codes.{AJW, ALT, ALTEND, ALTWT, CJ, ENDP, J, LDC, LDLP, LDPI, STOPP}
 use Rattle.emitter.specs.Emits.{Code, at, plainInto, distanceInto, operationInto, declaredWords}
 use Rattle.emitter.specs.Exprs.{Wrote, written, codeOf, wholeInto}
-use Rattle.emitter.specs.Extents.{extentIn}
+use Rattle.plan.specs.Extents.{extentIn}
 use Rattle.emitter.specs.Simples.{inInto, simpleInto}
-use Rattle.emitter.specs.declared.extent.Extent.{Extent}
+use Rattle.plan.specs.declared.extent.Extent.{Extent}
 use Rattle.compiler.specs.Stmts.{scoped, initialInto, startsEnd, startInto, headerInto, seqInto, ifInto, branchesInto}
 use Rattle.compiler.specs.Alts.{Guarded, guardInto, Enabling, enableInto, disableInto, choicesInto}
 use Rattle.compiler.specs.Kinds.{stmtInto, bodyAt, declarationAt, seqAt, ifAt, whileAt, branchAt, branchesAt, parAt, choiceAt}

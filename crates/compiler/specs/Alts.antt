@@ -6,8 +6,8 @@ use Rattle.model.specs.Word.{low, less, minus}
 use Rattle.numbers.specs.Items.{valueAt}
 use Rattle.emitter.specs.Emits.{Code, at, plainInto, distanceInto, operationInto, localOf}
 use Rattle.emitter.specs.Exprs.{Wrote, written, codeOf, wholeInto}
-use Rattle.emitter.specs.Plans.{nextOf}
-use Rattle.emitter.specs.Extents.{extentIn}
+use Rattle.plan.specs.Entries.{nextOf}
+use Rattle.plan.specs.Extents.{extentIn}
 use Rattle.model.specs.Scheme.{altWords}
 use Rattle.emitter.specs.Simples.{inInto}
 use Rattle.compiler.specs.Stmts.{Inner}

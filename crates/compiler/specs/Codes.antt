@@ -6,7 +6,7 @@ use Rattle.model.specs.Word.{low, less}
 use Rattle.model.specs.declared.Facts.{Facts}
 use Rattle.emitter.specs.Emits.{Code, at, declaredWords}
 use Rattle.emitter.specs.Exprs.{codeOf}
-use Rattle.emitter.specs.Plans.{nextOf}
+use Rattle.plan.specs.Entries.{nextOf}
 use Rattle.compiler.specs.Stmts.{scoped}
 use Rattle.compiler.specs.Kinds.{stmtInto}
 use Rattle.model.specs.Limits.{depthLimit}

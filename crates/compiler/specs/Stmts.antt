@@ -7,7 +7,7 @@ use Rattle.model.specs.Word.{low, minus}
 use Rattle.model.specs.Prefix.{fewest}
 use Rattle.emitter.specs.Emits.{Code, at, plainInto, distanceInto, operationInto, declaredWords}
 use Rattle.emitter.specs.Exprs.{Wrote, written, codeOf, wholeInto}
-use Rattle.emitter.specs.Extents.{extentIn}
+use Rattle.plan.specs.Extents.{extentIn}
 use Rattle.compiler.specs.declared.stmt.Scope.{Scope}
 use Rattle.numbers.specs.Items.{valueAt}
 use Rattle.numbers.specs.Kinds.{byDeclared}

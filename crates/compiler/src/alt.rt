@@ -124,7 +124,7 @@ pub fn gen_enable(
     let end = emitter::operation(out, guard.here, code);
     let same = word::less(guard.here, here);
     let size = word::plus(disabling, word::plus(same, 6));
-    let statement = emitter::extent_in(plan, behind(table, guard));
+    let statement = plan::extent_in(plan, behind(table, guard));
     gen_enable(
         table,
         plan,

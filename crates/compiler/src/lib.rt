@@ -59,7 +59,7 @@ pub fn compile_into(table: &[u8], out: &mut [u8]) -> model::Compiled
                 return model::Compiled::Refused(10, 0);
             }
             let mut plan: [u32; 32768] = [0; 32768];
-            emitter::make_plan(table, &mut plan);
+            plan::make_plan(table, &mut plan);
             let size = code_size(table, &plan, facts) as usize;
             if model::limits::CODE < size {
                 return model::Compiled::Refused(10, 0);

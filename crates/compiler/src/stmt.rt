@@ -269,7 +269,7 @@ fn starts_end(plan: &[u32; 32768], at: usize, left: u32, d: u32, here: u32) -> u
     if left == 0 {
         return here;
     }
-    let branch = emitter::extent_in(plan, at);
+    let branch = plan::extent_in(plan, at);
     let size = instruction::fewest(emitter::minus(d)) + 6;
     let below = word::plus(d, branch.need);
     starts_end(plan, branch.next, left - 1, below, word::plus(here, size))
@@ -347,7 +347,7 @@ fn branches(
     }
     let next = put_start(out, start, d, here);
     let branch = branch(table, plan, at, d, depth, scope, vars, chans, out, here);
-    let own = emitter::extent_in(plan, at);
+    let own = plan::extent_in(plan, at);
     let below = word::plus(d, own.need);
     branches(
         table,
@@ -401,7 +401,7 @@ fn par(
     let over = emitter::plain(out, here, instruction::codes::AJW, emitter::minus(2));
     let user = emitter::operation(out, word::plus(over, 4), instruction::codes::LDPI);
     let starts = put_header(out, user, count);
-    let own = emitter::extent_in(plan, at);
+    let own = plan::extent_in(plan, at);
     let begin = starts_end(plan, own.next, count - 1, own.need, starts);
     let w = emitter::below(scope.w, 2);
     let inner = Scope {

@@ -9,7 +9,7 @@ use Rattle.model.specs.declared.kinds.Order.{Order}
 use Rattle.model.specs.declared.kinds.Order.the-variants.{LeftFirst, RightFirst, RightStored}
 use Rattle.numbers.specs.Items.{valueAt}
 use Rattle.emitter.specs.Emits.{Code, at, plainInto, operationInto, localOf}
-use Rattle.emitter.specs.Plans.{nextIn, registersIn, storedIn, planAt}
+use Rattle.plan.specs.Entries.{nextIn, registersIn, storedIn, planAt}
 use Rattle.emitter.specs.declared.expr.Done.{Done}
 use Rattle.emitter.specs.declared.sides.Sides.{Sides}
 use Rattle.numbers.specs.Kinds.{exprKind, byExpr, operatorOf}

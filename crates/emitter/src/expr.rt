@@ -1,7 +1,7 @@
 // The code of expressions.
 ghost use mathlib.Core.Path.{_≡_};
 ghost use Rattle.emitter.specs.Emits.{at as standing};
-ghost use Rattle.emitter.specs.Plans.{storedIn, planAt};
+ghost use Rattle.plan.specs.Entries.{storedIn, planAt};
 ghost use Rattle.emitter.specs.Exprs.{wrote, operatorInto, constantInto, variableInto, sidesAt, binaryInto, exprInto, lowering};
 ghost use Rattle.emitter.specs.Exprs.{adjustInto, wholeInto};
 use model::kinds::ExprKind;
@@ -196,7 +196,7 @@ fn gen_expr(
 fn lowered(plan: &[u32; 32768], at: usize, more: u32) -> u32
     ensures { λ r. ⌜ r ≡ lowering (storedIn (planAt (now (plan .entry)) at)) more ⌝ }
 {
-    let stored = crate::plan::stored_in(crate::plan::entry_at(plan, at));
+    let stored = plan::stored_in(plan::entry_at(plan, at));
     if stored == 0 {
         return 0;
     }

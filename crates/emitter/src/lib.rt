@@ -1,11 +1,7 @@
-// Code into a lent buffer: single instructions, expressions, and statements without statements inside; and the plan of a table, which tells
-// of its expressions what their code follows, and of its statements the place after each and what it needs.
+// Code into a lent buffer: single instructions, expressions, and statements without statements inside.
 // Bytes past the buffer's end are left out, so that the size of code can be had without a buffer.
 mod emit;
 mod expr;
-mod extent;
-mod make;
-mod plan;
 mod sides;
 mod simple;
 mod words;
@@ -16,9 +12,6 @@ pub use emit::operation;
 pub use emit::plain;
 pub use expr::Done;
 pub use expr::gen_whole;
-pub use extent::Extent;
-pub use extent::extent_in;
-pub use make::make_plan;
 pub use simple::gen_input;
 pub use simple::gen_simple;
 pub use words::below;

@@ -17,14 +17,11 @@ pub struct Sides {
 pub fn arrange(plan: &[u32; 32768], at: usize, held: u32) -> Sides
     ensures { λ r. ⌜ r ≡ arranged (now (plan .entry)) held at ⌝ }
 {
-    let left = crate::plan::entry_at(plan, at);
-    let behind = crate::plan::next_in(left);
-    let right = crate::plan::entry_at(plan, behind);
-    let next = crate::plan::next_in(right);
-    let order = counts::order_of(
-        crate::plan::registers_in(left),
-        crate::plan::registers_in(right),
-    );
+    let left = plan::entry_at(plan, at);
+    let behind = plan::next_in(left);
+    let right = plan::entry_at(plan, behind);
+    let next = plan::next_in(right);
+    let order = counts::order_of(plan::registers_in(left), plan::registers_in(right));
     match order {
         Order::LeftFirst => Sides {
             order: Order::LeftFirst,

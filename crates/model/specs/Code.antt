@@ -1,5 +1,5 @@
 -- The code bytes of a table, and what it is for code to realise the scheme (01, "Workspace and code"; demand 2).
-use Prim.Native.Nat.{ℕ, suc, _+_}
+use Prim.Native.Nat.{ℕ, suc, _+_, _^_, _≤_, _<_}
 use mathlib.Core.Path.{_≡_}
 use mathlib.Core.Bool.{cond, _&&_}
 use mathlib.Core.List.{List, [], _∷_, _++_}
@@ -46,6 +46,16 @@ operandIn off (distance f reached user) = less (off reached) (off (suc user))
 unfoldable pub encode : (ℕ → ℕ) → List Instruction → List ℕ
 encode off [] = []
 encode off (x ∷ xs) = withPrefixes (prefixesOf x) (functionIn x) (operandIn off x) ++ encode off xs
+
+-- a list of so many instructions can be coded: an operand is a word; what a distance reaches is in the list or its end, what uses it is in
+-- the list (01, "Workspace and code")
+abbrev pub Fits : (count : ℕ) → Instruction → Type 0
+Fits count (plain f n) = n < 2 ^ 32
+Fits count (distance f reached user) = (reached ≤ count) × (user < count)
+
+pub data AllFit (count : ℕ) : List Instruction → Type 0 where
+  nil-fits : AllFit count []
+  cons-fits : {x : Instruction} {xs : List Instruction} → Fits count x → AllFit count xs → AllFit count (x ∷ xs)
 
 -- the code of a program: the scheme's bytes (demand 2)
 unfoldable pub codeOf : Program → List ℕ

@@ -13,7 +13,7 @@ use Rattle.model.proofs.Laws.Refused.{compile-refuses}
 use Rattle.model.specs.declared.Facts.{Facts}
 use Rattle.model.specs.declared.Compiled.the-variants.{Code as CodeOf}
 use Rattle.emitter.specs.Emits.{Code}
-use Rattle.emitter.specs.Makes.{planOf}
+use Rattle.plan.specs.Makes.{planOf}
 use Rattle.compiler.specs.Codes.{tableInto, sizeOf}
 
 -- the size and the code, by the plan of the table

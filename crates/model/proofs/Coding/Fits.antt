@@ -19,21 +19,13 @@ use Rattle.model.specs.declared.kinds.Order.the-variants.{LeftFirst, Rig
 use Rattle.model.specs.Counts.{sumNeed, pairNeed, guardNeed}
 use Rattle.model.specs.Instruction.{operationCode, Instruction, plain, distance, operation, ldc, mint}
 use Rattle.model.specs.Layout.{base, wordOf}
+use Rattle.model.specs.Code.{Fits, AllFit, nil-fits, cons-fits}
 use Rattle.model.specs.Scheme.{operatorCode, initialise, sidesCode, wrapped, altWords, wholeSize, howMany, size, sizeAll, sizePar}
 use Rattle.model.specs.Scheme.{sizeEnds, sizePairs, sizeEnable, inputSize, enableCode, disableCode, guardInput, sizeDisable}
 use Rattle.model.specs.Scheme.{sizeBranches, exprCode, wholeCode, guardCode, code, codeAll, codePar, codeStarts, codeEnds, codePairs}
 use Rattle.model.specs.Scheme.{codeEnable, codeDisable, codeBranches, scheme}
 use Rattle.model.proofs.Tables.WellFormed.{WellExpr, Well, WellAll, WellPairs, WellGuard, WellGuards, WellProgram, outermost}
 use Rattle.model.proofs.Coding.Sizes.{code-length}
-
--- an operand is a word; what a distance reaches is in the list or its end, what uses it is in the list
-abbrev pub Fits : (count : ℕ) → Instruction → Type 0
-Fits count (plain f n) = n < 2 ^ 32
-Fits count (distance f reached user) = (reached ≤ count) × (user < count)
-
-pub data AllFit (count : ℕ) : List Instruction → Type 0 where
-  nil-fits : AllFit count []
-  cons-fits : {x : Instruction} {xs : List Instruction} → Fits count x → AllFit count xs → AllFit count (x ∷ xs)
 
 pub fits-at : {count : ℕ} {xs : List Instruction} (i : ℕ) (x : Instruction) → AllFit count xs → getElem? xs i ≡ some x → Fits count x
 fits-at i x nil-fits e = absurd (let z : _≡_ {A = ℕ} 0 1 = cc in omega arith)

@@ -18,7 +18,8 @@ use Rattle.model.specs.Counts.{need}
 use Rattle.model.specs.Scheme.{scheme}
 use Rattle.model.specs.Code.{prefixesOf, bytesIn, placeOf, functionIn, operandIn, encode, codeOf, Realises}
 use Rattle.model.proofs.Tables.WellFormed.{WellProgram}
-use Rattle.model.proofs.Coding.Fits.{Fits, AllFit, fits-at, scheme-fits}
+use Rattle.model.specs.Code.{Fits, AllFit}
+use Rattle.model.proofs.Coding.Fits.{fits-at, scheme-fits}
 use Rattle.model.proofs.Coding.RoundTrip.{decode-alone, enough-ahead, enough-back, fewest-fits, withPrefixes-length}
 
 pub placeOf-below : (xs : List Instruction) (i : ℕ) → placeOf xs i ≤ bytesIn xs

@@ -9,7 +9,7 @@ use Rattle.compiler.proofs.alt.behind.Reads as behind-reads
 use Rattle.compiler.proofs.alt.either.Reads as either-reads
 use Rattle.compiler.proofs.alt.gen_guard.Reads as gen-guard-reads
 use Rattle.emitter.proofs.operation.Reads as operation-reads
-use Rattle.emitter.proofs.extent_in.Reads as extent-in-reads
+use Rattle.plan.proofs.extent_in.Reads as extent-in-reads
 use Rattle.word.proofs.plus.Reads as plus-reads
 use Rattle.word.proofs.less.Reads as less-reads
 use Rattle.compiler.proofs.alt.+gen_enable.{statement}
@@ -22,7 +22,7 @@ use mathlib.Core.Path.{_≡_, refl, sym}
 use Rattle.model.specs.Word.{low, less}
 use Rattle.instruction.specs.Codes.{ENBC, ENBS}
 use Rattle.emitter.specs.Emits.{Code, at, operationInto}
-use Rattle.emitter.specs.Extents.{extentIn}
+use Rattle.plan.specs.Extents.{extentIn}
 use Rattle.compiler.specs.Alts.{Guarded, guardInto, behindGuard, Enabling, enabling, enableInto}
 
 none : (n d w : ℕ) (vs cs plan s : List ℕ) (i k : ℕ) (c : Code) → n ≡ 0

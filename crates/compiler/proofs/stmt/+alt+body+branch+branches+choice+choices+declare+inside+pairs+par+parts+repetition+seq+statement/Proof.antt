@@ -60,7 +60,7 @@ use Rattle.emitter.proofs.minus.Reads as minus-reads
 use Rattle.emitter.proofs.operation.Reads as operation-reads
 use Rattle.emitter.proofs.plain.Reads as plain-reads
 use Rattle.emitter.proofs.gen_whole.Reads as gen-whole-reads
-use Rattle.emitter.proofs.extent_in.Reads as extent-in-reads
+use Rattle.plan.proofs.extent_in.Reads as extent-in-reads
 use Rattle.emitter.proofs.gen_input.Reads as gen-input-reads
 use Rattle.emitter.proofs.gen_simple.Reads as gen-simple-reads
 use Rattle.emitter.proofs.below.Reads as below-reads

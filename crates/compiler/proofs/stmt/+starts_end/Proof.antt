@@ -6,7 +6,7 @@ use Rattle.compiler.proofs.stmt.starts_end.Reads as starts-end
 use Rattle.compiler.proofs.stmt.starts_end.Kinds as starts-end-kinds
 use Rattle.compiler.proofs.stmt.+starts_end.Lts-starts_end as starts-end-lts
 use Rattle.emitter.proofs.minus.Reads as minus-reads
-use Rattle.emitter.proofs.extent_in.Reads as extent-in-reads
+use Rattle.plan.proofs.extent_in.Reads as extent-in-reads
 use Rattle.word.proofs.plus.Reads as plus-reads
 use Rattle.instruction.proofs.fewest.Reads as fewest-reads
 use Rattle.compiler.proofs.stmt.+starts_end.{statement}
@@ -17,7 +17,7 @@ use mathlib.Core.List.{List}
 use mathlib.Core.Path.{_≡_, refl, sym}
 use Rattle.model.specs.Word.{low, minus}
 use Rattle.model.specs.Prefix.{fewest}
-use Rattle.emitter.specs.Extents.{extentIn}
+use Rattle.plan.specs.Extents.{extentIn}
 use Rattle.compiler.specs.Stmts.{startsEnd}
 
 none : (n : ℕ) (plan : List ℕ) (i d h : ℕ) → n ≡ 0 → startsEnd n plan i d h ≡ h

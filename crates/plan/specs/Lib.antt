@@ -1,0 +1,4 @@
+-- The plan: what it has of expressions (Entries) and of statements (Extents), and how it is made (Makes).
+pub mod Entries
+pub mod Extents
+pub mod Makes
