@@ -1,5 +1,5 @@
 -- The lists that the assembler is for, and what it makes of every one: the definitions' places, size and bytes.
-use Prim.Native.Nat.{ℕ, _+_, _≤_}
+use Prim.Native.Nat.{ℕ, _≤_}
 use mathlib.Core.Path.{_≡_}
 use mathlib.Core.List.{List}
 use lib.ListN.{length, getD, take}

@@ -1,0 +1,21 @@
+-- That what is put into the list is the scheme's code: Spelled (what a table's bytes spell), Planned, ExtentIs and PlanOf (what the plan
+-- says of an expression and of a statement), Fills and Closes (instructions one behind another, and the Js to an end), ExprCode, Compiles,
+-- Declares, Flows, Pars and Choices (each shape of statement), StmtCode (all of them), Bounds and TableCode (a whole table). Turns has the
+-- laws that the functions of the cycle cite.
+pub mod Spelled
+pub mod Planned
+pub mod ExtentIs
+pub mod PlanOf
+pub mod Fills
+pub mod Closes
+pub mod ExprCode
+pub mod Compiles
+pub mod Declares
+pub mod Flows
+pub mod Pars
+pub mod Choices
+pub mod StmtCode
+pub mod Bounds
+pub mod TableCode
+pub mod Turns
+pub mod Scoping
