@@ -1,104 +1,117 @@
--- What compiling a table gives, by what the reader answers and what the generator counts and writes.
+-- What compiling a table gives, by what the reader answers and what the list of the table comes to.
 use Prim.Native.Nat.{ℕ, _≤_, _<_}
 use native.Mathlib.Omega.{arith}
 use native.Mathlib.Nat.{zero-add}
 use mathlib.Core.Path.{_≡_, refl, sym, ap, _∙_}
-use mathlib.Core.List.{List}
+use mathlib.Core.List.{List, [], _∷_}
 use lib.ListN.{length, take}
 use lib.Seq.{sets, sets-eq, take-at}
-use borrow.Author.Tests.{le-leb, lt-leb}
+use lib.Dec.{leb}
+use borrow.Author.Tests.{le-leb, lt-leb, leb-true}
 use Rattle.model.specs.Limits.{wordLimit, codeLimit}
 use Rattle.model.specs.Syntax.{Program}
 use Rattle.model.specs.Reader.{Read, program, refused as unread}
 use Rattle.model.specs.Accept.{accept, memoryWords, answerOf}
-use Rattle.model.specs.Code.{Compilation, codeOf, compiled, refused, fitting, compile, compiledAnswer, bufferAfter, givenBack, numberOf}
-use Rattle.model.specs.Code.{returnedOf}
+use Rattle.model.specs.Instruction.{Instruction}
+use Rattle.model.specs.Scheme.{scheme}
+use Rattle.model.specs.Code.{Compilation, bytesIn, placeOf, codeOf, encode, compiled, refused, fitting, compile, compiledAnswer}
+use Rattle.model.specs.Code.{bufferAfter, givenBack, numberOf, returnedOf}
 use Rattle.model.specs.declared.Facts.{Facts}
 use Rattle.model.specs.declared.Reading.the-variants.{Accepted, Refused}
 use Rattle.model.specs.declared.Compiled.the-variants.{Code as CodeOf, Refused as NoCode}
-use Rattle.model.proofs.Tables.Accepts.{compile-accepts}
-use Rattle.model.proofs.Cases.{never}
-use Rattle.table.proofs.SameItems.{Bytes}
-use Rattle.emitter.specs.Emits.{at}
-use Rattle.plan.specs.Makes.{planOf}
-use Rattle.compiler.specs.Codes.{tableInto, sizeOf}
-use Rattle.compiler.proofs.TableCode.{factsOf, table-code}
+use Rattle.model.proofs.Tables.Accepts.{accept-reads, compile-accepts}
+use Rattle.model.proofs.Tables.Readers.{read-well}
+use Rattle.model.proofs.Coding.Fits.{scheme-fits}
+use Rattle.model.proofs.Coding.Realise.{encode-length}
+use Rattle.model.proofs.Cases.{by-bool, never}
+use Rattle.assembler.specs.Entries.{entriesOf}
+use Rattle.assembler.specs.Listed.{Listed}
+use Rattle.statements.proofs.Fills.{entries-length}
+use Rattle.statements.proofs.TableCode.{facts-are}
+use Rattle.compiler.specs.Codes.{assembled, bytesInto}
 
 -- what the reader's answer says of the table
-pub accepted-as : (r : Read) (f : Facts) → answerOf r ≡ Accepted f → (p : Program) × (r ≡ program p) × (f ≡ factsOf p)
-accepted-as (program p) f e = (p, refl, let q : factsOf p ≡ f = cc in sym q)
+pub accepted-as : (r : Read) (f : Facts) → answerOf r ≡ Accepted f → (p : Program) × (r ≡ program p)
+accepted-as (program p) f e = (p, refl)
 accepted-as (unread n at) f e = never (cc)
 
 refused-as : (r : Read) (n p : ℕ) → answerOf r ≡ Refused n p → r ≡ unread n p
 refused-as (program q) n p e = never (cc)
 refused-as (unread k at) n p e = let a : k ≡ n = cc in let b : at ≡ p = cc in rw (a, b)
 
+-- every instruction takes at least one byte
+pub bytes-least : (xs : List Instruction) → length xs ≤ bytesIn xs
+unfolding bytesIn
+bytes-least [] = omega arith
+bytes-least (x ∷ xs) = omega (arith, bytes-least xs)
+
+-- the scheme's list, where it is not too long
+pub scheme-listed : (s : List ℕ) (p : Program) (o : List ℕ) {n : ℕ} {l : List ℕ} → accept s ≡ program p → memoryWords p ≤ wordLimit
+    → length o ≡ codeLimit → n ≡ length (scheme p) → l ≡ sets o 0 (entriesOf (scheme p)) → n ≤ codeLimit → Listed (scheme p) n l
+scheme-listed s p o e few long counted is short =
+    let xs = entriesOf (scheme p) in
+    let same = entries-length (scheme p) in
+    record {
+      counted = counted;
+      short = omega arith;
+      fit = scheme-fits p (read-well s p (accept-reads s p e) .0) (omega (arith, few));
+      entries = ap (take (length (scheme p))) (is ∙ sets-eq xs o 0 (omega arith)) ∙ take-at xs _ (length (scheme p)) same;
+    }
+
 module _ (s : List ℕ) (room : ℕ) where
   pub compile-refused : (n p : ℕ) → answerOf (accept s) ≡ Refused n p → compile s room ≡ refused n p
   unfolding compile
   compile-refused n p e = rw (refused-as (accept s) n p e)
 
-  module _ (b : Bytes s) (f : Facts) (p : Program) (is : accept s ≡ program p) (facts : f ≡ factsOf p) where
+  module _ (f : Facts) (p : Program) (is : accept s ≡ program p) (answer : answerOf (accept s) ≡ Accepted f) where
     as-fitting : compile s room ≡ fitting room p (codeOf p)
     unfolding compile
     as-fitting = rw is
 
-    words-is : f .words ≡ memoryWords p
-    words-is = ap (λ (x : Facts). x .words) facts
+    pub words-are : f .words ≡ memoryWords p
+    words-are = ap (λ (x : Facts). x .words) (facts-are (accept s) f p answer is)
 
-    written-is : f .words ≤ wordLimit → (o : List ℕ) → tableInto (planOf s) s f o ≡ at (length (codeOf p)) (sets o 0 (codeOf p))
-    written-is l o = rw facts (table-code s p b is (rw words-is at l) o)
+    code-long : length (codeOf p) ≡ bytesIn (scheme p)
+    unfolding codeOf
+    code-long = encode-length (placeOf (scheme p)) (scheme p)
 
-    size-is : f .words ≤ wordLimit → sizeOf (planOf s) s f ≡ length (codeOf p)
-    unfolding sizeOf
-    size-is l = ap (λ c. c .here) (written-is l _)
-
-    -- over 4,096 words, or over 16,384 bytes: 10
+    -- over 4,096 words, or a list of more than 16,384 instructions: 10
     pub words-refused : wordLimit < f .words → compile s room ≡ refused 10 0
     unfolding fitting
-    words-refused l = as-fitting ∙ rw (lt-leb (memoryWords p) wordLimit (rw words-is at l))
+    words-refused l = as-fitting ∙ rw (lt-leb (memoryWords p) wordLimit (rw words-are at l))
 
-    pub bytes-refused : f .words ≤ wordLimit → codeLimit < sizeOf (planOf s) s f → compile s room ≡ refused 10 0
+    pub list-refused : memoryWords p ≤ wordLimit → codeLimit < length (scheme p) → compile s room ≡ refused 10 0
     unfolding fitting
-    bytes-refused h l =
-        as-fitting
-        ∙ rw (le-leb (memoryWords p) wordLimit (rw words-is at h), lt-leb (length (codeOf p)) codeLimit (rw (size-is h) at l))
-
-    -- the buffer too short: 11 with the size
-    pub room-refused : f .words ≤ wordLimit → sizeOf (planOf s) s f ≤ codeLimit → room < sizeOf (planOf s) s f
-        → compile s room ≡ refused 11 (sizeOf (planOf s) s f)
-    unfolding fitting
-    room-refused h l m =
+    list-refused h l =
         as-fitting
         ∙ rw (
-          le-leb (memoryWords p) wordLimit (rw words-is at h),
-          le-leb (length (codeOf p)) codeLimit (rw (size-is h) at l),
-          lt-leb (length (codeOf p)) room (rw (size-is h) at m),
-          size-is h,
+          le-leb (memoryWords p) wordLimit h,
+          lt-leb (length (codeOf p)) codeLimit (omega (arith, bytes-least (scheme p), code-long)),
         )
 
-    as-compiled : f .words ≤ wordLimit → sizeOf (planOf s) s f ≤ codeLimit → sizeOf (planOf s) s f ≤ room
-        → compile s room ≡ compiled p (codeOf p)
+    -- else what the bytes of the list come to
+    pub as-assembled : memoryWords p ≤ wordLimit → compiledAnswer (compile s room) ≡ assembled room (scheme p)
     unfolding fitting
-    as-compiled h l m =
-        as-fitting
-        ∙ rw (
-          le-leb (memoryWords p) wordLimit (rw words-is at h),
-          le-leb (length (codeOf p)) codeLimit (rw (size-is h) at l),
-          le-leb (length (codeOf p)) room (rw (size-is h) at m),
-        )
+    as-assembled h =
+        ap compiledAnswer as-fitting
+        ∙ rw (le-leb (memoryWords p) wordLimit h, code-long)
+        (by-bool (leb (bytesIn (scheme p)) codeLimit)
+        (λ a. by-bool (leb (bytesIn (scheme p)) room) (λ b. rw (a, b, code-long) refl) (λ b. rw (a, b) refl))
+        (λ a. rw a refl))
 
-    -- the code in front, and the rest as it was
-    pub code-answered : f .words ≤ wordLimit → sizeOf (planOf s) s f ≤ codeLimit → sizeOf (planOf s) s f ≤ room
-        → compiledAnswer (compile s room) ≡ CodeOf (sizeOf (planOf s) s f)
-    code-answered h l m = rw (as-compiled h l m, size-is h)
-
-    pub code-written : f .words ≤ wordLimit → sizeOf (planOf s) s f ≤ codeLimit → sizeOf (planOf s) s f ≤ room
-        → (o : List ℕ) → length o ≡ room
-        → tableInto (planOf s) s f o .out ≡ bufferAfter (compile s room) o
-    code-written h l m o long =
-        let c = codeOf p in
-        rw (as-compiled h l m, written-is h o) (sets-eq c o 0 (omega (arith, size-is h)) ∙ rw zero-add)
+    pub buffer-assembled : memoryWords p ≤ wordLimit → (o : List ℕ) → length o ≡ room
+        → bufferAfter (compile s room) o ≡ bytesInto room (scheme p) o
+    unfolding fitting codeOf
+    buffer-assembled h o long =
+        let c = encode (placeOf (scheme p)) (scheme p) in
+        ap (λ x. bufferAfter x o) as-fitting
+        ∙ rw (le-leb (memoryWords p) wordLimit h, code-long)
+        (by-bool (leb (bytesIn (scheme p)) codeLimit)
+        (λ a. by-bool (leb (bytesIn (scheme p)) room)
+        (λ b. rw (a, b) (sym (sets-eq c o 0 (omega (arith, code-long, leb-true (bytesIn (scheme p)) room b)) ∙ rw (zero-add
+        (length c)) refl)))
+        (λ b. rw (a, b) refl))
+        (λ a. rw a refl))
 
 -- the answer is the code's length: what was compiled
 coded-as : (x : Compilation) (n : ℕ) → compiledAnswer x ≡ CodeOf n

@@ -1,24 +1,43 @@
--- The code of an accepted table as the generator writes it (01, "Workspace and code").
-use Prim.Native.Nat.{ℕ, _+_}
-use mathlib.Core.List.{List, [], _∷_}
-use lib.ListN.{replicate}
-use Rattle.model.specs.Word.{low, less}
+-- The list of an accepted table, and what is answered for the bytes of a list (01, "Workspace and code"; refusals 10 and 11).
+use Prim.Native.Nat.{ℕ, _≤_}
+use mathlib.Core.Path.{_≡_}
+use mathlib.Core.Bool.{cond, _&&_}
+use mathlib.Core.List.{List}
+use lib.ListN.{length}
+use lib.Seq.{sets}
+use lib.Dec.{leb}
+use Rattle.model.specs.Limits.{codeLimit, wordLimit}
+use Rattle.model.specs.Syntax.{Program}
+use Rattle.model.specs.Reader.{program}
+use Rattle.model.specs.Accept.{accept, memoryWords, answerOf}
+use Rattle.model.specs.Instruction.{Instruction}
+use Rattle.model.specs.Scheme.{scheme}
+use Rattle.model.specs.Code.{bytesIn, placeOf, encode}
 use Rattle.model.specs.declared.Facts.{Facts}
-use Rattle.emitter.specs.Emits.{Code, at, declaredWords}
-use Rattle.emitter.specs.Exprs.{codeOf}
-use Rattle.plan.specs.Entries.{nextOf}
-use Rattle.compiler.specs.Stmts.{scoped}
-use Rattle.compiler.specs.Kinds.{stmtInto}
-use Rattle.model.specs.Limits.{depthLimit}
+use Rattle.model.specs.declared.Reading.the-variants.{Accepted}
+use Rattle.model.specs.declared.Compiled.{Compiled}
+use Rattle.model.specs.declared.Compiled.the-variants.{Code, Refused}
+use Rattle.assembler.specs.Entries.{entriesOf}
+use Rattle.assembler.specs.Listed.{Listed}
 
--- the code into a buffer, and its size. 01: W = the need; outside channel k is word W + k
-unfoldable pub tableInto : (plan s : List ℕ) → Facts → (out : List ℕ) → Code
-tableInto p s f o =
-    let outside = low (f .inputs + f .outputs) in
-    let w = less (f .words) outside in
-    let none : List ℕ = replicate 1024 0 in
-    codeOf (stmtInto depthLimit (scoped w 0 outside) none (declaredWords outside 0 w none) p s (nextOf s (nextOf s 0)) (at 0 o))
+-- for every accepted table whose program has at most 4,096 words, with its facts: the list is the scheme's, and its length
+abbrev pub Lists : (table : List ℕ) → Facts → (before after : List ℕ) → (count : ℕ) → Type 0
+Lists s f before after n =
+    (p : Program) → accept s ≡ program p → answerOf (accept s) ≡ Accepted f → memoryWords p ≤ wordLimit
+    → (n ≡ length (scheme p)) × (after ≡ sets before 0 (entriesOf (scheme p)))
 
--- the code's size, as the place after it in any buffer
-unfoldable pub sizeOf : (plan s : List ℕ) → Facts → ℕ
-sizeOf p s f = tableInto p s f (0 ∷ []) .here
+-- the answer for a list: over 16,384 bytes 10 at place 0; the buffer too short 11 with the size needed; else the size
+abbrev pub assembled : (room : ℕ) → List Instruction → Compiled
+assembled room xs =
+    cond (leb (bytesIn xs) codeLimit)
+    (cond (leb (bytesIn xs) room) (Code (bytesIn xs)) (Refused 11 (bytesIn xs)))
+    (Refused 10 0)
+
+-- the buffer afterwards: the code in front, or on a refusal all as it was
+abbrev pub bytesInto : (room : ℕ) → List Instruction → (buffer : List ℕ) → List ℕ
+bytesInto room xs o = cond (leb (bytesIn xs) codeLimit && leb (bytesIn xs) room) (sets o 0 (encode (placeOf xs) xs)) o
+
+-- so it is for every list that the assembler is for
+abbrev pub Assembles : (list : List ℕ) → (count : ℕ) → (before after : List ℕ) → Compiled → Type 0
+Assembles l n before after r =
+    (xs : List Instruction) → Listed xs n l → (r ≡ assembled (length before) xs) × (after ≡ bytesInto (length before) xs before)

@@ -1,6 +1,2 @@
--- What the generator writes for a statement, by places of the table: each shape over the statements inside (Stmts, Alts), all by kind
--- (Kinds), and whole tables (Codes).
-pub mod Stmts
-pub mod Alts
-pub mod Kinds
+-- What the list of a table is, and what its bytes come to.
 pub mod Codes

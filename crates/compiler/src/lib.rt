@@ -1,52 +1,39 @@
-// Compiling a program table into Transputer code (document 01, "Workspace and code").
+// Compiling a program table into Transputer code (document 01, "Workspace and code"): the reader's facts, the scheme's list of
+// instructions, and its bytes.
 ghost use mathlib.Core.Path.{_≡_};
 ghost use lib.ListN.{length};
 ghost use Rattle.model.specs.Code.{compile as compilation, compiledAnswer, bufferAfter, givenBack, numberOf, returnedOf};
 ghost use Rattle.model.specs.Answers.{refusedCompiling};
 ghost use Rattle.model.specs.Refusals.{compileRefusal};
-ghost use Rattle.emitter.specs.Emits.{at as standing};
-ghost use Rattle.compiler.specs.Codes.{tableInto, sizeOf};
+ghost use Rattle.compiler.specs.Codes.{Lists, Assembles};
 
-mod alt;
-mod stmt;
-
-// The code of an accepted table into a buffer: bytes past its end are left out. The answer is the code's size.
-fn generate(table: &[u8], plan: &[u32; 32768], facts: model::Facts, out: &mut [u8]) -> u32
-    ensures { λ r. ⌜ standing r (now (out .exit)) ≡ tableInto (now (plan .entry)) (now (table .entry)) facts (now (out .entry)) ⌝ }
+// The list of an accepted table, and its length. The plan is needed for it alone.
+fn generate(table: &[u8], facts: model::Facts, list: &mut [u64; 16384]) -> u32
+    ensures { λ r. ⌜ Lists (now (table .entry)) facts (now (list .entry)) (now (list .exit)) r ⌝ }
 {
-    let at = numbers::skip(table, numbers::skip(table, 0));
-    let outside = word::plus(facts.inputs, facts.outputs);
-    let w = word::less(facts.words, outside);
-    let none: [u32; 1024] = [0; 1024];
-    let channels = emitter::declared(&none, 0, outside, w);
-    let scope = crate::stmt::Scope {
-        w: w,
-        variables: 0,
-        channels: outside,
-    };
-    let done = crate::stmt::statement(
-        table,
-        plan,
-        at,
-        model::limits::DEPTH,
-        scope,
-        &none,
-        &channels,
-        out,
-        0,
-    );
-    done.here
+    let mut plan: [u32; 32768] = [0; 32768];
+    plan::make_plan(table, &mut plan);
+    statements::generate(table, &plan, facts, list)
 }
 
-// The size of an accepted table's code.
-fn code_size(table: &[u8], plan: &[u32; 32768], facts: model::Facts) -> u32
-    ensures { λ r. ⌜ r ≡ sizeOf (now (plan .entry)) (now (table .entry)) facts ⌝ }
+// The bytes of a list into a lent buffer: code that is too long, or longer than the buffer, is refused, and the buffer stays as it was.
+fn assemble(list: &[u64; 16384], count: usize, out: &mut [u8]) -> model::Compiled
+    ensures { λ r. ⌜ Assembles (now (list .entry)) count (now (out .entry)) (now (out .exit)) r ⌝ }
 {
-    let mut none: [u8; 1] = [0; 1];
-    generate(table, plan, facts, &mut none)
+    let mut places: [u32; 16385] = [0; 16385];
+    let size = assembler::place(list, count, &mut places) as usize;
+    if model::limits::CODE < size {
+        return model::Compiled::Refused(10, 0);
+    }
+    if out.len() < size {
+        return model::Compiled::Refused(11, size);
+    }
+    assembler::write(list, count, &places, out);
+    model::Compiled::Code(size)
 }
 
-// Compiles a table into a lent buffer: the code in front and the rest as it was; on any refusal all of it as it was.
+// Compiles a table into a lent buffer: the code in front and the rest as it was; on any refusal all of it as it was. A list of more
+// instructions than code may have bytes is refused without being coded: each takes at least one byte.
 pub fn compile_into(table: &[u8], out: &mut [u8]) -> model::Compiled
     ensures answer { λ r. ⌜ r ≡ compiledAnswer (compilation (now (table .entry)) (length (now (out .entry)))) ⌝ }
     ensures buffer { λ r.
@@ -58,17 +45,12 @@ pub fn compile_into(table: &[u8], out: &mut [u8]) -> model::Compiled
             if model::limits::WORDS < facts.words {
                 return model::Compiled::Refused(10, 0);
             }
-            let mut plan: [u32; 32768] = [0; 32768];
-            plan::make_plan(table, &mut plan);
-            let size = code_size(table, &plan, facts) as usize;
-            if model::limits::CODE < size {
+            let mut list: [u64; 16384] = [0; 16384];
+            let count = generate(table, facts, &mut list) as usize;
+            if assembler::ENTRIES < count {
                 return model::Compiled::Refused(10, 0);
             }
-            if out.len() < size {
-                return model::Compiled::Refused(11, size);
-            }
-            generate(table, &plan, facts, out);
-            model::Compiled::Code(size)
+            assemble(&list, count, out)
         }
         model::Reading::Refused(n, p) => model::Compiled::Refused(n, p),
     }

@@ -2,82 +2,65 @@
 use borrow.Author.Needs.{needs}
 use Rattle.compiler.proofs.compile_into.Statement.{statement}
 use Rattle.compiler.proofs.compile_into.Tie as tie
+use mathlib.Core.Path.{refl, sym, ap, _∙_}
+use lib.ListN.{length-replicate}
 use Prim.Native.Nat.{ℕ}
-use mathlib.Core.List.{List}
-use mathlib.Core.Path.{_≡_, refl, sym, ap, _∙_}
-use Rattle.compiler.proofs.Compiled.{accepted-as, compile-refused, words-refused, bytes-refused, room-refused, code-answered}
-use Rattle.compiler.proofs.Compiled.{code-written}
 use Rattle.model.specs.Answers.{refusedCompiling}
 use Rattle.model.specs.Code.{compile}
 use Rattle.model.proofs.Laws.Refused.{compile-refuses}
-use Rattle.model.specs.declared.Facts.{Facts}
-use Rattle.model.specs.declared.Compiled.the-variants.{Code as CodeOf}
-use Rattle.emitter.specs.Emits.{Code}
-use Rattle.plan.specs.Makes.{planOf}
-use Rattle.compiler.specs.Codes.{tableInto, sizeOf}
-
--- the size and the code, by the plan of the table
-planned-size : (s p : List ℕ) (f : Facts) {n : ℕ} → p ≡ planOf s → n ≡ sizeOf p s f → n ≡ sizeOf (planOf s) s f
-planned-size s p f q e = e ∙ ap (λ x. sizeOf x s f) q
-
-planned-code : (s p : List ℕ) (f : Facts) (o : List ℕ) {c : Code} → p ≡ planOf s → c ≡ tableInto p s f o → c ≡ tableInto (planOf s) s f o
-planned-code s p f o q e = e ∙ ap (λ x. tableInto x s f o) q
+use Rattle.compiler.proofs.Compiled.{accepted-as, compile-refused, words-are, words-refused, list-refused, scheme-listed}
+use Rattle.compiler.proofs.Compiled.{as-assembled}
+use Rattle.compiler.proofs.Compiled.{buffer-assembled}
 
 returns : tie.Need-returns
 returns c =
-    let f = c .before .before .before in
-    let q = accepted-as _ _ (sym (f .before .before .read .ensures .0) ∙ f .facts .given .1) in
-    let k = f .before .before .before .before in
-    rw (words-refused _ _ (λ y. k .shared-slice-known .given y .fits) _ (q .0) (q .1) (q .2) (c .if1 .taken)) (refl, (refl, refl))
+    let fa = c .before .before .before in
+    let re = fa .before .before in
+    let e = sym (re .read .ensures .0) ∙ fa .facts .given .1 in
+    let q = accepted-as _ _ e in
+    rw (words-refused _ _ _ (q .0) (q .1) e (c .if1 .taken)) (refl, (refl, refl))
 
 returns-2 : tie.Need-returns-2
-unfolding planOf
 returns-2 c =
-    let s = c .before in
-    let i = s .before .before .before .before in
-    let f = i .before .before .before in
-    let q = accepted-as _ _ (sym (f .before .before .read .ensures .0) ∙ f .facts .given .1) in
-    let k = f .before .before .before .before in
-    let large = rw (planned-size _ _ _ (s .before .before .make-plan .ensures) (s .code-size .ensures)) at (c .if2 .taken) in
-    rw (bytes-refused _ _ (λ y. k .shared-slice-known .given y .fits) _ (q .0) (q .1) (q .2) (i .if1 .left) large) (refl, (refl, refl))
+    let g = c .before in
+    let if1 = g .before .before in
+    let fa = if1 .before .before .before in
+    let re = fa .before .before in
+    let e = sym (re .read .ensures .0) ∙ fa .facts .given .1 in
+    let q = accepted-as _ _ e in
+    let few = rw (words-are _ 0 _ (q .0) (q .1) e) at (if1 .if1 .left) in
+    let n = g .generate .ensures (q .0) (q .1) e few .0 in
+    rw (list-refused _ _ _ (q .0) (q .1) e few (rw n at (c .if2 .taken))) (refl, (refl, refl))
 
 returns-3 : tie.Need-returns-3
-unfolding planOf
 returns-3 c =
-    let s = c .before .before in
-    let i = s .before .before .before .before in
-    let f = i .before .before .before in
-    let q = accepted-as _ _ (sym (f .before .before .read .ensures .0) ∙ f .facts .given .1) in
-    let k = f .before .before .before .before in
-    let e = planned-size _ _ _ (s .before .before .make-plan .ensures) (s .code-size .ensures) in
-    let small = rw e at (c .before .if2 .left) in
-    let long = rw e at (c .if3 .taken) in
-    rw (room-refused _ _ (λ y. k .shared-slice-known .given y .fits) _ (q .0) (q .1) (q .2) (i .if1 .left) small long, ← e)
-    (refl, (refl, refl))
+    let ass = c .before .before in
+    let if2 = ass .before .before .before in
+    let ge = if2 .before in
+    let if1 = ge .before .before in
+    let fa = if1 .before .before .before in
+    let re = fa .before .before in
+    let ar = re .before .before .before in
+    let e = sym (re .read .ensures .0) ∙ fa .facts .given .1 in
+    let q = accepted-as _ _ e in
+    let few = rw (words-are _ 0 _ (q .0) (q .1) e) at (if1 .if1 .left) in
+    let g = ge .generate .ensures (q .0) (q .1) e few in
+    let r = ass .assemble .ensures _ (scheme-listed _ (q .0) _ (q .1) few (length-replicate {A = ℕ} 16384 0) (g .0) (g .1)
+    (if2 .if2 .left)) in
+    let a = r .0 ∙ sym (as-assembled _ _ _ (q .0) (q .1) e few) in (
+      a,
+      (
+        r .1 ∙ sym (buffer-assembled _ _ _ (q .0) (q .1) e few (ar .args .out .now) refl),
+        ap refusedCompiling a ∙ compile-refuses
+            (compile _ _),
+      ),
+    )
 
 returns-4 : tie.Need-returns-4
-unfolding planOf
 returns-4 c =
-    let g = c .before .before in
-    let j = g .before .before .before in
-    let s = j .before .before in
-    let i = s .before .before .before .before in
-    let f = i .before .before .before in
-    let q = accepted-as _ _ (sym (f .before .before .read .ensures .0) ∙ f .facts .given .1) in
-    let k = f .before .before .before .before in
-    let m = s .before .before .make-plan .ensures in
-    let e = planned-size _ _ _ m (s .code-size .ensures) in
-    let small = rw e at (j .before .if2 .left) in
-    let room = rw e at (j .if3 .left) in
-    let d = code-answered _ _ (λ y. k .shared-slice-known .given y .fits) _ (q .0) (q .1) (q .2) (i .if1 .left) small room in
-    let a = ap CodeOf e ∙ sym d in
-    let b = code-written _ _ (λ y. k .shared-slice-known .given y .fits) _ (q .0) (q .1) (q .2) (i .if1 .left) small room _ refl in
-    (a, (ap (λ x. x .out) (planned-code _ _ _ _ m (g .generate .ensures)) ∙ b, ap refusedCompiling a ∙ compile-refuses (compile _ _)))
-
-returns-5 : tie.Need-returns-5
-returns-5 c =
     let n = c .before in
-    rw (compile-refused _ _ _ _ (sym (n .before .before .read .ensures .0) ∙ n .n .given .1)) (refl, (refl, refl))
+    let re = n .before .before in
+    rw (compile-refused _ _ _ _ (sym (re .read .ensures .0) ∙ n .n .given .1)) (refl, (refl, refl))
 
 pub compile-into-spec : {M : Type 1} → statement M
 compile-into-spec =
@@ -87,12 +70,10 @@ compile-into-spec =
     (λ c. search needs)
     returns
     (λ c κs. search needs)
-    (λ c κs. search needs)
     (λ c. search needs)
     returns-2
-    returns-3
     (λ c κs. search needs)
     (λ c. search needs)
     (λ c. search needs)
-    returns-4
-    returns-5)
+    returns-3
+    returns-4)

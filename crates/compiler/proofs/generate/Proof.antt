@@ -2,33 +2,13 @@
 use borrow.Author.Needs.{needs}
 use Rattle.compiler.proofs.generate.Statement.{statement}
 use Rattle.compiler.proofs.generate.Tie as tie
-use Rattle.compiler.specs.Codes.{tableInto}
+use Rattle.plan.specs.Makes.{planOf}
 
 returns : tie.Need-returns
-unfolding tableInto
-returns c =
-    let t = c .before .before in
-    let d = t .before .before .before .before in
-    let w = d .before .before in
-    let a = w .before in
-    rw (
-      ← a .before .before .skip .ensures,
-      ← a .before .skip2 .ensures,
-      ← a .plus .ensures,
-      ← w .less .ensures,
-      ← d .declared .ensures,
-      ← t .statement .ensures,
-    )
+unfolding planOf
+returns c p is answer few =
+    let mp = c .before .before .before in
+    c .generate .ensures p is answer (mp .make-plan .ensures) few
 
 pub generate-spec : {M : Type 1} → statement M
-generate-spec =
-    tie.close
-    (tie.spec
-    (λ c κs. search needs)
-    (λ c κs. search needs)
-    (λ c κs. search needs)
-    (λ c κs. search needs)
-    (λ c κs. search needs)
-    (λ c κs. search needs)
-    (λ c. search needs)
-    returns)
+generate-spec = tie.close (tie.spec (λ c κs. search needs) (λ c κs. search needs) returns)

@@ -47,18 +47,21 @@ planned s p q f g o e h is = is ∙ rw (e, h)
 
 returns : tie.Need-returns
 returns c q is answer plan few =
+    let sk = c .before .before .before in
+    let ski = sk .before in
+    let en = ski .before in
+    let p = en .before .before in
+    let ssk = p .before in
     let f = facts-are _ _ q answer is in
-    let o = c .before .before .before .before .before .before .before .plus .ensures in
-    let small : c .before .before .before .before .before .before .before .plus .result ≤ nameLimit =
+    let o = p .plus .ensures in
+    let small : p .plus .result ≤ nameLimit =
     rw (o, f) (let l = outside-few _ q is in let e : low (q .inputs + q .outputs) ≡ q .inputs + q .outputs = mod-eq-of-lt (omega arith) in
     rw e (omega arith)) in
-    let e = c .before .before .before .before .before .enter .ensures in
+    let e = en .enter .ensures in
     let r = rw (e .0) at (c .statement .ensures) in
     let m = r _ (e .1 noNames (no-names _) small) .0 in
-    let t = table-of _ _ _ _ _ _ _ o (c .before .before .before .skip2 .ensures ∙ ap (nextOf _)
-    (c .before .before .before .before .skip .ensures)) m in
-    let z = planned _ _ _ _ _ _ plan f t ∙ table-code _ q
-    (λ y. c .before .before .before .before .before .before .before .before .shared-slice-known .given y .fits) is few _ in
+    let t = table-of _ _ _ _ _ _ _ o (sk .skip2 .ensures ∙ ap (nextOf _) (ski .skip .ensures)) m in
+    let z = planned _ _ _ _ _ _ plan f t ∙ table-code _ q (λ y. ssk .shared-slice-known .given y .fits) is few _ in
     (ap (λ x. x .here) z, ap (λ x. x .list) z)
 
 pub generate-spec : {M : Type 1} → statement M
