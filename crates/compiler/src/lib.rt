@@ -11,7 +11,7 @@ ghost use Rattle.compiler.specs.Codes.{Lists, Assembles};
 fn generate(table: &[u8], facts: model::Facts, list: &mut [u64; 16384]) -> u32
     ensures { λ r. ⌜ Lists (now (table .entry)) facts (now (list .entry)) (now (list .exit)) r ⌝ }
 {
-    let mut plan: [u32; 32768] = [0; 32768];
+    let mut plan: [u32; 16384] = [0; 16384];
     plan::make_plan(table, &mut plan);
     statements::generate(table, &plan, facts, list)
 }

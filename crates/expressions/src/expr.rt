@@ -73,7 +73,7 @@ fn gen_variable(
 // Two sides, the left one at a place, apart from the operator.
 fn gen_sides(
     table: &[u8],
-    plan: &[u32; 32768],
+    plan: &[u32; 16384],
     cursor: Cursor,
     depth: u64,
     frame: Frame,
@@ -113,7 +113,7 @@ fn gen_sides(
 // What follows an operator's kind: operator, left, right.
 fn gen_binary(
     table: &[u8],
-    plan: &[u32; 32768],
+    plan: &[u32; 16384],
     cursor: Cursor,
     depth: u64,
     frame: Frame,
@@ -142,7 +142,7 @@ fn gen_binary(
 // An expression; the depth left falls at each call.
 fn gen_expr(
     table: &[u8],
-    plan: &[u32; 32768],
+    plan: &[u32; 16384],
     cursor: Cursor,
     depth: u64,
     frame: Frame,
@@ -178,7 +178,7 @@ fn gen_expr(
 }
 
 // By how many words W is lowered for the whole expression at a place: its stored values and so many more; without stored values by none.
-fn lowered(plan: &[u32; 32768], at: usize, more: u32) -> u32
+fn lowered(plan: &[u32; 16384], at: usize, more: u32) -> u32
     ensures { λ r. ⌜ r ≡ lowering (storedIn (planAt (now (plan .entry)) at)) more ⌝ }
 {
     let stored = plan::stored_in(plan::entry_at(plan, at));
@@ -201,7 +201,7 @@ fn put_adjust(lowered: u32, operand: u32, list: &mut [u64; 16384], here: u32) ->
 // A whole expression: one with stored values stands between AJW -n and AJW n, n words being its stored values and so many more.
 pub fn gen_whole(
     table: &[u8],
-    plan: &[u32; 32768],
+    plan: &[u32; 16384],
     cursor: Cursor,
     more: u32,
     scope: Scope,

@@ -14,7 +14,7 @@ pub struct Sides {
 }
 
 // Two sides, the left one at a place, with so many values held before.
-pub fn arrange(plan: &[u32; 32768], at: usize, held: u32) -> Sides
+pub fn arrange(plan: &[u32; 16384], at: usize, held: u32) -> Sides
     ensures { λ r. ⌜ r ≡ arranged (now (plan .entry)) held at ⌝ }
 {
     let left = plan::entry_at(plan, at);

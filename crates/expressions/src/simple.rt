@@ -32,7 +32,7 @@ fn put_output(list: &mut [u64; 16384], here: u32, channel: u32) -> u32
 // Assignment: value, STL.
 fn gen_assign(
     table: &[u8],
-    plan: &[u32; 32768],
+    plan: &[u32; 16384],
     cursor: Cursor,
     scope: Scope,
     words: &[u32; 2112],
@@ -83,7 +83,7 @@ pub fn gen_input(
 // Output: a channel and a value.
 fn gen_output(
     table: &[u8],
-    plan: &[u32; 32768],
+    plan: &[u32; 16384],
     cursor: Cursor,
     scope: Scope,
     words: &[u32; 2112],
@@ -111,7 +111,7 @@ fn gen_output(
 // What follows the kind of a statement without statements inside.
 pub fn gen_simple(
     table: &[u8],
-    plan: &[u32; 32768],
+    plan: &[u32; 16384],
     cursor: Cursor,
     simple: Simple,
     scope: Scope,

@@ -1,7 +1,7 @@
-// What is known of expressions before their code is written (document 02, order 2): a plan has an entry for each place of a table, of the
-// expression that begins there, found from later entries.
+// What is known of expressions before their code is made (document 02, order 2): a plan has an entry at the first place of each.
 ghost use mathlib.Core.Path.{_≡_};
-ghost use Rattle.plan.specs.Entries.{entry as entryOf, nextIn, registersIn, storedIn, planAt, sidesEntry, exprEntry};
+ghost use Rattle.plan.specs.Entries.{entry as entryOf, nextIn, registersIn, storedIn, planAt, putAt, sidesEntry, exprEntry};
+ghost use Rattle.plan.specs.Entries.{exprPlan, sidesEntryAt, sidesPlanAt};
 use model::kinds::ExprKind;
 
 // An entry: the place after an expression, its registers and its stored values.
@@ -34,8 +34,8 @@ pub fn stored_in(entry: u32) -> u32
     entry % 256
 }
 
-// What a plan has for an expression at a place; 0 past its end.
-pub fn entry_at(plan: &[u32; 32768], at: usize) -> u32
+// What a plan has at a place; 0 past its end.
+pub fn entry_at(plan: &[u32; 16384], at: usize) -> u32
     ensures { λ r. ⌜ r ≡ planAt (now (plan .entry)) at ⌝ }
 {
     if at < model::limits::TABLE {
@@ -54,18 +54,42 @@ fn sides_entry(left: u32, right: u32) -> u32
     entry(next_in(right), counts::sides_need(l, r), stored)
 }
 
-// The entry of the expression that begins with a kind, by a plan that has the later places.
-pub fn planned(table: &[u8], plan: &[u32; 32768], kind: numbers::Value) -> u32
-    ensures { λ r. ⌜ r ≡ exprEntry (now (plan .entry)) (now (table .entry)) kind ⌝ }
+// A plan with the entry of one place more.
+pub fn put_entry(plan: &mut [u32; 16384], at: usize, entry: u32)
+    ensures { λ _. ⌜ now (plan .exit) ≡ putAt at entry (now (plan .entry)) ⌝ }
 {
-    match numbers::kinds::expr_kind(kind.value as u64) {
-        ExprKind::Constant => entry(numbers::skip(table, kind.next), 1, 0),
-        ExprKind::Variable => entry(numbers::skip(table, kind.next), 1, 0),
-        ExprKind::Not => entry_at(plan, kind.next),
-        ExprKind::Binary => {
-            let left = entry_at(plan, numbers::skip(table, kind.next));
-            let right = entry_at(plan, next_in(left));
-            sides_entry(left, right)
-        }
+    if at < model::limits::TABLE {
+        plan[at] = entry;
     }
+}
+
+// What follows an operator's kind: operator, left, right.
+fn measure_sides(table: &[u8], plan: &mut [u32; 16384], at: usize, depth: u64) -> u32
+    ensures said { λ r. ⌜ r ≡ sidesEntryAt depth (now (table .entry)) at ⌝ }
+    ensures plan { λ r. ⌜ now (plan .exit) ≡ sidesPlanAt depth (now (table .entry)) at (now (plan .entry)) ⌝ }
+{
+    let first = numbers::skip(table, at);
+    let left = measure_expr(table, plan, first, depth);
+    let right = measure_expr(table, plan, next_in(left), depth);
+    sides_entry(left, right)
+}
+
+// An expression, and those in it; the depth left falls at each call.
+pub fn measure_expr(table: &[u8], plan: &mut [u32; 16384], at: usize, depth: u64) -> u32
+    ensures said { λ r. ⌜ r ≡ exprEntry depth (now (table .entry)) at ⌝ }
+    ensures plan { λ r. ⌜ now (plan .exit) ≡ exprPlan depth (now (table .entry)) at (now (plan .entry)) ⌝ }
+{
+    if depth == 0 {
+        return entry(at, 1, 0);
+    }
+    let number = numbers::value_at(table, at);
+    let next = number.next;
+    let own = match numbers::kinds::expr_kind(number.value as u64) {
+        ExprKind::Constant => entry(numbers::skip(table, next), 1, 0),
+        ExprKind::Variable => entry(numbers::skip(table, next), 1, 0),
+        ExprKind::Not => measure_expr(table, plan, next, depth - 1),
+        ExprKind::Binary => measure_sides(table, plan, next, depth - 1),
+    };
+    put_entry(plan, at, own);
+    own
 }

@@ -1,9 +1,11 @@
-// The place after a part, and the words that a statement needs: each statement by the entries of later places, without recursion.
+// The place after a part, and the words that a statement needs.
 ghost use mathlib.Core.Path.{_≡_};
-ghost use Rattle.plan.specs.Extents.{extentEntry, statementAt, extentIn, wholeExtent, simpleExtent, guardExtent, headExtent};
-ghost use Rattle.plan.specs.Extents.{joined as needed, partsExtent, declaredExtent, stmtExtent};
+ghost use Rattle.plan.specs.Entries.{exprPlan, nextOf};
+ghost use Rattle.plan.specs.Extents.{extentEntry, extentIn, wholeExtent, simpleExtent, simplePlan, guardExtent, headExtent, headPlan};
+ghost use Rattle.plan.specs.Extents.{joined as needed, partsExtentAt, partsPlanAt, insideExtent, insidePlan, stmtExtent, stmtPlan};
 use counts::Role;
 use model::kinds::GuardKind;
+use model::kinds::StmtKind;
 use numbers::kinds::Head;
 use numbers::kinds::Shape;
 use numbers::kinds::Simple;
@@ -15,39 +17,30 @@ pub struct Extent {
 
 // A statement's entry in a plan: the place after it and its words, 16 bits for each. A table has at most 16,384 bytes, and a program of
 // more than 4,096 words is refused before its plan is made.
-pub fn extent_entry(extent: Extent) -> u32
+fn extent_entry(extent: Extent) -> u32
     ensures { λ r. ⌜ r ≡ extentEntry extent ⌝ }
 {
     let place = (extent.next % 65536) as u32;
     place * 65536 + extent.need % 65536
 }
 
-// What a plan has for a statement at a place, behind what it has for expressions; 0 past its end.
-fn statement_at(plan: &[u32; 32768], at: usize) -> u32
-    ensures { λ r. ⌜ r ≡ statementAt (now (plan .entry)) at ⌝ }
-{
-    if at < model::limits::TABLE {
-        return plan[model::limits::TABLE + at];
-    }
-    0
-}
-
 // What a plan tells of the statement at a place.
-pub fn extent_in(plan: &[u32; 32768], at: usize) -> Extent
+pub fn extent_in(plan: &[u32; 16384], at: usize) -> Extent
     ensures { λ r. ⌜ r ≡ extentIn (now (plan .entry)) at ⌝ }
 {
-    let entry = statement_at(plan, at);
+    let entry = crate::expr::entry_at(plan, at);
     Extent {
         next: (entry / 65536) as usize,
         need: entry % 65536,
     }
 }
 
-// The place after an expression that stands in no other, and the words that it asks for.
-fn whole_extent(plan: &[u32; 32768], at: usize, role: Role) -> Extent
-    ensures { λ r. ⌜ r ≡ wholeExtent role (now (plan .entry)) at ⌝ }
+// An expression that stands in no other.
+fn measure_whole(table: &[u8], plan: &mut [u32; 16384], at: usize, role: Role, depth: u64) -> Extent
+    ensures said { λ r. ⌜ r ≡ wholeExtent role depth (now (table .entry)) at ⌝ }
+    ensures plan { λ r. ⌜ now (plan .exit) ≡ exprPlan depth (now (table .entry)) at (now (plan .entry)) ⌝ }
 {
-    let entry = crate::expr::entry_at(plan, at);
+    let entry = crate::expr::measure_expr(table, plan, at, depth);
     Extent {
         next: crate::expr::next_in(entry),
         need: counts::ask(role, crate::expr::stored_in(entry)),
@@ -55,8 +48,15 @@ fn whole_extent(plan: &[u32; 32768], at: usize, role: Role) -> Extent
 }
 
 // What follows the kind of a statement without statements inside.
-fn simple_extent(table: &[u8], plan: &[u32; 32768], at: usize, simple: Simple) -> Extent
-    ensures { λ r. ⌜ r ≡ simpleExtent simple (now (plan .entry)) (now (table .entry)) at ⌝ }
+fn measure_simple(
+    table: &[u8],
+    plan: &mut [u32; 16384],
+    at: usize,
+    simple: Simple,
+    depth: u64,
+) -> Extent
+    ensures said { λ r. ⌜ r ≡ simpleExtent simple depth (now (table .entry)) at ⌝ }
+    ensures plan { λ r. ⌜ now (plan .exit) ≡ simplePlan simple depth (now (table .entry)) at (now (plan .entry)) ⌝ }
 {
     match simple {
         Simple::Skip => Extent {
@@ -67,21 +67,22 @@ fn simple_extent(table: &[u8], plan: &[u32; 32768], at: usize, simple: Simple) -
             next: at,
             need: counts::IDLE_WORDS,
         },
-        Simple::Assign => whole_extent(plan, numbers::skip(table, at), Role::Value),
+        Simple::Assign => measure_whole(table, plan, numbers::skip(table, at), Role::Value, depth),
         Simple::Input => Extent {
             next: numbers::skip(table, numbers::skip(table, at)),
             need: counts::INPUT_WORDS,
         },
-        Simple::Output => whole_extent(plan, numbers::skip(table, at), Role::Output),
+        Simple::Output => measure_whole(table, plan, numbers::skip(table, at), Role::Output, depth),
     }
 }
 
-// The place after a guard, and the words that its condition asks for.
-fn guard_extent(table: &[u8], plan: &[u32; 32768], at: usize) -> Extent
-    ensures { λ r. ⌜ r ≡ guardExtent (now (plan .entry)) (now (table .entry)) at ⌝ }
+// A guard: its condition, and if it waits for input its channel and its variable.
+fn measure_guard(table: &[u8], plan: &mut [u32; 16384], at: usize, depth: u64) -> Extent
+    ensures said { λ r. ⌜ r ≡ guardExtent depth (now (table .entry)) at ⌝ }
+    ensures plan { λ r. ⌜ now (plan .exit) ≡ exprPlan depth (now (table .entry)) (nextOf (now (table .entry)) at) (now (plan .entry)) ⌝ }
 {
     let number = numbers::value_at(table, at);
-    let condition = whole_extent(plan, number.next, Role::Guard);
+    let condition = measure_whole(table, plan, number.next, Role::Guard, depth);
     match numbers::kinds::guard_kind(number.value as u64) {
         GuardKind::Input => Extent {
             next: numbers::skip(table, numbers::skip(table, condition.next)),
@@ -91,14 +92,15 @@ fn guard_extent(table: &[u8], plan: &[u32; 32768], at: usize) -> Extent
     }
 }
 
-// The place after what stands before the statement of a part, and the words that it asks for.
-fn head_extent(table: &[u8], plan: &[u32; 32768], at: usize, head: Head) -> Extent
-    ensures { λ r. ⌜ r ≡ headExtent head (now (plan .entry)) (now (table .entry)) at ⌝ }
+// What stands before the statement of a part.
+fn measure_head(table: &[u8], plan: &mut [u32; 16384], at: usize, head: Head, depth: u64) -> Extent
+    ensures said { λ r. ⌜ r ≡ headExtent head depth (now (table .entry)) at ⌝ }
+    ensures plan { λ r. ⌜ now (plan .exit) ≡ headPlan head depth (now (table .entry)) at (now (plan .entry)) ⌝ }
 {
     match head {
         Head::Nothing => Extent { next: at, need: 0 },
-        Head::Condition => whole_extent(plan, at, Role::Value),
-        Head::Guard => guard_extent(table, plan, at),
+        Head::Condition => measure_whole(table, plan, at, Role::Value, depth),
+        Head::Guard => measure_guard(table, plan, at, depth),
     }
 }
 
@@ -112,70 +114,88 @@ fn joined(beside: bool, before: u32, part: u32) -> u32
     counts::larger(before, part)
 }
 
-// So many parts, each by its entry, behind some that need so many words.
-fn parts_extent(
+// So many parts from a place on, behind some that need so many words.
+fn measure_parts(
     table: &[u8],
-    plan: &[u32; 32768],
-    first: usize,
+    plan: &mut [u32; 16384],
+    first: Extent,
     head: Head,
     beside: bool,
     count: u32,
-    least: u32,
+    depth: u64,
 ) -> Extent
-    ensures { λ r. ⌜ r ≡ partsExtent count head beside (now (plan .entry)) (now (table .entry)) first least ⌝ }
+    ensures said { λ r. ⌜ r ≡ partsExtentAt count head beside depth (now (table .entry)) first ⌝ }
+    ensures plan { λ r. ⌜ now (plan .exit) ≡ partsPlanAt count head depth (now (table .entry)) (first .next) (now (plan .entry)) ⌝ }
 {
-    let mut at = first;
-    let mut need = least;
+    let mut so_far = first;
     let mut left = count;
     while 0 < left {
-        let before = head_extent(table, plan, at, head);
-        let part = extent_in(plan, before.next);
-        need = joined(beside, counts::larger(need, before.need), part.need);
-        at = part.next;
+        let before = measure_head(table, &mut *plan, so_far.next, head, depth);
+        let part = measure_stmt(table, &mut *plan, before.next, depth);
+        let least = counts::larger(so_far.need, before.need);
+        so_far = Extent {
+            next: part.next,
+            need: joined(beside, least, part.need),
+        };
         left -= 1;
     }
-    Extent {
-        next: at,
-        need: need,
-    }
+    so_far
 }
 
-// The statement of a declaration of so many names.
-fn declared_extent(plan: &[u32; 32768], count: numbers::Value) -> Extent
-    ensures { λ r. ⌜ r ≡ declaredExtent (now (plan .entry)) count ⌝ }
+// What follows a kind; the statements inside have `depth` left.
+fn measure_inside(
+    table: &[u8],
+    plan: &mut [u32; 16384],
+    at: usize,
+    kind: StmtKind,
+    depth: u64,
+) -> Extent
+    ensures said { λ r. ⌜ r ≡ insideExtent kind depth (now (table .entry)) at ⌝ }
+    ensures plan { λ r. ⌜ now (plan .exit) ≡ insidePlan kind depth (now (table .entry)) at (now (plan .entry)) ⌝ }
 {
-    let body = extent_in(plan, count.next);
-    let need = word::plus(count.value, body.need);
-    Extent {
-        next: body.next,
-        need: need,
-    }
-}
-
-// The statement that begins with a kind, by a plan that has the later places.
-pub fn stmt_extent(table: &[u8], plan: &[u32; 32768], number: numbers::Value) -> Extent
-    ensures { λ r. ⌜ r ≡ stmtExtent (now (plan .entry)) (now (table .entry)) number ⌝ }
-{
-    let kind = numbers::kinds::stmt_kind(number.value as u64);
     match numbers::kinds::shape_of(kind) {
-        Shape::Simple(simple) => simple_extent(table, plan, number.next, simple),
-        Shape::Declares(declared) => declared_extent(plan, numbers::value_at(table, number.next)),
+        Shape::Simple(simple) => measure_simple(table, plan, at, simple, depth),
+        Shape::Declares(declared) => {
+            let count = numbers::value_at(table, at);
+            let body = measure_stmt(table, plan, count.next, depth);
+            Extent {
+                next: body.next,
+                need: word::plus(count.value, body.need),
+            }
+        }
         Shape::Branches(count) => {
-            let n = numbers::kinds::count_at(table, number.next, count);
-            parts_extent(
-                table,
-                plan,
-                n.next,
-                Head::Nothing,
-                true,
-                n.value,
-                counts::PAR_WORDS,
-            )
+            let n = numbers::kinds::count_at(table, at, count);
+            let first = Extent {
+                next: n.next,
+                need: counts::PAR_WORDS,
+            };
+            measure_parts(table, plan, first, Head::Nothing, true, n.value, depth)
         }
         Shape::Parts(head, count) => {
-            let n = numbers::kinds::count_at(table, number.next, count);
-            let least = counts::least_words(head);
-            parts_extent(table, plan, n.next, head, false, n.value, least)
+            let n = numbers::kinds::count_at(table, at, count);
+            let first = Extent {
+                next: n.next,
+                need: counts::least_words(head),
+            };
+            measure_parts(table, plan, first, head, false, n.value, depth)
         }
     }
+}
+
+// A statement, and all in it; the depth left falls at each call.
+pub fn measure_stmt(table: &[u8], plan: &mut [u32; 16384], at: usize, depth: u64) -> Extent
+    ensures said { λ r. ⌜ r ≡ stmtExtent depth (now (table .entry)) at ⌝ }
+    ensures plan { λ r. ⌜ now (plan .exit) ≡ stmtPlan depth (now (table .entry)) at (now (plan .entry)) ⌝ }
+{
+    if depth == 0 {
+        return Extent {
+            next: at,
+            need: counts::IDLE_WORDS,
+        };
+    }
+    let number = numbers::value_at(table, at);
+    let kind = numbers::kinds::stmt_kind(number.value as u64);
+    let own = measure_inside(table, plan, number.next, kind, depth - 1);
+    crate::expr::put_entry(plan, at, extent_entry(own));
+    own
 }

@@ -35,13 +35,13 @@ use Rattle.statements.specs.Kinds.{stmtInto, innerAt}
 use Rattle.statements.specs.declared.alt.Guard.{Guard}
 use Rattle.statements.proofs.Spelled.{KindAt, OneAt, ExprAt, CountAt, StmtAt, inputGuardAt, skipGuardAt, GuardsAt, noGuardAt}
 use Rattle.statements.proofs.Spelled.{guardsAt}
-use Rattle.statements.proofs.Planned.{next-is, Plans}
+use Rattle.statements.proofs.Planned.{next-is, PlannedExpr, PlannedStmt, PlannedGuards}
 use Rattle.statements.proofs.Fills.{filled, fill-then, fill-before, fill-none, fill-swap, Room, room-left, room-right, emits}
 use Rattle.statements.proofs.Fills.{emits-fills}
 use Rattle.statements.proofs.Fills.{emits-at, gap-fills}
 use Rattle.statements.proofs.Closes.{closed, close-is, Kept, kept-all, kept-more, closed-more, closed-none}
 use Rattle.statements.proofs.ExprCode.{whole-code, local-is}
-use Rattle.statements.proofs.Compiles.{Scoped, inner-scope, scope-depth, Placed, Written, Compiles}
+use Rattle.statements.proofs.Compiles.{Scoped, inner-scope, Placed, Written, Compiles}
 
 -- a guard, its condition put
 abbrev guardOf : (next here : ℕ) → Bool → Guard
@@ -56,7 +56,7 @@ same-less h n l =
     let e : h + n + 2 ^ 32 - h ≡ n + 2 ^ 32 = omega arith in
     rw e (omega arith)
 
-module _ (word : Site → ℕ) (workspace : ℕ → ℕ) (s plan : List ℕ) (planned : Plans s plan) where
+module _ (word : Site → ℕ) (workspace : ℕ → ℕ) (s plan : List ℕ) where
   -- the disabling has an instruction more for each guard
   disable-more : {k i n d : ℕ} {sc : M.Scope} {gs : Guards} → GuardsAt s d sc k i gs n → sizeDisable gs ≡ sizeEnable gs + k
   unfolding sizeDisable disableSize enableSize
@@ -75,24 +75,25 @@ module _ (word : Site → ℕ) (workspace : ℕ → ℕ) (s plan : List ℕ) (pl
     waiting w e c = guardCode word w e ++ plain ldlp (local word w c) ∷ operation rev ∷ []
 
     waiting-fills : {i n m p : ℕ} {e : Expr} {c : Site} (w h : ℕ) (o : List ℕ) → KindAt s guardKind i InputGuard n
-        → ExprAt s (sc .variables) d n e m → OneAt s (sc .channels) m c p → Begins d ns w i m h o true (waiting w e c)
+        → (x : ExprAt s (sc .variables) d n e m) → PlannedExpr s plan x → OneAt s (sc .channels) m c p
+        → Begins d ns w i m h o true (waiting w e c)
     unfolding guardInto functionCode operationCode operationInto
-    waiting-fills {e = e} {c = c} w h o k x ch r =
+    waiting-fills {e = e} {c = c} w h o k x told ch r =
         rw (
           k .value,
           k .is,
-          whole-code word s altWords (omega arith) (scope .variables) planned w x h o (room-left h (guardCode word w e) _ r),
+          whole-code word s plan altWords (omega arith) (scope .variables) w x told h o (room-left h (guardCode word w e) _ r),
           ch .there .value,
           local-is word s (scope .channels) w ch,
           emits-fills (plain ldlp (local word w c) ∷ operation rev ∷ []) h (guardCode word w e) o r,
         )
         refl
 
-    skipping-fills : {i n m : ℕ} {e : Expr} (w h : ℕ) (o : List ℕ) → KindAt s guardKind i SkipGuard n → ExprAt s (sc .variables) d n e m
-        → Begins d ns w i m h o false (guardCode word w e)
+    skipping-fills : {i n m : ℕ} {e : Expr} (w h : ℕ) (o : List ℕ) → KindAt s guardKind i SkipGuard n
+        → (x : ExprAt s (sc .variables) d n e m) → PlannedExpr s plan x → Begins d ns w i m h o false (guardCode word w e)
     unfolding guardInto
-    skipping-fills w h o k x r =
-        rw (k .value, k .is, whole-code word s altWords (omega arith) (scope .variables) planned w x h o r) refl
+    skipping-fills w h o k x told r =
+        rw (k .value, k .is, whole-code word s plan altWords (omega arith) (scope .variables) w x told h o r) refl
 
     enable-waits : (w : ℕ) (e : Expr) (c x : Site) (y : Stmt) (gs : Guards)
         → codeEnable word w (guard (inputGuard e c x) y gs) ≡ waiting w e c ++ operation enbc ∷ [] ++ codeEnable word w gs
@@ -147,18 +148,19 @@ module _ (word : Site → ℕ) (workspace : ℕ → ℕ) (s plan : List ℕ) (pl
               (fill-then h (G ++ N) E o);
         }
 
-    enable-fills : {k i n : ℕ} {gs : Guards} (w h : ℕ) (o : List ℕ) → GuardsAt s d sc k i gs n → guardNeed gs ≤ wordLimit
+    enable-fills : {k i n : ℕ} {gs : Guards} (w h : ℕ) (o : List ℕ) (a : GuardsAt s d sc k i gs n) → PlannedGuards s plan a
+        → guardNeed gs ≤ wordLimit
         → Room h (codeEnable word w gs) → Enables w k i h o (codeEnable word w gs)
-    unfolding behindGuard guardNeed operationCode
-    enable-fills w h o noGuardAt few r = none-enabled w h o
-    enable-fills w h o (guardsAt {b = y} {gs = gs} (inputGuardAt {e = e} {c = c} {x = x} k t ch v) a g) few r =
-        enable-more true enbc w h o (waiting w e c) (enable-waits w e c x y gs) refl r (waiting-fills w h o k t ch)
-        (rw (next-is s (ch .there), next-is s (v .there), planned .measures a (scope-depth scope) (omega arith)))
-        (λ h o r. enable-fills w h o g (omega arith) r)
-    enable-fills w h o (guardsAt {b = y} {gs = gs} (skipGuardAt {e = e} k t) a g) few r =
-        enable-more false enbs w h o (guardCode word w e) (enable-skips w e y gs) refl r (skipping-fills w h o k t)
-        (rw (planned .measures a (scope-depth scope) (omega arith)))
-        (λ h o r. enable-fills w h o g (omega arith) r)
+    unfolding PlannedGuards behindGuard guardNeed operationCode
+    enable-fills w h o noGuardAt told few r = none-enabled w h o
+    enable-fills w h o (guardsAt {b = y} {gs = gs} (inputGuardAt {e = e} {c = c} {x = x} k t ch v) a g) told few r =
+        enable-more true enbc w h o (waiting w e c) (enable-waits w e c x y gs) refl r (waiting-fills w h o k t (told .0) ch)
+        (rw (next-is s (ch .there), next-is s (v .there), told .1 .0 (omega arith)))
+        (λ h o r. enable-fills w h o g (told .2) (omega arith) r)
+    enable-fills w h o (guardsAt {b = y} {gs = gs} (skipGuardAt {e = e} k t) a g) told few r =
+        enable-more false enbs w h o (guardCode word w e) (enable-skips w e y gs) refl r (skipping-fills w h o k t (told .0))
+        (rw (told .1 .0 (omega arith)))
+        (λ h o r. enable-fills w h o g (told .2) (omega arith) r)
 
   -- one branch with its J, and its disabling, each in its own area
   choice-stores : (a : ℕ) (xs xs2 : List Instruction) (h : ℕ) (ys : List Instruction) (x : Instruction) (ys2 : List Instruction)
@@ -208,7 +210,7 @@ module _ (word : Site → ℕ) (workspace : ℕ → ℕ) (s plan : List ℕ) (pl
         → cond waits DISC DISS ≡ operationCode op → h + length F ≡ j → Laid workspace w y → need y ≤ wordLimit
         → Room dis (G ++ disabling op h choice) → j + size y < 2 ^ 32 → Begins d ns (w - 1) i m dis o waits G
         → ((o : List ℕ) → branchInput (guardOf m (dis + length G) waits) w ns s (plainInto AJW 1 (at h o)) ≡ written z (emits F (at h o)))
-        → StmtAt s d sc z y n
+        → (a : StmtAt s d sc z y n) → PlannedStmt s plan a
         → choiceInto d (innerAt d plan s) w ns plan s choice i dis (at h o)
         ≡ record {
           next = n;
@@ -217,7 +219,7 @@ module _ (word : Site → ℕ) (workspace : ℕ → ℕ) (s plan : List ℕ) (pl
           list = sets (sets o dis (entriesOf (G ++ disabling op h choice))) h (entriesOf (F ++ code word w j y));
         }
     unfolding choiceInto disableInto functionCode operationInto
-    one-chosen {n = n} {y = y} i m waits op choice dis h j o G F op-is index laid few rd rb begun branch a =
+    one-chosen {n = n} {y = y} i m waits op choice dis h j o G F op-is index laid few rd rb begun branch a told =
         let X = disabling op h choice in
         let B = code word w j y in
         let O = sets o dis (entriesOf (G ++ X)) in
@@ -229,7 +231,7 @@ module _ (word : Site → ℕ) (workspace : ℕ → ℕ) (s plan : List ℕ) (pl
           branch O,
           emits-at F h O (omega arith),
           index,
-          inner .compiles w j a (inner-scope scope) (record { laid = laid; low = fits; few = few; room = omega arith })
+          inner .compiles w j a told (inner-scope scope) (record { laid = laid; low = fits; few = few; room = omega arith })
               (sets O h (entriesOf F)),
           long,
         )
@@ -243,13 +245,13 @@ module _ (word : Site → ℕ) (workspace : ℕ → ℕ) (s plan : List ℕ) (pl
         → q < length e → Laid workspace w y → need y ≤ wordLimit → Room h A → dis + length C ≤ h
         → Begins d ns (w - 1) i m dis o waits G
         → ((o : List ℕ) → branchInput (guardOf m (dis + length G) waits) w ns s (plainInto AJW 1 (at h o)) ≡ written z (emits F (at h o)))
-        → StmtAt s d sc z y p
+        → (a : StmtAt s d sc z y p) → PlannedStmt s plan a
         → ((dis : ℕ) (e o : List ℕ) → suc q + k ≤ length e → Room (j + size y + 1) R → dis + length D ≤ j + size y + 1
         → Chooses (chosenBy k (suc q) choice e p dis (j + size y + 1) o) k (suc q) n over dis (j + size y + 1) e o D R)
         → q + suc k ≤ length e → Chooses (chosenBy (suc k) q choice e i dis h o) (suc k) q n over dis h e o C A
     unfolding choicesInto
     choice-more {k} {y = y} i m waits op q choice over dis h j e o G F D R {C} {A} c-is a-is op-is index room laid few r l begun branch a
-        rest ends-room =
+        told rest ends-room =
         let X = disabling op h choice in
         let B = code word w j y in
         let leave = j + size y in
@@ -263,7 +265,8 @@ module _ (word : Site → ℕ) (workspace : ℕ → ℕ) (s plan : List ℕ) (pl
         let O = sets (sets o dis (entriesOf (G ++ X))) h (entriesOf (F ++ B)) in
         let more = rest (dis + length (G ++ X)) (set e q leave) O (omega (arith, length-set e q leave)) (omega arith) (omega arith) in
         let ends = kept-more {e = e} leave room (more .kept) in
-        rw (one-chosen i m waits op choice dis h j o G F op-is index laid few (omega arith) (omega arith) begun branch a, next) (record {
+        rw (one-chosen i m waits op choice dis h j o G F op-is index laid few (omega arith) (omega arith) begun branch a told, next)
+        (record {
           next = more .next;
           here = more .here ∙ omega arith;
           kept = ends .0;
@@ -271,40 +274,40 @@ module _ (word : Site → ℕ) (workspace : ℕ → ℕ) (s plan : List ℕ) (pl
               ∙ rw (more .closes, c-is, a-is) (rw left at (choice-stores dis (G ++ X) D h (F ++ B) J R o (omega arith)));
         })
 
-    choices-fill : {k i n : ℕ} {gs : Guards} (q choice over dis h : ℕ) (e o : List ℕ) → GuardsAt s d sc k i gs n
-        → LaidGuards workspace w gs → guardNeed gs ≤ wordLimit → q + k ≤ length e
+    choices-fill : {k i n : ℕ} {gs : Guards} (q choice over dis h : ℕ) (e o : List ℕ) (a : GuardsAt s d sc k i gs n)
+        → PlannedGuards s plan a → LaidGuards workspace w gs → guardNeed gs ≤ wordLimit → q + k ≤ length e
         → Room h (codeBranches word w h over gs) → dis + length (codeDisable word (w - 1) choice h gs) ≤ h
         → Chooses (chosenBy k q choice e i dis h o) k q n over dis h e o (codeDisable word (w - 1) choice h gs)
         (codeBranches word w h over gs)
-    unfolding codeBranches guardInput inputSize need branchInput inInto inputInto functionCode operationCode operationInto
-    choices-fill q choice over dis h e o noGuardAt laid few m r l = none-chosen q choice over dis h e o
+    unfolding PlannedGuards codeBranches guardInput inputSize need branchInput inInto inputInto functionCode operationCode operationInto
+    choices-fill q choice over dis h e o noGuardAt told laid few m r l = none-chosen q choice over dis h e o
     choices-fill {i = i} q choice over dis h e o
-        (guardsAt {b = y} {gs = gs} (inputGuardAt {m = at-channel} {e = x} {c = c} {x = z} k t ch v) a g) laid few m r l =
+        (guardsAt {b = y} {gs = gs} (inputGuardAt {m = at-channel} {e = x} {c = c} {x = z} k t ch v) a g) told laid few m r l =
         let after = h + 1 + 4 + size y + 1 in
         choice-more i at-channel true disc q choice over dis h (h + 1 + 4) e o (waiting scope (w - 1) x c)
         (plain ajw 1 ∷ inputCode word w c z) (codeDisable word (w - 1) choice after gs) (codeBranches word w after over gs)
         (disable-waits scope (w - 1) choice h x c z y gs) refl refl (omega arith) (omega arith) (laid .0) (omega arith) r l
-        (waiting-fills scope (w - 1) dis o k t ch)
+        (waiting-fills scope (w - 1) dis o k t (told .0) ch)
         (λ o. rw (
           ch .there .value,
           v .there .value,
           local-is word s (scope .channels) w ch,
           local-is word s (scope .variables) w v,
-        )) a
-        (λ dis e o m r l. choices-fill (suc q) choice over dis after e o g (laid .1) (omega arith) m r l) m
-    choices-fill {i = i} {n = n} q choice over dis h e o (guardsAt {n = at-statement} {b = y} {gs = gs} (skipGuardAt {e = x} k t) a g) laid
-        few m r l =
+        )) a (told .1)
+        (λ dis e o m r l. choices-fill (suc q) choice over dis after e o g (told .2) (laid .1) (omega arith) m r l) m
+    choices-fill {i = i} {n = n} q choice over dis h e o (guardsAt {n = at-statement} {b = y} {gs = gs} (skipGuardAt {e = x} k t) a g) told
+        laid few m r l =
         let after = h + 1 + 0 + size y + 1 in
         choice-more i at-statement false diss q choice over dis h (h + 1 + 0) e o (guardCode word (w - 1) x) (plain ajw 1 ∷ [])
         (codeDisable word (w - 1) choice after gs) (codeBranches word w after over gs)
         (disable-skips scope (w - 1) choice h x y gs) refl refl (omega arith) (omega arith) (laid .0) (omega arith) r l
-        (skipping-fills scope (w - 1) dis o k t) (λ o. refl) a
-        (λ dis e o m r l. choices-fill (suc q) choice over dis after e o g (laid .1) (omega arith) m r l) m
+        (skipping-fills scope (w - 1) dis o k t (told .0)) (λ o. refl) a (told .1)
+        (λ dis e o m r l. choices-fill (suc q) choice over dis after e o g (told .2) (laid .1) (omega arith) m r l) m
 
-    pub alt-code : {i n m q k : ℕ} {gs : Guards} (j : ℕ) → KindAt s stmtKind i Alt n → CountAt s 0 32 n k m → GuardsAt s d sc k m gs q
-        → Placed word workspace s plan w j (ALT gs) → Written word workspace s plan (suc d) ns w j i q (ALT gs)
+    pub alt-code : {i n m q k : ℕ} {gs : Guards} (j : ℕ) → KindAt s stmtKind i Alt n → CountAt s 0 32 n k m → (a : GuardsAt s d sc k m gs q)
+        → PlannedGuards s plan a → Placed word workspace s plan w j (ALT gs) → Written word workspace s plan (suc d) ns w j i q (ALT gs)
     unfolding stmtInto countIn code need functionCode operationCode operationInto
-    alt-code {q = q} {k = k} {gs = gs} j t c a p o =
+    alt-code {q = q} {k = k} {gs = gs} j t c a told p o =
         let choice = j + 2 + sizeEnable gs + 1 + sizeDisable gs in
         let over = choice + 1 + sizeBranches gs in
         let A = plain ajw (minus 1) ∷ operation I.alt ∷ [] in
@@ -342,7 +345,7 @@ module _ (word : Site → ℕ) (workspace : ℕ → ℕ) (s plan : List ℕ) (pl
           ap (λ c. c .list) (fill-then j (A ++ E) (N ++ Y) o),
         )
         refl in
-        let f = choices-fill 0 choice over (waits + 1) (choice + 1) noEnds (sets Q choice (entriesOf Z)) a (p .laid)
+        let f = choices-fill 0 choice over (waits + 1) (choice + 1) noEnds (sets Q choice (entriesOf Z)) a told (p .laid)
         (omega (arith, p .few)) (omega (arith, c .most, length-replicate {A = ℕ} 32 0)) (omega arith) (omega arith) in
         rw (
           t .value,
@@ -350,7 +353,7 @@ module _ (word : Site → ℕ) (workspace : ℕ → ℕ) (s plan : List ℕ) (pl
           c .there .value,
           c .fits,
           emits-at A j o (omega arith),
-          enable-fills scope (w - 1) (j + 2) (sets o j (entriesOf A)) a (omega (arith, p .few)) (omega arith) .enables,
+          enable-fills scope (w - 1) (j + 2) (sets o j (entriesOf A)) a told (omega (arith, p .few)) (omega arith) .enables,
           fill-then j A E o,
           emits-at N waits P (omega arith),
           same,

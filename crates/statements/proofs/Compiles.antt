@@ -21,7 +21,7 @@ use Rattle.expressions.specs.Exprs.{written}
 use Rattle.expressions.specs.Simples.{inputInto, outputInto, assignInto, inInto, outInto, simpleInto}
 use Rattle.statements.specs.Kinds.{stmtInto}
 use Rattle.statements.proofs.Spelled.{KindAt, OneAt, ExprAt, StmtAt}
-use Rattle.statements.proofs.Planned.{Plans}
+use Rattle.statements.proofs.Planned.{PlannedExpr, PlannedStmt}
 use Rattle.statements.proofs.Fills.{filled, fill-none, Room, room-left, emits-fills, emits-at}
 use Rattle.statements.proofs.ExprCode.{Named, local-is, whole-code}
 
@@ -61,10 +61,10 @@ module _ (word : Site → ℕ) (workspace : ℕ → ℕ) (s plan : List ℕ) whe
 
   -- so it is for every statement that is spelt with `depth` left
   pub record Compiles (depth : ℕ) : Type 0 where
-    pub compiles : {sc : M.Scope} {i n : ℕ} {b : Stmt} {ns : Names} (w j : ℕ) → StmtAt s depth sc i b n → Scoped word depth sc ns
-        → Placed w j b → Written depth ns w j i n b
+    pub compiles : {sc : M.Scope} {i n : ℕ} {b : Stmt} {ns : Names} (w j : ℕ) (a : StmtAt s depth sc i b n) → PlannedStmt s plan a
+        → Scoped word depth sc ns → Placed w j b → Written depth ns w j i n b
 
-  module _ {d : ℕ} {sc : M.Scope} {ns : Names} (w j : ℕ) (planned : Plans s plan) (names : Scoped word (suc d) sc ns) where
+  module _ {d : ℕ} {sc : M.Scope} {ns : Names} (w j : ℕ) (names : Scoped word (suc d) sc ns) where
     pub skip-code : {i n : ℕ} → KindAt s stmtKind i Skip n → Placed w j SKIP → Written (suc d) ns w j i n SKIP
     unfolding stmtInto simpleInto code
     skip-code k p o = rw (k .value, k .is) (ap (written _) (sym (fill-none j o)))
@@ -74,15 +74,15 @@ module _ (word : Site → ℕ) (workspace : ℕ → ℕ) (s plan : List ℕ) whe
     stop-code k p o = rw (k .value, k .is) (ap (written _) (stopp-fills j o (p .room)))
 
     pub assign-code : {i n m q : ℕ} {x : Site} {e : Expr} → KindAt s stmtKind i Assign n → OneAt s (sc .variables) n x m
-        → ExprAt s (sc .variables) d m e q → Placed w j (assign x e) → Written (suc d) ns w j i q (assign x e)
+        → (c : ExprAt s (sc .variables) d m e q) → PlannedExpr s plan c → Placed w j (assign x e) → Written (suc d) ns w j i q (assign x e)
     unfolding stmtInto simpleInto assignInto code functionCode
-    assign-code {x = x} {e = e} k a c p o =
+    assign-code {x = x} {e = e} k a c told p o =
         rw (
           k .value,
           k .is,
           a .there .value,
           local-is word s (names .variables) w a,
-          whole-code word s 0 (omega arith) (names .variables) planned w c j o (room-left j (wholeCode word w e) _ (p .room)),
+          whole-code word s plan 0 (omega arith) (names .variables) w c told j o (room-left j (wholeCode word w e) _ (p .room)),
         )
         (ap (written _) (emits-fills (plain stl (local word w x) ∷ []) j (wholeCode word w e) o (p .room)))
 
@@ -101,15 +101,15 @@ module _ (word : Site → ℕ) (workspace : ℕ → ℕ) (s plan : List ℕ) whe
         (ap (written _) (emits-at (inputCode word w c x) j o (p .room)))
 
     pub output-code : {i n m q : ℕ} {c : Site} {e : Expr} → KindAt s stmtKind i Output n → OneAt s (sc .channels) n c m
-        → ExprAt s (sc .variables) d m e q → Placed w j (output c e) → Written (suc d) ns w j i q (output c e)
+        → (b : ExprAt s (sc .variables) d m e q) → PlannedExpr s plan b → Placed w j (output c e) → Written (suc d) ns w j i q (output c e)
     unfolding stmtInto simpleInto outInto outputInto code functionCode operationCode operationInto
-    output-code {c = c} {e = e} k a b p o =
+    output-code {c = c} {e = e} k a b told p o =
         rw (
           k .value,
           k .is,
           a .there .value,
           local-is word s (names .channels) w a,
-          whole-code word s 0 (omega arith) (names .variables) planned w b j o (room-left j (wholeCode word w e) _ (p .room)),
+          whole-code word s plan 0 (omega arith) (names .variables) w b told j o (room-left j (wholeCode word w e) _ (p .room)),
         )
         (ap (written _) (emits-fills
         (plain ldlp (local word w c) ∷ operation I.rev ∷ plain ajw (minus 1) ∷ operation I.outword ∷ plain ajw 1 ∷ [])

@@ -32,6 +32,7 @@ use Rattle.instruction.specs.Codes.{AJW}
 use Rattle.statements.specs.Stmts.{firstInto, initialInto}
 use Rattle.statements.specs.Kinds.{stmtInto}
 use Rattle.statements.proofs.Spelled.{KindAt, CountAt, StmtAt}
+use Rattle.statements.proofs.Planned.{PlannedStmt}
 use Rattle.statements.proofs.Fills.{filled, fill-then, Room, room-left, room-right, emits, emits-fills, emits-at}
 use Rattle.statements.proofs.ExprCode.{Named}
 use Rattle.statements.proofs.Compiles.{Scoped, inner-names, Placed, Written, Compiles}
@@ -109,13 +110,14 @@ module _ (word : Site → ℕ) (workspace : ℕ → ℕ) (s plan : List ℕ)
 
   module _ {d : ℕ} {sc : M.Scope} {ns : Names} (w j : ℕ) (inner : Compiles word workspace s plan d) where
     declaration-code : (what : Declared) (first : Instruction) → ((c : Code) → firstInto what c ≡ emits (first ∷ []) c)
-        → {m q : ℕ} {b : Stmt} (n : ℕ) → n ≤ 32 → StmtAt s d sc m b q → Scoped word d sc ns → Laid workspace (w - n) b → w ≤ wordLimit
+        → {m q : ℕ} {b : Stmt} (n : ℕ) → n ≤ 32 → (a : StmtAt s d sc m b q) → PlannedStmt s plan a → Scoped word d sc ns
+        → Laid workspace (w - n) b → w ≤ wordLimit
         → n + need b ≤ wordLimit → let X = declaration first n (code word (w - n) (j + 1 + (n + n)) b) in
         Room j X → (o : List ℕ)
         → let r = stmtInto d (w - n) ns plan s m (initialInto n what 0 (plainInto AJW (minus n) (at j o))) in
         written (r .next) (plainInto AJW n (codeOf r)) ≡ written q (filled j X o)
     unfolding functionCode initialise
-    declaration-code what first is {q = q} {b = b} n l a scope laid fits few room o =
+    declaration-code what first is {q = q} {b = b} n l a told scope laid fits few room o =
         let F = plain ajw (minus n) ∷ [] in
         let I = initialise first n in
         let B = code word (w - n) (j + 1 + (n + n)) b in
@@ -128,7 +130,7 @@ module _ (word : Site → ℕ) (workspace : ℕ → ℕ) (s plan : List ℕ)
           emits-at F j o (room-left j F I begin),
           initial-fills what first is n 0 n j F o (omega arith) (omega arith) begin,
           index,
-          inner .compiles (w - n) (j + 1 + (n + n)) a scope
+          inner .compiles (w - n) (j + 1 + (n + n)) a told scope
               (record { laid = laid; low = omega arith; few = omega arith; room = rw index at (room-right j (F ++ I) B head) })
               (sets o j (entriesOf (F ++ I))),
           behind,
@@ -137,12 +139,13 @@ module _ (word : Site → ℕ) (workspace : ℕ → ℕ) (s plan : List ℕ)
 
   module _ {d : ℕ} {sc : M.Scope} {ns : Names} (w j : ℕ) (scope : Scoped word (suc d) sc ns)
       (inner : Compiles word workspace s plan d) where
-    pub var-code : {i n m q k : ℕ} {b : Stmt} → KindAt s stmtKind i Var n → CountAt s 1 32 n k m → StmtAt s d (withVariables i k sc) m b q
+    pub var-code : {i n m q k : ℕ} {b : Stmt} → KindAt s stmtKind i Var n → CountAt s 1 32 n k m
+        → (a : StmtAt s d (withVariables i k sc) m b q) → PlannedStmt s plan a
         → Placed word workspace s plan w j (VAR i k b) → Written word workspace s plan (suc d) ns w j i q (VAR i k b)
     unfolding stmtInto countIn code firstInto functionCode operationCode operationInto need
-    var-code {i} {k = k} t c a p o =
+    var-code {i} {k = k} t c a told p o =
         rw (t .value, t .is, c .there .value, c .fits)
-        (declaration-code w j inner Variables (plain ldc 0) (λ c. refl) k (c .most) a
+        (declaration-code w j inner Variables (plain ldc 0) (λ c. refl) k (c .most) a told
         (record {
           variables = named-more i k (w - k) (scope .variables) (λ y. declared-is i y ∙ ap (λ x. x + y) (p .laid .0))
               (omega (arith, p .low, c .most));
@@ -150,12 +153,13 @@ module _ (word : Site → ℕ) (workspace : ℕ → ℕ) (s plan : List ℕ)
         })
         (p .laid .1) (p .low) (p .few) (p .room) o)
 
-    pub chan-code : {i n m q k : ℕ} {b : Stmt} → KindAt s stmtKind i Chan n → CountAt s 1 32 n k m → StmtAt s d (withChannels i k sc) m b q
+    pub chan-code : {i n m q k : ℕ} {b : Stmt} → KindAt s stmtKind i Chan n → CountAt s 1 32 n k m
+        → (a : StmtAt s d (withChannels i k sc) m b q) → PlannedStmt s plan a
         → Placed word workspace s plan w j (CHAN i k b) → Written word workspace s plan (suc d) ns w j i q (CHAN i k b)
     unfolding stmtInto countIn code firstInto functionCode operationCode operationInto need
-    chan-code {i} {k = k} t c a p o =
+    chan-code {i} {k = k} t c a told p o =
         rw (t .value, t .is, c .there .value, c .fits)
-        (declaration-code w j inner Channels (operation mint) (λ c. refl) k (c .most) a
+        (declaration-code w j inner Channels (operation mint) (λ c. refl) k (c .most) a told
         (record {
           variables = inner-names (scope .variables);
           channels = named-more i k (w - k) (scope .channels) (λ y. declared-is i y ∙ ap (λ x. x + y) (p .laid .0))

@@ -26,7 +26,7 @@ use Rattle.expressions.specs.Names.{localOf}
 use Rattle.expressions.specs.Exprs.{Wrote, written, codeOf, operatorInto, constantInto, variableInto, inOrder, betweenInto, behindInto}
 use Rattle.expressions.specs.Exprs.{exprInto, lowering, adjustInto, wholeInto}
 use Rattle.statements.proofs.Spelled.{OneAt, ExprAt, constantAt, variableAt, notAt, binaryAt}
-use Rattle.statements.proofs.Planned.{Plans, holds-few}
+use Rattle.statements.proofs.Planned.{PlannedExpr, holds-few}
 use Rattle.statements.proofs.Fills.{filled, fill-then, Room, room-left, room-right, emits-fills, emits-at}
 
 -- each name's word stands at its number; `depth` levels are left
@@ -128,21 +128,21 @@ module _ (word : Site → ℕ) (s : List ℕ) where
   unfolding localOf
   local-is names w a = rw (names .word-is (a .index) _ (a .listed))
 
-  module _ {k : ℕ} {vs : List Site} {ws plan : List ℕ} (names : Named word k vs ws) (planned : Plans s plan) (w : ℕ) where
-    expr-code : {d i n : ℕ} {e : Expr} → ExprAt s vs d i e n → d ≤ 32 → (g : ℕ) → g + temporaries e ≤ wordLimit
+  module _ (plan : List ℕ) {k : ℕ} {vs : List Site} {ws : List ℕ} (names : Named word k vs ws) (w : ℕ) where
+    expr-code : {d i n : ℕ} {e : Expr} (a : ExprAt s vs d i e n) → PlannedExpr s plan a → d ≤ 32 → (g : ℕ) → g + temporaries e ≤ wordLimit
         → Writes (λ c. exprInto d w ws plan s g i c) n (exprCode word w g e)
     unfolding exprInto exprCode constantInto variableInto functionCode temporaries
-    expr-code (constantAt v k t) deep g few h o r =
+    expr-code (constantAt v k t) told deep g few h o r =
         rw (k .value, k .is, t .value) (ap (written _) (emits-at (plain ldc v ∷ []) h o r))
-    expr-code (variableAt {x = y} k x) deep g few h o r =
+    expr-code (variableAt {x = y} k x) told deep g few h o r =
         rw (k .value, k .is, x .there .value, local-is names w x) (ap (written _) (emits-at (plain ldl (local word w y) ∷ []) h o r))
-    expr-code (notAt {e = e} k a) deep g few h o r =
-        rw (k .value, k .is, expr-code a (omega arith) g few h o (room-left h (exprCode word w g e) (plain eqc 0 ∷ []) r))
+    expr-code (notAt {e = e} k a) told deep g few h o r =
+        rw (k .value, k .is, expr-code a (told .1) (omega arith) g few h o (room-left h (exprCode word w g e) (plain eqc 0 ∷ []) r))
         (ap (written _) (emits-fills (plain eqc 0 ∷ []) h (exprCode word w g e) o r))
-    expr-code (binaryAt {d = d} {m = m} {p = p} {q = q} {op = op} {l = le} {r = re} k v a c) deep g few h o r =
+    expr-code (binaryAt {d = d} {m = m} {p = p} {q = q} {op = op} {l = le} {r = re} k v a c) told deep g few h o r =
         let S = sidesCode (order le re) g (λ k. exprCode word w k le) (exprCode word w g re) in
-        let x = planned .tells a (omega arith) in
-        let y = planned .tells c (omega arith) in
+        let x = told .1 .0 .0 in
+        let y = told .1 .1 .0 in
         rw (
           k .value,
           k .is,
@@ -154,21 +154,21 @@ module _ (word : Site → ℕ) (s : List ℕ) where
           y .needs,
           both-end (order le re) g m p q,
           sides-fill (λ g i c. exprInto d w ws plan s g i c) (order le re) m p q g (temporaries le) (temporaries re)
-              (λ k. exprCode word w k le) (exprCode word w g re) few (λ k l. expr-code a (omega arith) k l)
-              (λ l. expr-code c (omega arith) g l) h o (room-left h S (operatorCode op) r),
+              (λ k. exprCode word w k le) (exprCode word w g re) few (λ k l. expr-code a (told .1 .0) (omega arith) k l)
+              (λ l. expr-code c (told .1 .1) (omega arith) g l) h o (room-left h S (operatorCode op) r),
           operator-fills op (h + length S) (sets o h (entriesOf S)) (room-right h S _ r),
         )
         (ap (written _) (fill-then h S (operatorCode op) o))
 
   -- a whole expression, with so many words more below W
-  pub whole-code : {d i n : ℕ} {vs : List Site} {ws plan : List ℕ} {e : Expr} (more : ℕ) → more ≤ wordLimit → Named word (suc d) vs ws
-      → Plans s plan → (w : ℕ) → ExprAt s vs d i e n → (h : ℕ) (o : List ℕ)
+  pub whole-code : (plan : List ℕ) {d i n : ℕ} {vs : List Site} {ws : List ℕ} {e : Expr} (more : ℕ) → more ≤ wordLimit
+      → Named word (suc d) vs ws → (w : ℕ) (a : ExprAt s vs d i e n) → PlannedExpr s plan a → (h : ℕ) (o : List ℕ)
       → let X = wrapped (temporaries e) more w (λ v. exprCode word v 0 e) in
       Room h X → wholeInto d w more ws plan s i (at h o) ≡ written n (filled h X o)
   unfolding wholeInto
-  whole-code {d} {i} {n} {vs} {ws} {plan} {e} more few names planned w a =
+  whole-code plan {d} {i} {n} {vs} {ws} {e} more few names w a told =
       let deep : d ≤ 32 = omega (arith, names .deep) in
       let held = holds-few s a in
-      rw (planned .tells a deep .holds)
+      rw (told .0 .holds)
       (wrapped-fills (λ v c. exprInto d v ws plan s 0 i c) n (temporaries e) more w (λ v. exprCode word v 0 e) (omega arith)
-      (λ v. expr-code names planned v a deep 0 (omega arith)))
+      (λ v. expr-code plan names v a told deep 0 (omega arith)))

@@ -3,11 +3,12 @@
 -- Declares, Flows, Pars and Choices (each shape of statement), StmtCode (all of them), Bounds and TableCode (a whole table). Turns has the
 -- laws that the functions of the cycle cite.
 pub mod Spelled
+pub mod Fills
+pub mod Closes
+pub mod Bounds
 pub mod Planned
 pub mod ExtentIs
 pub mod PlanOf
-pub mod Fills
-pub mod Closes
 pub mod ExprCode
 pub mod Compiles
 pub mod Declares
@@ -15,7 +16,6 @@ pub mod Flows
 pub mod Pars
 pub mod Choices
 pub mod StmtCode
-pub mod Bounds
 pub mod TableCode
 pub mod Turns
 pub mod Scoping

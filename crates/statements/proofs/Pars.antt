@@ -27,12 +27,12 @@ use Rattle.numbers.specs.Kinds.{stmtKind, countIn}
 use Rattle.instruction.specs.Codes.{AJW}
 use Rattle.statements.specs.Kinds.{stmtInto, innerAt}
 use Rattle.statements.proofs.Spelled.{KindAt, CountAt, StmtAt, StmtsAt, noStmtAt, stmtsAt}
-use Rattle.statements.proofs.Planned.{Plans}
+use Rattle.statements.proofs.Planned.{PlannedStmt, PlannedStmts}
 use Rattle.statements.proofs.Fills.{filled, fill-then, fill-before, fill-none, Room, room-left, emits-fills, emits-at}
 use Rattle.statements.proofs.Fills.{gap-fills, areas-fill, no-entries, distance-list}
-use Rattle.statements.proofs.Compiles.{Scoped, inner-scope, scope-depth, Placed, Written, Compiles}
+use Rattle.statements.proofs.Compiles.{Scoped, inner-scope, Placed, Written, Compiles}
 
-module _ (word : Site → ℕ) (workspace : ℕ → ℕ) (s plan : List ℕ) (planned : Plans s plan) where
+module _ (word : Site → ℕ) (workspace : ℕ → ℕ) (s plan : List ℕ) where
   -- the start of a branch: LDC start, LDLP -d, STARTP
   abbrev start : (d j b : ℕ) → List Instruction
   start d j b = distance ldc b (j + 2) ∷ plain ldlp (minus d) ∷ operation startp ∷ []
@@ -50,7 +50,8 @@ module _ (word : Site → ℕ) (workspace : ℕ → ℕ) (s plan : List ℕ) (pl
     branch m j b = code word (w - m) j b ++ plain ldlp m ∷ operation endp ∷ []
 
     -- the starts and the branches, from the second on
-    branches-fill : {k i n : ℕ} {ss : Stmts} (m st j : ℕ) (o : List ℕ) → StmtsAt s d sc k i ss n → LaidBranches workspace (w - m) ss
+    branches-fill : {k i n : ℕ} {ss : Stmts} (m st j : ℕ) (o : List ℕ) (a : StmtsAt s d sc k i ss n) → PlannedStmts s plan a
+        → LaidBranches workspace (w - m) ss
         → m + sumNeed ss ≤ wordLimit → st + length (codeStarts word m st j ss) ≤ j → Room j (codeEnds word w m j ss)
         → branchesInto k (innerAt d plan s) w ns plan i m st (at j o)
         ≡ record {
@@ -58,9 +59,9 @@ module _ (word : Site → ℕ) (workspace : ℕ → ℕ) (s plan : List ℕ) (pl
           here = j + length (codeEnds word w m j ss);
           list = sets (sets o j (entriesOf (codeEnds word w m j ss))) st (entriesOf (codeStarts word m st j ss));
         }
-    unfolding branchesInto codeStarts codeEnds sumNeed functionCode operationCode operationInto
-    branches-fill m st j o noStmtAt laid few l r = rw (no-entries, add-zero j)
-    branches-fill m st j o (stmtsAt {b = b} {ss = ss} a c) laid few l r =
+    unfolding PlannedStmts branchesInto codeStarts codeEnds sumNeed functionCode operationCode operationInto
+    branches-fill m st j o noStmtAt told laid few l r = rw (no-entries, add-zero j)
+    branches-fill m st j o (stmtsAt {b = b} {ss = ss} a c) told laid few l r =
         let S = start m st j in
         let S2 = codeStarts word (m + need b) (st + 3) (j + size b + 2) ss in
         let C = code word (w - m) j b in
@@ -75,14 +76,15 @@ module _ (word : Site → ℕ) (workspace : ℕ → ℕ) (s plan : List ℕ) (pl
         let sum : low (m + need b) ≡ m + need b = mod-eq-of-lt (omega arith) in
         rw (
           start-fills m st j o (omega arith),
-          inner .compiles (w - m) j a (inner-scope scope)
+          inner .compiles (w - m) j a (told .0) (inner-scope scope)
               (record { laid = laid .0; low = omega arith; few = omega arith; room = room-left j C _ (room-left j B B2 r2) })
               (sets o st (entriesOf S)),
           emits-fills (plain ldlp m ∷ operation endp ∷ []) j C (sets o st (entriesOf S)) (room-left j B B2 r2),
-          planned .measures a (scope-depth scope) (omega arith),
+          told .0 .0 (omega arith),
           sum,
           index,
-          branches-fill (m + need b) (st + 3) (j + size b + 2) (sets (sets o st (entriesOf S)) j (entriesOf B)) c (rw lower at (laid .1))
+          branches-fill (m + need b) (st + 3) (j + size b + 2) (sets (sets o st (entriesOf S)) j (entriesOf B)) c (told .1)
+              (rw lower at (laid .1))
               (omega arith) (omega arith) (omega arith),
           ends,
         )
@@ -91,12 +93,13 @@ module _ (word : Site → ℕ) (workspace : ℕ → ℕ) (s plan : List ℕ) (pl
 
   module _ {d : ℕ} {sc : M.Scope} {ns : Names} (w : ℕ) (fits : w ≤ wordLimit) (scope : Scoped word (suc d) sc ns)
       (inner : Compiles word workspace s plan d) where
-    branches-code : {k i m n : ℕ} {b : Stmt} {ss : Stmts} (j : ℕ) (o : List ℕ) → StmtAt s d sc i b m → StmtsAt s d sc k m ss n
-        → howMany ss ≡ k → k ≤ 16 → LaidBranches workspace (w - 2) (stmt b ss) → 2 + sumNeed (stmt b ss) ≤ wordLimit
+    branches-code : {k i m n : ℕ} {b : Stmt} {ss : Stmts} (j : ℕ) (o : List ℕ) (a : StmtAt s d sc i b m) → PlannedStmt s plan a
+        → (c : StmtsAt s d sc k m ss n) → PlannedStmts s plan c → howMany ss ≡ k → k ≤ 16
+        → LaidBranches workspace (w - 2) (stmt b ss) → 2 + sumNeed (stmt b ss) ≤ wordLimit
         → Room j (codePar word w j (stmt b ss))
         → parInto (suc k) (innerAt d plan s) w ns plan i (at j o) ≡ written n (filled j (codePar word w j (stmt b ss)) o)
     unfolding codePar sumNeed headerInto functionCode operationCode operationInto
-    branches-code {k} {i} {m} {n} {b} {ss} j o a c many small laid few r =
+    branches-code {k} {i} {m} {n} {b} {ss} j o a one c others many small laid few r =
         let first = j + 6 + 3 * howMany ss in
         let over = first + size b + 2 + sizeEnds ss in
         let H = plain ajw (minus 2) ∷ [] in
@@ -137,13 +140,13 @@ module _ (word : Site → ℕ) (workspace : ℕ → ℕ) (s plan : List ℕ) (pl
           one-less,
           begin,
           zero-less,
-          inner .compiles (w - 2) first a (inner-scope scope)
+          inner .compiles (w - 2) first a one (inner-scope scope)
               (record { laid = laid .0; low = omega arith; few = omega arith; room = omega arith }) P,
           emits-fills L first C P (omega arith),
-          planned .measures a (scope-depth scope) (omega arith),
+          one .0 (omega arith),
           c-index,
           branches-fill (w - 2) (omega arith) scope inner (need b) (j + 6) (first + size b + 2) (sets P first (entriesOf (C ++ L))) c
-              (laid .1) (omega arith) (omega arith) (omega arith),
+              others (laid .1) (omega arith) (omega arith) (omega arith),
         )
         (let Y = S ++ (C ++ L ++ N) in
         let hn = first + size b + 2 in
@@ -169,10 +172,10 @@ module _ (word : Site → ℕ) (workspace : ℕ → ℕ) (s plan : List ℕ) (pl
     count-is noStmtAt = refl
     count-is (stmtsAt a c) = ap suc (count-is c)
 
-    pub par-code : {i n m q k : ℕ} {ss : Stmts} (j : ℕ) → KindAt s stmtKind i Par n → CountAt s 0 16 n k m → StmtsAt s d sc k m ss q
-        → Placed word workspace s plan w j (PAR i ss) → Written word workspace s plan (suc d) ns w j i q (PAR i ss)
-    unfolding stmtInto countIn code need
-    par-code j t c noStmtAt p o = rw (t .value, t .is, c .there .value) (ap (written _) (sym (fill-none j o)))
-    par-code j t c (stmtsAt a g) p o =
+    pub par-code : {i n m q k : ℕ} {ss : Stmts} (j : ℕ) → KindAt s stmtKind i Par n → CountAt s 0 16 n k m → (a : StmtsAt s d sc k m ss q)
+        → PlannedStmts s plan a → Placed word workspace s plan w j (PAR i ss) → Written word workspace s plan (suc d) ns w j i q (PAR i ss)
+    unfolding PlannedStmts stmtInto countIn code need
+    par-code j t c noStmtAt told p o = rw (t .value, t .is, c .there .value) (ap (written _) (sym (fill-none j o)))
+    par-code j t c (stmtsAt a g) told p o =
         rw (t .value, t .is, c .there .value, c .fits)
-        (branches-code j o a g (count-is g) (omega (arith, c .most)) (p .laid) (p .few) (p .room))
+        (branches-code j o a (told .0) g (told .1) (count-is g) (omega (arith, c .most)) (p .laid) (p .few) (p .room))

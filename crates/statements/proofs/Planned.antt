@@ -1,20 +1,22 @@
--- What a table's plan tells of what the table spells: of each expression the place after it, its registers and its stored values; of each
--- statement the place after it and the words that it needs. And that an expression's entry is so, by a plan that tells of the later ones.
-use Prim.Native.Nat.{ℕ, suc, _^_, _≤_, _<_}
+-- What a plan tells of what a table spells: of an expression the place after it, its registers and its stored values; of a statement the
+-- place after it and the words that it needs; and so of each expression and statement in it.
+use Prim.Native.Nat.{ℕ, _^_, _≤_, _<_}
 use native.Mathlib.Omega.{arith}
 use mathlib.Core.Path.{_≡_, ap}
 use mathlib.Core.List.{List}
 use lib.ListN.{length}
 use Rattle.model.specs.Limits.{wordLimit, tableLimit}
-use Rattle.model.specs.Syntax.{Site, Expr, constant, variable, binary, Stmt}
+use Rattle.model.specs.Syntax.{Site, Expr, constant, variable, binary, Stmt, Stmts, Pairs, Guard, Guards}
 use Rattle.model.specs.Reader.{Scope}
 use Rattle.model.specs.Counts.{order, registers, temporaries, need}
 use Rattle.model.proofs.Tables.Needs.{registers-three, sides-hold}
-use Rattle.numbers.specs.Items.{valueAt}
 use Rattle.numbers.specs.declared.Value.{Value}
 use Rattle.plan.specs.Entries.{nextOf, entry, nextIn, registersIn, storedIn, planAt, sidesEntry, exprEntry}
 use Rattle.plan.specs.Extents.{extended, extentIn}
-use Rattle.statements.proofs.Spelled.{NumeralAt, ExprAt, constantAt, variableAt, notAt, binaryAt, StmtAt}
+use Rattle.statements.proofs.Spelled.{NumeralAt, ExprAt, constantAt, variableAt, notAt, binaryAt, StmtAt, skipAt, stopAt, assignAt}
+use Rattle.statements.proofs.Spelled.{inputAt, outputAt, varAt, chanAt, seqAt, parAt, ifAt, whileAt, altAt, StmtsAt, noStmtAt}
+use Rattle.statements.proofs.Spelled.{stmtsAt, PairsAt, noPairAt, pairAt, GuardAt, inputGuardAt, skipGuardAt, GuardsAt, noGuardAt}
+use Rattle.statements.proofs.Spelled.{guardsAt}
 
 -- an entry tells the place after an expression, its registers and its stored values
 pub record Tells (x n : ℕ) (e : Expr) : Type 0 where
@@ -48,34 +50,72 @@ module _ (s : List ℕ) where
   holds-few (binaryAt {l = l} {r = r} k v a c) =
       omega (arith, sides-hold (order l r) (temporaries l) (temporaries r), holds-few a, holds-few c)
 
-  -- a plan that tells of all that begins at a place or later. A program that is compiled has at most 4,096 words, and so has each statement
-  pub record PlansFrom (lo : ℕ) (plan : List ℕ) : Type 0 where
-    pub long : length plan ≡ 32768
-    pub tells : {vs : List Site} {d i n : ℕ} {e : Expr} → ExprAt s vs d i e n → d ≤ 32 → lo ≤ i → Tells (planAt plan i) n e
-    pub measures : {w : Scope} {d i n : ℕ} {b : Stmt} → StmtAt s d w i b n → d ≤ 32 → need b ≤ wordLimit → lo ≤ i
-        → extentIn plan i ≡ extended n (need b)
+  -- the entry of an expression tells of it
+  pub entry-is : {vs : List Site} {d i n : ℕ} {e : Expr} → length s ≤ tableLimit → ExprAt s vs d i e n → d ≤ 32
+      → Tells (exprEntry d s i) n e
+  unfolding exprEntry sidesEntry registers temporaries
+  entry-is short (constantAt v k t) l =
+      rw (k .value, k .is, next-is t) (entry-tells _ (constant v) (omega (arith, t .inside)) (omega arith))
+  entry-is short (variableAt {x = x} k a) l =
+      rw (k .value, k .is, next-is (a .there)) (entry-tells _ (variable x) (omega (arith, a .there .inside)) (omega arith))
+  entry-is short (notAt k a) l =
+      let t = entry-is short a (omega arith) in
+      rw (k .value, k .is) (record { next = t .next; needs = t .needs; holds = t .holds })
+  entry-is short (binaryAt {op = op} {l = l} {r = r} k v a c) m =
+      let x = entry-is short a (omega arith) in
+      let y = entry-is short c (omega arith) in
+      rw (k .value, k .is, next-is (v .there), x .next, x .needs, x .holds, y .next, y .needs, y .holds)
+      (entry-tells _ (binary op l r) (omega (arith, expr-ends c .1))
+      (omega (arith, sides-hold (order l r) (temporaries l) (temporaries r), holds-few a, holds-few c)))
 
-  module _ (short : length s ≤ tableLimit) where
-    -- the entry of an expression, by a plan that tells of the later ones
-    pub entry-is : {vs : List Site} {d i n : ℕ} {e : Expr} (plan : List ℕ) → PlansFrom (suc i) plan → ExprAt s vs d i e n → d ≤ 32
-        → Tells (exprEntry plan s (valueAt s i)) n e
-    unfolding exprEntry sidesEntry registers temporaries
-    entry-is plan p (constantAt v k t) l =
-        rw (k .value, k .is, next-is t) (entry-tells _ (constant v) (omega (arith, t .inside)) (omega arith))
-    entry-is plan p (variableAt {x = x} k a) l =
-        rw (k .value, k .is, next-is (a .there)) (entry-tells _ (variable x) (omega (arith, a .there .inside)) (omega arith))
-    entry-is plan p (notAt k a) l =
-        let t = p .tells a (omega arith) (k .ahead) in
-        rw (k .value, k .is) (record { next = t .next; needs = t .needs; holds = t .holds })
-    entry-is plan p (binaryAt {op = op} {l = l} {r = r} k v a c) m =
-        let x = p .tells a (omega arith) (omega (arith, k .ahead, v .there .ahead)) in
-        let y = p .tells c (omega arith) (omega (arith, k .ahead, v .there .ahead, expr-ends a .0)) in
-        rw (k .value, k .is, next-is (v .there), x .next, x .needs, x .holds, y .next, y .needs, y .holds)
-        (entry-tells _ (binary op l r) (omega (arith, expr-ends c .1))
-        (omega (arith, sides-hold (order l r) (temporaries l) (temporaries r), holds-few a, holds-few c)))
+  module _ (plan : List ℕ) where
+    -- an expression's own entry tells of it, and so do those of the expressions in it
+    abbrev pub ToldExpr : {vs : List Site} {d i n : ℕ} {e : Expr} → ExprAt s vs d i e n → Type 0
+    ToldExpr {i = i} {n = n} {e = e} a = Tells (planAt plan i) n e
 
--- a plan that tells of all of a table
-pub record Plans (s plan : List ℕ) : Type 0 where
-  pub tells : {vs : List Site} {d i n : ℕ} {e : Expr} → ExprAt s vs d i e n → d ≤ 32 → Tells (planAt plan i) n e
-  pub measures : {w : Scope} {d i n : ℕ} {b : Stmt} → StmtAt s d w i b n → d ≤ 32 → need b ≤ wordLimit
-      → extentIn plan i ≡ extended n (need b)
+    abbrev pub InsideExpr : {vs : List Site} {d i n : ℕ} {e : Expr} → ExprAt s vs d i e n → Type 0
+    InsideExpr (constantAt v k t) = Unit {0}
+    InsideExpr (variableAt k x) = Unit {0}
+    InsideExpr (notAt k a) = ToldExpr a × InsideExpr a
+    InsideExpr (binaryAt k v a c) = (ToldExpr a × InsideExpr a) × (ToldExpr c × InsideExpr c)
+
+    abbrev pub PlannedExpr : {vs : List Site} {d i n : ℕ} {e : Expr} → ExprAt s vs d i e n → Type 0
+    PlannedExpr a = ToldExpr a × InsideExpr a
+
+    abbrev pub PlannedGuard : {w : Scope} {d i n : ℕ} {g : Guard} → GuardAt s d w i g n → Type 0
+    PlannedGuard (inputGuardAt k e c x) = PlannedExpr e
+    PlannedGuard (skipGuardAt k e) = PlannedExpr e
+
+    -- a statement's own entry tells of it, where it has at most 4,096 words, and so do those of all in it
+    abbrev pub ToldStmt : {w : Scope} {d i n : ℕ} {b : Stmt} → StmtAt s d w i b n → Type 0
+    ToldStmt {i = i} {n = n} {b = b} a = need b ≤ wordLimit → extentIn plan i ≡ extended n (need b)
+
+    unfoldable mutual
+      pub InsideStmt : {w : Scope} {d i n : ℕ} {b : Stmt} → StmtAt s d w i b n → Type 0
+      InsideStmt (skipAt k) = Unit {0}
+      InsideStmt (stopAt k) = Unit {0}
+      InsideStmt (assignAt k x e) = PlannedExpr e
+      InsideStmt (inputAt k c x) = Unit {0}
+      InsideStmt (outputAt k c e) = PlannedExpr e
+      InsideStmt (varAt k c a) = ToldStmt a × InsideStmt a
+      InsideStmt (chanAt k c a) = ToldStmt a × InsideStmt a
+      InsideStmt (seqAt k c a) = PlannedStmts a
+      InsideStmt (parAt k c a) = PlannedStmts a
+      InsideStmt (ifAt k c a) = PlannedPairs a
+      InsideStmt (whileAt k e a) = PlannedExpr e × (ToldStmt a × InsideStmt a)
+      InsideStmt (altAt k c a) = PlannedGuards a
+
+      pub PlannedStmts : {w : Scope} {d k i n : ℕ} {ss : Stmts} → StmtsAt s d w k i ss n → Type 0
+      PlannedStmts noStmtAt = Unit {0}
+      PlannedStmts (stmtsAt a c) = (ToldStmt a × InsideStmt a) × PlannedStmts c
+
+      pub PlannedPairs : {w : Scope} {d k i n : ℕ} {ps : Pairs} → PairsAt s d w k i ps n → Type 0
+      PlannedPairs noPairAt = Unit {0}
+      PlannedPairs (pairAt e a c) = PlannedExpr e × (ToldStmt a × InsideStmt a) × PlannedPairs c
+
+      pub PlannedGuards : {w : Scope} {d k i n : ℕ} {gs : Guards} → GuardsAt s d w k i gs n → Type 0
+      PlannedGuards noGuardAt = Unit {0}
+      PlannedGuards (guardsAt g a h) = PlannedGuard g × (ToldStmt a × InsideStmt a) × PlannedGuards h
+
+    abbrev pub PlannedStmt : {w : Scope} {d i n : ℕ} {b : Stmt} → StmtAt s d w i b n → Type 0
+    PlannedStmt a = ToldStmt a × InsideStmt a

@@ -6,9 +6,9 @@ use mathlib.Core.Path.{_≡_, refl, sym, _∙_}
 use mathlib.Core.Logic.{⊎-elim}
 use mathlib.Core.List.{List, _++_}
 use mathlib.Core.Option.{some}
-use lib.ListN.{length, length-append, getElem?}
+use lib.ListN.{length, length-append, length-replicate, replicate, getElem?}
 use lib.Seq.{sets}
-use Rattle.model.specs.Limits.{wordLimit}
+use Rattle.model.specs.Limits.{wordLimit, tableLimit}
 use Rattle.model.specs.Word.{low}
 use Rattle.model.specs.Syntax.{inputOf, outputOf, Program}
 use Rattle.model.specs.Reader.{Read, parsed, numbered, readProgram, program, refused, readTable}
@@ -28,7 +28,7 @@ use Rattle.model.proofs.Quiet.Setting.{getElem-inside as inside}
 use Rattle.table.proofs.SameItems.{Bytes}
 use Rattle.table.proofs.SameSimple.{numbered-at, lookup-append, length-numbered}
 use Rattle.assembler.specs.Entries.{entriesOf}
-use Rattle.plan.specs.Makes.{planOf}
+use Rattle.plan.specs.Extents.{tablePlan, planOf}
 use Rattle.expressions.specs.Emits.{at}
 use Rattle.expressions.specs.Names.{wordsFrom, declaring}
 use Rattle.expressions.specs.Exprs.{written}
@@ -38,7 +38,7 @@ use Rattle.statements.specs.Tables.{noNames, tableInto}
 use Rattle.statements.proofs.Spelled.{CountAt, StmtAt, Gives, parses, and-then, count, stmt-spelled}
 use Rattle.statements.proofs.Fills.{filled, Room}
 use Rattle.statements.proofs.ExprCode.{Named}
-use Rattle.statements.proofs.Planned.{next-is}
+use Rattle.statements.proofs.Planned.{next-is, PlannedStmt}
 use Rattle.statements.proofs.PlanOf.{plan-of}
 use Rattle.statements.proofs.Declares.{from-is, from-long}
 use Rattle.statements.proofs.StmtCode.{compiles-all}
@@ -108,6 +108,14 @@ unfolding scheme
 scheme-room s p whole q =
     omega (arith, code-length (wordOf p) (base p) 0 (p .body), stmt-bound s (q .body), whole .short)
 
+-- the plan tells of the program's statement
+plan-told : (s : List ℕ) (p : Program) → ReadWhole s p → (q : ProgramAt s p (length s)) → base p ≤ wordLimit
+    → PlannedStmt s (planOf s) (q .body)
+unfolding tablePlan
+plan-told s p whole q few =
+    rw (next-is s (q .inputs .there), next-is s (q .outputs .there))
+    (plan-of s (whole .short) (replicate tableLimit 0) (q .body) (omega arith) (length-replicate {A = ℕ} tableLimit 0) few)
+
 -- the statement's code
 body-code : (s : List ℕ) (p : Program) → ReadWhole s p → (q : ProgramAt s p (length s)) → base p ≤ wordLimit → (o : List ℕ)
     → stmtInto 32 (base p) (declaring Channels (p .inputs + p .outputs) (base p) noNames) (planOf s) s (q .third) (at 0 o)
@@ -115,8 +123,9 @@ body-code : (s : List ℕ) (p : Program) → ReadWhole s p → (q : ProgramAt s 
 unfolding scheme wordOf
 body-code s p whole q few o =
     let workspace : ℕ → ℕ = λ x. workspaceOf x (layout (base p) (p .body)) in
-    compiles-all (wordOf p) workspace s (planOf s) (plan-of s (whole .short)) (λ x j. refl) 32
+    compiles-all (wordOf p) workspace s (planOf s) (λ x j. refl) 32
     .compiles {ns = declaring Channels (p .inputs + p .outputs) (base p) noNames} (base p) 0 (q .body)
+    (plan-told s p whole q few)
     (record {
       variables = record { word-is = λ k x e. never cc; long = refl; deep = omega arith };
       channels = outside-named p (whole .well .0) (whole .well .1) few;

@@ -13,7 +13,7 @@ use Rattle.model.specs.Scheme.{scheme}
 use Rattle.model.specs.declared.Facts.{Facts}
 use Rattle.model.specs.declared.Reading.the-variants.{Accepted}
 use Rattle.assembler.specs.Entries.{entriesOf}
-use Rattle.plan.specs.Makes.{planOf}
+use Rattle.plan.specs.Extents.{planOf}
 use Rattle.plan.specs.Entries.{nextOf}
 use Rattle.expressions.specs.Emits.{Code, at}
 use Rattle.expressions.specs.Names.{Names, declaring}

@@ -21,7 +21,7 @@ pub struct Guard {
 // The condition, and for a guard that waits LDLP channel, REV. The scope is the guard's, one word below the ALT's.
 pub fn gen_guard(
     table: &[u8],
-    plan: &[u32; 32768],
+    plan: &[u32; 16384],
     cursor: Cursor,
     scope: Scope,
     words: &[u32; 2112],
@@ -79,7 +79,7 @@ fn either(first: bool, one: u32, other: u32) -> u32
 // The enabling of so many guards: condition, LDLP channel, REV, ENBC, or condition, ENBS. The answer is the index after it.
 pub fn gen_enable(
     table: &[u8],
-    plan: &[u32; 32768],
+    plan: &[u32; 16384],
     cursor: Cursor,
     count: u32,
     scope: Scope,

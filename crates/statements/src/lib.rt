@@ -9,7 +9,7 @@ use numbers::kinds::Declared;
 // The list of an accepted table. The answer is its length; entries past the list's end are left out.
 pub fn generate(
     table: &[u8],
-    plan: &[u32; 32768],
+    plan: &[u32; 16384],
     facts: model::Facts,
     list: &mut [u64; 16384],
 ) -> u32

@@ -82,7 +82,7 @@ fn lowered(scope: Scope, n: u32) -> Scope
 // VAR and CHAN: AJW -n, the words, body, AJW n.
 fn declare(
     table: &[u8],
-    plan: &[u32; 32768],
+    plan: &[u32; 16384],
     cursor: Cursor,
     declared: Declared,
     scope: Scope,
@@ -118,7 +118,7 @@ fn declare(
 // SEQ: so many parts.
 fn seq(
     table: &[u8],
-    plan: &[u32; 32768],
+    plan: &[u32; 16384],
     cursor: Cursor,
     count: u32,
     scope: Scope,
@@ -142,7 +142,7 @@ fn seq(
 // Condition, CJ next, statement, and an index left for a J, behind which is the next. The answer has that index.
 fn pair(
     table: &[u8],
-    plan: &[u32; 32768],
+    plan: &[u32; 16384],
     cursor: Cursor,
     scope: Scope,
     words: &mut [u32; 2112],
@@ -180,7 +180,7 @@ fn close(ends: &[u32; 32], count: u32, over: u32, list: &mut [u64; 16384])
 // IF, for each pair: condition, CJ next, statement, J end; the last pair too. Behind the last pair stands a STOPP, then comes the end.
 fn pairs(
     table: &[u8],
-    plan: &[u32; 32768],
+    plan: &[u32; 16384],
     cursor: Cursor,
     count: u32,
     scope: Scope,
@@ -216,7 +216,7 @@ fn pairs(
 // WHILE: condition, CJ end, body, J start.
 fn repetition(
     table: &[u8],
-    plan: &[u32; 32768],
+    plan: &[u32; 16384],
     cursor: Cursor,
     scope: Scope,
     words: &mut [u32; 2112],
@@ -259,7 +259,7 @@ fn put_start(list: &mut [u64; 16384], here: u32, d: u32, start: u32) -> u32
 // A branch d words below: its code, LDLP d, ENDP.
 fn branch(
     table: &[u8],
-    plan: &[u32; 32768],
+    plan: &[u32; 16384],
     cursor: Cursor,
     d: u32,
     scope: Scope,
@@ -284,7 +284,7 @@ fn branch(
 // The branches of a PAR from the second on, each with its start.
 fn branches(
     table: &[u8],
-    plan: &[u32; 32768],
+    plan: &[u32; 16384],
     rest: Rest,
     scope: Scope,
     words: &mut [u32; 2112],
@@ -324,7 +324,7 @@ fn put_header(list: &mut [u64; 16384], here: u32, count: u32) -> u32
 // PAR with branches: AJW -2; LDC end, LDPI, STL 0; LDC count, STL 1; the starts; the branches; AJW 2. PAR of none: no code.
 fn par(
     table: &[u8],
-    plan: &[u32; 32768],
+    plan: &[u32; 16384],
     cursor: Cursor,
     count: u32,
     scope: Scope,
@@ -396,7 +396,7 @@ fn put_input(
 // A guard's disabling, and its branch: AJW 1, the input if any, statement. The answer has the index left for the branch's J.
 fn choice(
     table: &[u8],
-    plan: &[u32; 32768],
+    plan: &[u32; 16384],
     turn: Turn,
     scope: Scope,
     words: &mut [u32; 2112],
@@ -427,7 +427,7 @@ fn choice(
 // The disabling of so many guards, and their branches: each ends with J end.
 fn choices(
     table: &[u8],
-    plan: &[u32; 32768],
+    plan: &[u32; 16384],
     first: Turn,
     count: u32,
     scope: Scope,
@@ -465,7 +465,7 @@ fn choices(
 // each guard.
 fn alt(
     table: &[u8],
-    plan: &[u32; 32768],
+    plan: &[u32; 16384],
     cursor: Cursor,
     count: u32,
     scope: Scope,
@@ -504,7 +504,7 @@ fn alt(
 // The parts of a statement: pairs with a count are an IF's, a pair without is a WHILE's.
 fn parts(
     table: &[u8],
-    plan: &[u32; 32768],
+    plan: &[u32; 16384],
     cursor: Cursor,
     form: Form,
     scope: Scope,
@@ -538,7 +538,7 @@ fn parts(
 // What follows a kind; the statements inside have the scope's depth left.
 fn inside(
     table: &[u8],
-    plan: &[u32; 32768],
+    plan: &[u32; 16384],
     cursor: Cursor,
     kind: StmtKind,
     scope: Scope,
@@ -574,7 +574,7 @@ fn inside(
 // A statement; the depth left falls at each call.
 pub fn statement(
     table: &[u8],
-    plan: &[u32; 32768],
+    plan: &[u32; 16384],
     cursor: Cursor,
     scope: Scope,
     words: &mut [u32; 2112],

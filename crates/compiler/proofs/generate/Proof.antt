@@ -2,10 +2,8 @@
 use borrow.Author.Needs.{needs}
 use Rattle.compiler.proofs.generate.Statement.{statement}
 use Rattle.compiler.proofs.generate.Tie as tie
-use Rattle.plan.specs.Makes.{planOf}
 
 returns : tie.Need-returns
-unfolding planOf
 returns c p is answer few =
     let mp = c .before .before .before in
     c .generate .ensures p is answer (mp .make-plan .ensures) few

@@ -6,7 +6,7 @@ use Rattle.plan.proofs.extent.extent_in.Tie as tie
 
 returns : tie.Need-returns
 unfolding extentIn
-returns c = rw (← c .statement-at .ensures)
+returns c = rw (← c .entry-at .ensures)
 
 pub extent-in-spec : {M : Type 1} → statement M
 extent-in-spec =
