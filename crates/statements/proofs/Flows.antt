@@ -189,7 +189,7 @@ module _ (word : Site → ℕ) (workspace : ℕ → ℕ) (s plan : List ℕ) whe
         let long : length (P ++ Z) ≡ sizePairs ps = rw all at (pairs-length word w j over ps) in
         let room : Room j (P ++ Z) = rw all at (p .room) in
         let end : j + length P + 1 ≡ over = omega (arith, length-append P Z) in
-        let f = pairs-fill 0 j over noEnds o a told (p .laid) (omega (arith, p .few)) 
+        let f = pairs-fill 0 j over noEnds o a told (p .laid) (omega (arith, p .few))
         (omega (arith, c .most, length-replicate {A = ℕ} 32 0)) (room-left j P Z room) in
         rw (t .value, t .is, c .there .value, c .fits, f .next, f .here, stopp-fills (j + length P) _ (room-right j P Z room), end)
         (ap (λ l. record { next = q; here = over; list = l }) (close-is k _ over _ ∙ rw (f .here) at (f .closes Z)) ∙ rw (all, long) refl)

@@ -231,9 +231,10 @@ module _ (s : List ℕ) where
     all-stable noStmtAt f h = tt
     all-stable (stmtsAt a c) f h =
         let x = stmt-ends a in
-        let y = all-end c (x .1) in
-        (stmt-kept a (narrow _ _ f (omega arith) (omega arith)) (λ g x. parts-stable a g x) (h .0),
-        all-stable c (narrow _ _ f (omega arith) (omega arith)) (h .1))
+        let y = all-end c (x .1) in (
+          stmt-kept a (narrow _ _ f (omega arith) (omega arith)) (λ g x. parts-stable a g x) (h .0),
+          all-stable c (narrow _ _ f (omega arith) (omega arith)) (h .1),
+        )
 
     pairs-stable : {w : Scope} {d k i n : ℕ} {ps : Pairs} {p q : List ℕ} (a : PairsAt s d w k i ps n) → Same i n p q → PlannedPairs s p a
         → PlannedPairs s q a
