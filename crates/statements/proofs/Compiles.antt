@@ -37,10 +37,6 @@ inner-names h = record { word-is = h .word-is; long = h .long; deep = omega (ari
 pub inner-scope : {word : Site → ℕ} {d : ℕ} {sc : M.Scope} {ns : Names} → Scoped word (suc d) sc ns → Scoped word d sc ns
 inner-scope h = record { variables = inner-names (h .variables); channels = inner-names (h .channels) }
 
--- inside a statement at most 32 levels are left
-pub scope-depth : {word : Site → ℕ} {d : ℕ} {sc : M.Scope} {ns : Names} → Scoped word (suc d) sc ns → d ≤ 32
-scope-depth h = omega (arith, h .variables .deep)
-
 -- STOPP: a STOP, and what stands behind an IF's last pair
 pub stopp-fills : (h : ℕ) (o : List ℕ) → Room h (operation I.stopp ∷ []) → operationInto STOPP (at h o) ≡ filled h
     (operation I.stopp ∷ []) o

@@ -1,5 +1,5 @@
 -- Expressions as the reader answers them, by places of the table.
-use Prim.Native.Nat.{ℕ, zero, suc, _≤_, _<_}
+use Prim.Native.Nat.{ℕ, zero, suc, _<_}
 use mathlib.Core.List.{List}
 use Rattle.model.specs.Counts.{sidesNeed, orderOf, sidesHold}
 use Rattle.numbers.specs.Items.{betweenAt, nameAt, deepAt, withItem}
@@ -80,7 +80,7 @@ exprUses (suc d) vs s at l =
 unfoldable pub sidesUse : (depth variables : ℕ) → List ℕ → (at : ℕ) → List ℕ → List ℕ
 sidesUse d vs s at l = operatedUse (λ i. exprAt d vs s i) (λ i j. exprUses d vs s i j) s at l
 
--- the registers are at most 3, and the stored values fewer than the depth left
+-- the stored values are fewer than the depth left
 abbrev pub Within : ExprRead → ℕ → Type 0
-Within (Expr e) d = (e .registers ≤ 3) × (e .stored < d)
+Within (Expr e) d = e .stored < d
 Within (NoExpr k p) d = Unit {0}

@@ -30,7 +30,7 @@ use Rattle.numbers.specs.declared.Item.the-variants.{Item as Found, Refused}
 use Rattle.numbers.specs.declared.NumberRead.{NumberRead}
 use Rattle.numbers.specs.declared.NumberRead.the-variants.{Number, Bad}
 use Rattle.model.specs.Counts.{orderOf}
-use Rattle.model.proofs.Tables.Needs.{sides-three, sides-hold}
+use Rattle.model.proofs.Tables.Needs.{sides-hold}
 use Rattle.table.specs.declared.expr.Term.{Term}
 use Rattle.table.specs.declared.expr.ExprRead.{ExprRead}
 use Rattle.table.specs.declared.expr.ExprRead.the-variants.{Expr, Refused as NoExpr}
@@ -55,23 +55,23 @@ unfolding exprAt sidesAt exprUses sidesUse
 turn zero vs s at l p = absurd (p refl)
 turn (suc d) vs s at l p = let e : suc d - 1 ≡ d = omega arith in (rw e, rw e)
 
--- what is counted of a refusal, a leaf, an expression one level in and an operator
+-- the stored values of a refusal, a leaf, an expression one level in and an operator
 deep-within : (at d : ℕ) (x : NumberRead) → Within (withItem NoExpr (withNumber (Refused 2 at) x (λ v n. Refused 4 at)) (λ v n. single n)) d
 deep-within at d (Number v n) = tt
 deep-within at d Bad = tt
 
 item-within : (d : ℕ) (i : Item) → (d ≡ 0 → ⊥) → Within (withItem NoExpr i (λ v n. single n)) d
-item-within d (Found v n) p = (omega arith, omega arith)
+item-within d (Found v n) p = omega arith
 item-within d (Refused k a) p = tt
 
 within-more : (d : ℕ) (x : ExprRead) → Within x (d - 1) → Within x d
-within-more d (Expr e) p = (p .0, omega (arith, p .1))
+within-more d (Expr e) p = omega arith
 within-more d (NoExpr k a) p = tt
 
 joined-within : (d : ℕ) (l r : Term) → Within (Expr l) d → Within (Expr r) d → Within (joined l r) (d + 1)
 joined-within d l r p q =
     let o = orderOf (l .registers) (r .registers) in
-    (sides-three (l .registers) (r .registers), omega (arith, p .1, q .1, sides-hold o (l .stored) (r .stored)))
+    omega (arith, sides-hold o (l .stored) (r .stored))
 
 abbrev μ-read-expr : Measures 2 read-expr-kinds.ps ℕ
 μ-read-expr κs a = 2 * a .1 .1 .0
@@ -209,7 +209,7 @@ read-sides-read-expr-requires-2 : (t : ℕ) → read-sides-lts.Need-read-expr-re
 read-sides-read-expr-requires-2 t c κs =
     (omega (arith, c .before .before .before .before .before .before .before .before .before .before .before .pre .0), omega arith)
 
--- the operator that was read, and what is counted of the left side
+-- the operator that was read, and the stored values of the left side
 operator-is : {t : ℕ} (c : read-sides-lts.After-operator (read-sides-claims t) (read-sides-at t) read-sides.Post)
     → let a = c .before .before .before .before .args in
     betweenAt 0 lastOperator (a .table .now) (a .at) ≡ Found (c .operator .given .0 .0) (c .operator .given .0 .1 .0)
@@ -221,7 +221,7 @@ left-within c = rw (c .left .given .1) at (c .before .before .read-expr .ensures
 
 read-sides-join-requires : (t : ℕ) → read-sides-lts.Need-join-requires (read-sides-claims t) (read-sides-at t) read-sides.Post
 read-sides-join-requires t c κs =
-    omega (arith, left-within (c .before .before .before .before .before .before) .1)
+    omega (arith, left-within (c .before .before .before .before .before .before))
 
 read-sides-returns : (t : ℕ) → read-sides-lts.Need-returns (read-sides-claims t) (read-sides-at t) read-sides.Post
 unfolding sidesAt sidesUse
