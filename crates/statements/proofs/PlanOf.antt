@@ -13,7 +13,7 @@ use Rattle.model.specs.Syntax.{Guards}
 use Rattle.model.specs.Reader.{Scope}
 use Rattle.model.specs.Counts.{temporaries, guardWords, need, mostNeed, sumNeed, pairNeed, guardNeed}
 use Rattle.model.proofs.Cases.{by-bool}
-use Rattle.plan.specs.Entries.{planAt, putAt, exprEntry, exprPlan}
+use Rattle.plan.specs.Entries.{nextOf, nextIn, planAt, putAt, exprEntry, exprPlan, sidesPlanAt}
 use Rattle.plan.specs.Extents.{extended, extentEntry, extentIn, simplePlan, headExtent, headPlan, partsPlan, stmtExtent, stmtPlan}
 use Rattle.numbers.specs.Kinds.{countIn}
 use Rattle.numbers.specs.declared.Value.{Value}
@@ -22,7 +22,7 @@ use Rattle.numbers.specs.declared.kinds.Head.the-variants.{Nothing, Condition, 
 use Rattle.statements.proofs.Spelled.{ExprAt, constantAt, variableAt, notAt, binaryAt, GuardAt, inputGuardAt, skipGuardAt, StmtAt}
 use Rattle.statements.proofs.Spelled.{skipAt, stopAt, assignAt, inputAt, outputAt, varAt, chanAt, seqAt, parAt, ifAt, whileAt, altAt}
 use Rattle.statements.proofs.Spelled.{StmtsAt, noStmtAt, stmtsAt, PairsAt, noPairAt, pairAt, GuardsAt, noGuardAt, guardsAt}
-use Rattle.statements.proofs.Planned.{Tells, next-is, expr-ends, entry-is, InsideExpr, PlannedExpr, PlannedGuard, InsideStmt}
+use Rattle.statements.proofs.Planned.{next-is, expr-ends, entry-is, InsideExpr, PlannedExpr, PlannedGuard, InsideStmt}
 use Rattle.statements.proofs.Planned.{PlannedStmts, PlannedPairs, PlannedGuards, PlannedStmt}
 use Rattle.statements.proofs.ExtentIs.{no-head, condition-head, guard-head, extent-is}
 
@@ -36,271 +36,149 @@ entry-gives n m l k =
     let words : x % 2 ^ 16 ≡ m = omega arith in
     rw (place, words)
 
--- a plan has what another has, but for the places from lo up to hi
-record Changed (lo hi : ℕ) (p q : List ℕ) : Type 0 where
+-- What is measured of a part, from lo up to hi: only there the plan is changed, and every plan that has the same there tells of the part.
+record Leaves (s : List ℕ) (lo hi : ℕ) (p q : List ℕ) (P : List ℕ → Type 0) : Type 0 where
+  forward : lo ≤ hi
+  inside : hi ≤ length s
   long : length q ≡ length p
   others : (j : ℕ) → (lo ≤ j → j < hi → ⊥) → planAt q j ≡ planAt p j
-
-unchanged : (lo hi : ℕ) (p : List ℕ) → Changed lo hi p p
-unchanged lo hi p = record { long = refl; others = λ j out. refl }
-
-changed-then : {a b c d : ℕ} {p q r : List ℕ} (lo hi : ℕ) → Changed a b p q → Changed c d q r → lo ≤ a → b ≤ hi → lo ≤ c → d ≤ hi
-    → Changed lo hi p r
-changed-then lo hi f g l1 l2 l3 l4 = record {
-  long = g .long ∙ f .long;
-  others = λ j out. g .others j (λ x y. out (omega arith) (omega arith)) ∙ f .others j (λ x y. out (omega arith) (omega arith));
-}
-
-wider : {a b : ℕ} {p q : List ℕ} (lo hi : ℕ) → Changed a b p q → lo ≤ a → b ≤ hi → Changed lo hi p q
-wider lo hi f l m = record { long = f .long; others = λ j out. f .others j (λ x y. out (omega arith) (omega arith)) }
-
-put-changed : (i n x : ℕ) (p : List ℕ) → i < n → Changed i n p (putAt i x p)
-unfolding putAt planAt
-put-changed i n x p l =
-    by-bool (ltb i tableLimit)
-    (λ e. rw e (record {
-      long = length-set p i x;
-      others = λ j out. rw (getD-set-other p i j x 0 (λ is. out (omega arith) (omega arith))) refl;
-    }))
-    (λ e. rw e (unchanged i n p))
+  tells : (r : List ℕ) → ((j : ℕ) → lo ≤ j → j < hi → planAt r j ≡ planAt q j) → P r
 
 put-there : (i x : ℕ) (p : List ℕ) → i < tableLimit → length p ≡ tableLimit → planAt (putAt i x p) i ≡ x
 unfolding putAt planAt
 put-there i x p l long = rw (lt-ltb i tableLimit l) (getD-set-same p i x 0 (omega arith))
 
--- two plans have the same from lo on, up to hi
-record Same (lo hi : ℕ) (p q : List ℕ) : Type 0 where
-  same : (j : ℕ) → lo ≤ j → j < hi → planAt q j ≡ planAt p j
+put-other : (i j x : ℕ) (p : List ℕ) → (j ≡ i → ⊥) → planAt (putAt i x p) j ≡ planAt p j
+unfolding putAt planAt
+put-other i j x p out =
+    by-bool (ltb i tableLimit) (λ e. rw (e, getD-set-other p i j x 0 out)) (λ e. rw e)
 
-narrow : {lo hi : ℕ} {p q : List ℕ} (a b : ℕ) → Same lo hi p q → lo ≤ a → b ≤ hi → Same a b p q
-narrow a b h l m = record { same = λ j x y. h .same j (omega arith) (omega arith) }
-
--- what was written for one part, seen from another
-aside : {a b : ℕ} {p q : List ℕ} (lo hi : ℕ) → Changed a b p q → ((j : ℕ) → lo ≤ j → j < hi → a ≤ j → j < b → ⊥) → Same lo hi p q
-aside lo hi f out = record { same = λ j x y. f .others j (out j x y) }
-
-told : {x y n : ℕ} {e : Expr} → y ≡ x → Tells x n e → Tells y n e
-told is t = rw is (record { next = t .next; needs = t .needs; holds = t .holds })
+put-long : (i x : ℕ) (p : List ℕ) → length (putAt i x p) ≡ length p
+unfolding putAt
+put-long i x p = by-bool (ltb i tableLimit) (λ e. rw e (length-set p i x)) (λ e. rw e)
 
 module _ (s : List ℕ) where
-  inside-stable : {vs : List Site} {d i n : ℕ} {e : Expr} {p q : List ℕ} (a : ExprAt s vs d i e n) → Same (suc i) n p q → InsideExpr s p a
-      → InsideExpr s q a
-  inside-stable (constantAt v k t) f h = tt
-  inside-stable (variableAt k x) f h = tt
-  inside-stable (notAt k a) f h =
-      let ends = expr-ends s a in
-      (told (f .same _ (k .ahead) (ends .0)) (h .0), inside-stable a (narrow _ _ f (omega (arith, k .ahead)) (omega arith)) (h .1))
-  inside-stable (binaryAt k v a c) f h =
-      let ends = expr-ends s a in
-      let last = expr-ends s c in
-      let first = k .ahead in
-      let second = v .there .ahead in (
-        (told (f .same _ (omega arith) (omega arith)) (h .0 .0), inside-stable a (narrow _ _ f (omega arith) (omega arith)) (h .0 .1)),
-        (told (f .same _ (omega arith) (omega arith)) (h .1 .0), inside-stable c (narrow _ _ f (omega arith) (omega arith)) (h .1 .1)),
-      )
+  nothing-in : (lo hi : ℕ) (p : List ℕ) → lo ≤ hi → hi ≤ length s → Leaves s lo hi p p (λ r. Unit {0})
+  nothing-in lo hi p l m = record { forward = l; inside = m; long = refl; others = λ j out. refl; tells = λ r same. tt }
 
-  expr-stable : {vs : List Site} {d i n : ℕ} {e : Expr} {p q : List ℕ} (a : ExprAt s vs d i e n) → Same i n p q → PlannedExpr s p a
-      → PlannedExpr s q a
-  expr-stable a f h = (
-    told (f .same _ (omega arith) (expr-ends s a .0)) (h .0),
-    inside-stable a (narrow _ _ f (omega arith) (omega arith)) (h .1),
-  )
+  -- the same of a longer stretch; of a plan that is equal, and of what follows from what is told
+  wider : {a b : ℕ} {p q : List ℕ} {P : List ℕ → Type 0} (lo hi : ℕ) → Leaves s a b p q P → lo ≤ a → b ≤ hi → hi ≤ length s
+      → Leaves s lo hi p q P
+  wider lo hi f l m in-table = record {
+    forward = omega (arith, f .forward);
+    inside = in-table;
+    long = f .long;
+    others = λ j out. f .others j (λ x y. out (omega arith) (omega arith));
+    tells = λ r same. f .tells r (λ j x y. same j (omega arith) (omega arith));
+  }
+
+  follows : {lo hi : ℕ} {p q : List ℕ} {P Q : List ℕ → Type 0} (r : List ℕ) → r ≡ q → Leaves s lo hi p q P → ((x : List ℕ) → P x → Q x)
+      → Leaves s lo hi p r Q
+  follows {lo} {hi} {p} {q} {P} {Q} r is f so = subst (λ x. Leaves s lo hi p x Q) (sym is) (record {
+    forward = f .forward;
+    inside = f .inside;
+    long = f .long;
+    others = λ j out. f .others j out;
+    tells = λ x same. so x (f .tells x same);
+  })
+
+  -- one part, and one behind it
+  behind : {a b c d : ℕ} {p q r : List ℕ} {P Q : List ℕ → Type 0} → Leaves s a b p q P → Leaves s c d q r Q → b ≤ c
+      → Leaves s a d p r (λ x. P x × Q x)
+  behind f g l =
+      let x = f .forward in
+      let y = g .forward in
+      record {
+        forward = omega arith;
+        inside = g .inside;
+        long = g .long ∙ f .long;
+        others = λ j out. g .others j (λ u v. out (omega arith) (omega arith)) ∙ f .others j (λ u v. out (omega arith) (omega arith));
+        tells = λ r same. (
+          f .tells r (λ j u v. same j (omega arith) (omega arith) ∙ g .others j (λ m n. omega arith)),
+          g .tells r (λ j u v. same j (omega arith) (omega arith)),
+        );
+      }
 
   module _ (short : length s ≤ tableLimit) where
-    -- the own entry of an expression, behind those in it
-    expr-own : {vs : List Site} {d i n : ℕ} {e : Expr} {p q : List ℕ} (a : ExprAt s vs d i e n) → d ≤ 32 → length p ≡ tableLimit
-        → Changed (suc i) n p q → InsideExpr s q a
-        → Changed i n p (putAt i (exprEntry d s i) q) × PlannedExpr s (putAt i (exprEntry d s i) q) a
-    expr-own {d = d} {i = i} {n = n} {q = q} a deep long f h =
-        let ends = expr-ends s a in
-        let x = exprEntry d s i in
-        let put = put-changed i (suc i) x q (omega arith) in (
-          changed-then i n f put (omega arith) (omega arith) (omega arith) (omega arith),
-          (
-            told (put-there i x q (omega arith) (f .long ∙ long)) (entry-is s short a deep),
-            inside-stable a (aside (suc i) n put (λ j l m u v. omega arith)) h,
-          ),
-        )
+    -- the own entry of what begins at i, put behind those in it
+    own : {i n x : ℕ} {p q : List ℕ} {P O : List ℕ → Type 0} → length p ≡ tableLimit → ((r : List ℕ) → planAt r i ≡ x → O r)
+        → Leaves s (suc i) n p q P → Leaves s i n p (putAt i x q) (λ r. O r × P r)
+    own {i} {n} {x} {p} {q} long entry f =
+        let ahead = f .forward in
+        let in-table = f .inside in
+        record {
+          forward = omega arith;
+          inside = in-table;
+          long = put-long i x q ∙ f .long;
+          others =
+              λ j out.
+              put-other i j x q (λ is. out (omega arith) (omega arith)) ∙ f .others j (λ u v. out (omega arith) (omega arith));
+          tells = λ r same. (
+            entry r (same i (omega arith) (omega arith) ∙ put-there i x q (omega arith) (f .long ∙ long)),
+            f .tells r (λ j u v. same j (omega arith) (omega arith) ∙ put-other i j x q (λ is. omega arith)),
+          );
+        }
 
-    -- a plan that is the same plan
-    expr-by : {vs : List Site} {d i n : ℕ} {e : Expr} {p r : List ℕ} (a : ExprAt s vs d i e n) (q : List ℕ) → q ≡ r
-        → Changed i n p r × PlannedExpr s r a → Changed i n p q × PlannedExpr s q a
-    expr-by {i = i} {n = n} {p = p} a q is h = subst (λ x. Changed i n p x × PlannedExpr s x a) (sym is) h
+    expr-own : {vs : List Site} {d i n : ℕ} {e : Expr} {p q : List ℕ} (a : ExprAt s vs d i e n) → d ≤ 32 → length p ≡ tableLimit
+        → Leaves s (suc i) n p q (λ r. InsideExpr s r a) → exprPlan d s i p ≡ putAt i (exprEntry d s i) q
+        → Leaves s i n p (exprPlan d s i p) (λ r. PlannedExpr s r a)
+    expr-own {d = d} {i = i} {p = p} a deep long f is =
+        let t = entry-is s short a deep in
+        follows (exprPlan d s i p) is
+        (own long (λ r e. rw e (record { next = t .next; needs = t .needs; holds = t .holds })) f) (λ r h. h)
+
+    -- operator, left and right, by where they stand
+    sides-turn : (d n m j : ℕ) (p : List ℕ) → nextOf s n ≡ m → nextIn (exprEntry d s m) ≡ j
+        → sidesPlanAt d s n p ≡ exprPlan d s j (exprPlan d s m p)
+    unfolding sidesPlanAt
+    sides-turn d n m j p e f = rw (e, f)
 
     expr-planned : {vs : List Site} {d i n : ℕ} {e : Expr} (p : List ℕ) (a : ExprAt s vs d i e n) → d ≤ 32 → length p ≡ tableLimit
-        → Changed i n p (exprPlan d s i p) × PlannedExpr s (exprPlan d s i p) a
-    unfolding exprPlan
+        → Leaves s i n p (exprPlan d s i p) (λ r. PlannedExpr s r a)
+    unfolding exprPlan sidesPlanAt
     expr-planned {vs} p (constantAt {d = d} {at = i} {m = n} v k t) deep long =
         let a : ExprAt s vs (suc d) i (constant v) n = constantAt v k t in
-        expr-by a (exprPlan (suc d) s i p) (rw (k .value, k .is)) (expr-own a deep long (unchanged (suc i) n p) tt)
+        expr-own a deep long (nothing-in (suc i) n p (expr-ends s a .0) (expr-ends s a .1)) (rw (k .value, k .is))
     expr-planned {vs} p (variableAt {d = d} {at = i} {m = n} {x = y} k x) deep long =
         let a : ExprAt s vs (suc d) i (variable y) n = variableAt k x in
-        expr-by a (exprPlan (suc d) s i p) (rw (k .value, k .is)) (expr-own a deep long (unchanged (suc i) n p) tt)
-    expr-planned p (notAt {d = d} {at = i} {m = n} k a) deep long =
-        let (f, h) = expr-planned p a (omega arith) long in
-        expr-by (notAt k a) (exprPlan (suc d) s i p) (rw (k .value, k .is))
-        (expr-own (notAt k a) deep long (wider (suc i) n f (k .ahead) (omega arith)) h)
+        expr-own a deep long (nothing-in (suc i) n p (expr-ends s a .0) (expr-ends s a .1)) (rw (k .value, k .is))
+    expr-planned p (notAt {at = i} {m = n} k a) deep long =
+        let f = expr-planned p a (omega arith) long in
+        expr-own (notAt k a) deep long (wider (suc i) n f (k .ahead) (omega arith) (f .inside)) (rw (k .value, k .is))
     expr-planned p (binaryAt {d = d} {at = i} {n = n} {m = m} {p = j} {q = z} k v a c) deep long =
-        let (f, h) = expr-planned p a (omega arith) long in
-        let (g, t) = expr-planned (exprPlan d s m p) c (omega arith) (f .long ∙ long) in
-        let first = expr-ends s a in
-        let last = expr-ends s c in
-        let ahead = k .ahead in
-        let second = v .there .ahead in
-        expr-by (binaryAt k v a c) (exprPlan (suc d) s i p)
-        (rw (k .value, k .is, next-is s (v .there), entry-is s short a (omega arith) .next))
-        (expr-own (binaryAt k v a c) deep long (changed-then (suc i) z f g (omega arith) (omega arith) (omega arith) (omega arith))
-        (expr-stable a (aside m j g (λ x l m u v. omega arith)) h, t))
+        let f = expr-planned p a (omega arith) long in
+        let g = expr-planned (exprPlan d s m p) c (omega arith) (f .long ∙ long) in
+        expr-own (binaryAt k v a c) deep long
+        (wider (suc i) z (behind f g (omega arith)) (omega (arith, k .ahead, v .there .ahead)) (omega arith) (g .inside))
+        (rw (k .value, k .is)
+        (ap (putAt i (exprEntry (suc d) s i)) (sides-turn d n m j p (next-is s (v .there)) (entry-is s short a (omega arith) .next))))
 
-  -- a guard's condition
-  guard-ends : {w : Scope} {d i n : ℕ} {g : Guard} → GuardAt s d w i g n → (i < n) × (n ≤ length s)
-  guard-ends (inputGuardAt k e c x) = (omega (arith, k .ahead, expr-ends s e .0, c .there .ahead, x .there .ahead), x .there .inside)
-  guard-ends (skipGuardAt k e) = (omega (arith, k .ahead, expr-ends s e .0), expr-ends s e .1)
-
-  guard-stable : {w : Scope} {d i n : ℕ} {g : Guard} {p q : List ℕ} (a : GuardAt s d w i g n) → Same i n p q → PlannedGuard s p a
-      → PlannedGuard s q a
-  guard-stable (inputGuardAt k e c x) f h =
-      expr-stable e (narrow _ _ f (omega (arith, k .ahead)) (omega (arith, c .there .ahead, x .there .ahead))) h
-  guard-stable (skipGuardAt k e) f h = expr-stable e (narrow _ _ f (omega (arith, k .ahead)) (omega arith)) h
-
-  -- a statement ends behind its first byte, and in the table; its parts do not end before they begin
-  mutual
-    stmt-ends : {w : Scope} {d i n : ℕ} {b : Stmt} → StmtAt s d w i b n → (i < n) × (n ≤ length s)
-    stmt-ends (skipAt k) = (k .ahead, k .inside)
-    stmt-ends (stopAt k) = (k .ahead, k .inside)
-    stmt-ends (assignAt k x e) = let h = expr-ends s e in (omega (arith, k .ahead, x .there .ahead), h .1)
-    stmt-ends (inputAt k c x) = (omega (arith, k .ahead, c .there .ahead, x .there .ahead), x .there .inside)
-    stmt-ends (outputAt k c e) = let h = expr-ends s e in (omega (arith, k .ahead, c .there .ahead), h .1)
-    stmt-ends (varAt k c a) = let h = stmt-ends a in (omega (arith, k .ahead, c .there .ahead), h .1)
-    stmt-ends (chanAt k c a) = let h = stmt-ends a in (omega (arith, k .ahead, c .there .ahead), h .1)
-    stmt-ends (seqAt k c a) = let h = all-end a (c .there .inside) in (omega (arith, k .ahead, c .there .ahead), h .1)
-    stmt-ends (parAt k c a) = let h = all-end a (c .there .inside) in (omega (arith, k .ahead, c .there .ahead), h .1)
-    stmt-ends (ifAt k c a) = let h = pairs-end a (c .there .inside) in (omega (arith, k .ahead, c .there .ahead), h .1)
-    stmt-ends (whileAt k e a) = let h = stmt-ends a in (omega (arith, k .ahead, expr-ends s e .0), h .1)
-    stmt-ends (altAt k c a) = let h = guards-end a (c .there .inside) in (omega (arith, k .ahead, c .there .ahead), h .1)
-
-    all-end : {w : Scope} {d k i n : ℕ} {ss : Stmts} → StmtsAt s d w k i ss n → i ≤ length s → (i ≤ n) × (n ≤ length s)
-    all-end noStmtAt l = (omega arith, l)
-    all-end (stmtsAt a c) l = let f = stmt-ends a in let h = all-end c (f .1) in (omega arith, h .1)
-
-    pairs-end : {w : Scope} {d k i n : ℕ} {ps : Pairs} → PairsAt s d w k i ps n → i ≤ length s → (i ≤ n) × (n ≤ length s)
-    pairs-end noPairAt l = (omega arith, l)
-    pairs-end (pairAt e a c) l = let f = stmt-ends a in let h = pairs-end c (f .1) in (omega (arith, expr-ends s e .0), h .1)
-
-    guards-end : {w : Scope} {d k i n : ℕ} {gs : Guards} → GuardsAt s d w k i gs n → i ≤ length s → (i ≤ n) × (n ≤ length s)
-    guards-end noGuardAt l = (omega arith, l)
-    guards-end (guardsAt g a c) l = let f = stmt-ends a in let h = guards-end c (f .1) in (omega (arith, guard-ends g .0), h .1)
-
-  -- a statement, if what is in it is stable
-  stmt-kept : {w : Scope} {d i n : ℕ} {b : Stmt} {p q : List ℕ} (a : StmtAt s d w i b n) → Same i n p q
-      → (Same (suc i) n p q → InsideStmt s p a → InsideStmt s q a) → PlannedStmt s p a → PlannedStmt s q a
-  unfolding extentIn
-  stmt-kept {i = i} a f parts h = (
-    λ l. rw (f .same i (omega arith) (stmt-ends a .0)) (h .0 l),
-    parts (narrow _ _ f (omega arith) (omega arith)) (h .1),
-  )
-
-  mutual
-    unfolding InsideStmt
-
-    parts-stable : {w : Scope} {d i n : ℕ} {b : Stmt} {p q : List ℕ} (a : StmtAt s d w i b n) → Same (suc i) n p q → InsideStmt s p a
-        → InsideStmt s q a
-    parts-stable (skipAt k) f h = tt
-    parts-stable (stopAt k) f h = tt
-    parts-stable (assignAt k x e) f h = expr-stable e (narrow _ _ f (omega (arith, k .ahead, x .there .ahead)) (omega arith)) h
-    parts-stable (inputAt k c x) f h = tt
-    parts-stable (outputAt k c e) f h = expr-stable e (narrow _ _ f (omega (arith, k .ahead, c .there .ahead)) (omega arith)) h
-    parts-stable (varAt k c a) f h =
-        stmt-kept a (narrow _ _ f (omega (arith, k .ahead, c .there .ahead)) (omega arith)) (λ g x. parts-stable a g x) h
-    parts-stable (chanAt k c a) f h =
-        stmt-kept a (narrow _ _ f (omega (arith, k .ahead, c .there .ahead)) (omega arith)) (λ g x. parts-stable a g x) h
-    parts-stable (seqAt k c a) f h = all-stable a (narrow _ _ f (omega (arith, k .ahead, c .there .ahead)) (omega arith)) h
-    parts-stable (parAt k c a) f h = all-stable a (narrow _ _ f (omega (arith, k .ahead, c .there .ahead)) (omega arith)) h
-    parts-stable (ifAt k c a) f h = pairs-stable a (narrow _ _ f (omega (arith, k .ahead, c .there .ahead)) (omega arith)) h
-    parts-stable (whileAt k e a) f h =
-        let x = expr-ends s e in
-        let y = stmt-ends a in
-        let z = k .ahead in (
-          expr-stable e (narrow _ _ f (omega arith) (omega arith)) (h .0),
-          stmt-kept a (narrow _ _ f (omega arith) (omega arith)) (λ g x. parts-stable a g x) (h .1),
-        )
-    parts-stable (altAt k c a) f h = guards-stable a (narrow _ _ f (omega (arith, k .ahead, c .there .ahead)) (omega arith)) h
-
-    all-stable : {w : Scope} {d k i n : ℕ} {ss : Stmts} {p q : List ℕ} (a : StmtsAt s d w k i ss n) → Same i n p q → PlannedStmts s p a
-        → PlannedStmts s q a
-    all-stable noStmtAt f h = tt
-    all-stable (stmtsAt a c) f h =
-        let x = stmt-ends a in
-        let y = all-end c (x .1) in (
-          stmt-kept a (narrow _ _ f (omega arith) (omega arith)) (λ g x. parts-stable a g x) (h .0),
-          all-stable c (narrow _ _ f (omega arith) (omega arith)) (h .1),
-        )
-
-    pairs-stable : {w : Scope} {d k i n : ℕ} {ps : Pairs} {p q : List ℕ} (a : PairsAt s d w k i ps n) → Same i n p q → PlannedPairs s p a
-        → PlannedPairs s q a
-    pairs-stable noPairAt f h = tt
-    pairs-stable (pairAt e a c) f h =
-        let w = expr-ends s e in
-        let x = stmt-ends a in
-        let y = pairs-end c (x .1) in (
-          expr-stable e (narrow _ _ f (omega arith) (omega arith)) (h .0),
-          stmt-kept a (narrow _ _ f (omega arith) (omega arith)) (λ g x. parts-stable a g x) (h .1),
-          pairs-stable c (narrow _ _ f (omega arith) (omega arith)) (h .2),
-        )
-
-    guards-stable : {w : Scope} {d k i n : ℕ} {gs : Guards} {p q : List ℕ} (a : GuardsAt s d w k i gs n) → Same i n p q
-        → PlannedGuards s p a → PlannedGuards s q a
-    guards-stable noGuardAt f h = tt
-    guards-stable (guardsAt g a c) f h =
-        let w = guard-ends g in
-        let x = stmt-ends a in
-        let y = guards-end c (x .1) in (
-          guard-stable g (narrow _ _ f (omega arith) (omega arith)) (h .0),
-          stmt-kept a (narrow _ _ f (omega arith) (omega arith)) (λ g x. parts-stable a g x) (h .1),
-          guards-stable c (narrow _ _ f (omega arith) (omega arith)) (h .2),
-        )
-
-  stmt-stable : {w : Scope} {d i n : ℕ} {b : Stmt} {p q : List ℕ} (a : StmtAt s d w i b n) → Same i n p q → PlannedStmt s p a
-      → PlannedStmt s q a
-  stmt-stable a f h = stmt-kept a f (λ g x. parts-stable a g x) h
-
-  module _ (short : length s ≤ tableLimit) where
-    -- the own entry of a statement, behind those of all in it
-    stmt-own : {w : Scope} {d i n : ℕ} {b : Stmt} {p : List ℕ} (q : List ℕ) (a : StmtAt s d w i b n) → d ≤ 32 → length p ≡ tableLimit
-        → Changed (suc i) n p q → InsideStmt s q a → stmtPlan d s i p ≡ putAt i (extentEntry (stmtExtent d s i)) q
-        → Changed i n p (stmtPlan d s i p) × PlannedStmt s (stmtPlan d s i p) a
+    stmt-own : {w : Scope} {d i n : ℕ} {b : Stmt} {p q : List ℕ} (a : StmtAt s d w i b n) → d ≤ 32 → length p ≡ tableLimit
+        → Leaves s (suc i) n p q (λ r. InsideStmt s r a) → stmtPlan d s i p ≡ putAt i (extentEntry (stmtExtent d s i)) q
+        → Leaves s i n p (stmtPlan d s i p) (λ r. PlannedStmt s r a)
     unfolding extentIn
-    stmt-own {d = d} {i = i} {n = n} {b = b} {p = p} q a deep long f h is =
-        let ends = stmt-ends a in
-        let x = extentEntry (stmtExtent d s i) in
-        let put = put-changed i (suc i) x q (omega arith) in
-        subst (λ r. Changed i n p r × PlannedStmt s r a) (sym is) (
-          changed-then i n f put (omega arith) (omega arith) (omega arith) (omega arith),
-          (
-            λ l. rw (put-there i x q (omega arith) (f .long ∙ long), extent-is s short a deep l)
-                (entry-gives n (need b) (omega arith) (omega arith)),
-            parts-stable a (aside (suc i) n put (λ j l m u v. omega arith)) h,
-          ),
-        )
+    stmt-own {d = d} {i = i} {n = n} {b = b} {p = p} a deep long f is =
+        let ends = f .inside in
+        follows (stmtPlan d s i p) is
+        (own long (λ r e l. rw (e, extent-is s short a deep l) (entry-gives n (need b) (omega arith) (omega arith))) f) (λ r h. h)
 
     -- what stands before the statement of a part
     condition-planned : {vs : List Site} {d i n : ℕ} {e : Expr} (p : List ℕ) (a : ExprAt s vs d i e n) → d ≤ 32 → length p ≡ tableLimit
-        → Changed i n p (headPlan Condition d s i p) × PlannedExpr s (headPlan Condition d s i p) a
+        → Leaves s i n p (headPlan Condition d s i p) (λ r. PlannedExpr s r a)
     unfolding headPlan
-    condition-planned p a deep long = expr-planned short p a deep long
+    condition-planned p a deep long = expr-planned p a deep long
 
     guard-planned : {w : Scope} {d i n : ℕ} {g : Guard} (p : List ℕ) (a : GuardAt s d w i g n) → d ≤ 32 → length p ≡ tableLimit
-        → Changed i n p (headPlan GuardHead d s i p) × PlannedGuard s (headPlan GuardHead d s i p) a
+        → Leaves s i n p (headPlan GuardHead d s i p) (λ r. PlannedGuard s r a)
     unfolding headPlan
     guard-planned {d = d} {i = i} {n = n} p (inputGuardAt {n = j} k e c x) deep long =
-        let (f, h) = expr-planned short p e deep long in
-        let is : headPlan GuardHead d s i p ≡ exprPlan d s j p = ap (λ (x : Value). exprPlan d s (x .next) p) (k .value) in
-        subst (λ q. Changed i n p q × PlannedExpr s q e) (sym is)
-        (wider i n f (omega (arith, k .ahead)) (omega (arith, c .there .ahead, x .there .ahead)), h)
+        let f = expr-planned p e deep long in
+        follows (headPlan GuardHead d s i p) (ap (λ (x : Value). exprPlan d s (x .next) p) (k .value))
+        (wider i n f (omega (arith, k .ahead)) (omega (arith, c .there .ahead, x .there .ahead)) (x .there .inside)) (λ r h. h)
     guard-planned {d = d} {i = i} {n = n} p (skipGuardAt {n = j} k e) deep long =
-        let (f, h) = expr-planned short p e deep long in
-        let is : headPlan GuardHead d s i p ≡ exprPlan d s j p = ap (λ (x : Value). exprPlan d s (x .next) p) (k .value) in
-        subst (λ q. Changed i n p q × PlannedExpr s q e) (sym is) (wider i n f (omega (arith, k .ahead)) (omega arith), h)
+        let f = expr-planned p e deep long in
+        follows (headPlan GuardHead d s i p) (ap (λ (x : Value). exprPlan d s (x .next) p) (k .value))
+        (wider i n f (omega (arith, k .ahead)) (omega arith) (f .inside)) (λ r h. h)
 
     -- so many parts in front of others, each with its head and its statement
     abbrev partsBy : (k : ℕ) → Head → (d i : ℕ) → List ℕ → List ℕ
@@ -326,114 +204,99 @@ module _ (s : List ℕ) where
       unfolding stmtPlan countIn simplePlan partsPlan InsideStmt need
 
       stmt-planned : {w : Scope} {d i n : ℕ} {b : Stmt} (p : List ℕ) (a : StmtAt s d w i b n) → d ≤ 32 → length p ≡ tableLimit
-          → need b ≤ wordLimit → Changed i n p (stmtPlan d s i p) × PlannedStmt s (stmtPlan d s i p) a
+          → need b ≤ wordLimit → Leaves s i n p (stmtPlan d s i p) (λ r. PlannedStmt s r a)
       stmt-planned {w = w} p (skipAt {d = d} {at = i} {n = n} k) deep long l =
           let a : StmtAt s (suc d) w i SKIP n = skipAt k in
-          stmt-own p a deep long (unchanged (suc i) n p) tt (rw (k .value, k .is))
+          stmt-own a deep long (nothing-in (suc i) n p (k .ahead) (k .inside)) (rw (k .value, k .is))
       stmt-planned {w = w} p (stopAt {d = d} {at = i} {n = n} k) deep long l =
           let a : StmtAt s (suc d) w i STOP n = stopAt k in
-          stmt-own p a deep long (unchanged (suc i) n p) tt (rw (k .value, k .is))
+          stmt-own a deep long (nothing-in (suc i) n p (k .ahead) (k .inside)) (rw (k .value, k .is))
       stmt-planned p (assignAt {at = i} {p = n} {w = w} k x e) deep long l =
-          let (f, h) = expr-planned short p e (omega arith) long in
-          stmt-own _ (assignAt {w = w} k x e) deep long (wider (suc i) n f (omega (arith, k .ahead, x .there .ahead)) (omega arith)) h
+          let f = expr-planned p e (omega arith) long in
+          stmt-own (assignAt {w = w} k x e) deep long
+          (wider (suc i) n f (omega (arith, k .ahead, x .there .ahead)) (omega arith) (f .inside))
           (rw (k .value, k .is, next-is s (x .there)))
       stmt-planned {w = w} p (inputAt {d = d} {at = i} {p = n} {c = u} {x = v} k c x) deep long l =
           let a : StmtAt s (suc d) w i (input u v) n = inputAt k c x in
-          stmt-own p a deep long (unchanged (suc i) n p) tt (rw (k .value, k .is))
+          stmt-own a deep long
+          (nothing-in (suc i) n p (omega (arith, k .ahead, c .there .ahead, x .there .ahead)) (x .there .inside))
+          (rw (k .value, k .is))
       stmt-planned p (outputAt {at = i} {p = n} {w = w} k c e) deep long l =
-          let (f, h) = expr-planned short p e (omega arith) long in
-          stmt-own _ (outputAt {w = w} k c e) deep long (wider (suc i) n f (omega (arith, k .ahead, c .there .ahead)) (omega arith)) h
+          let f = expr-planned p e (omega arith) long in
+          stmt-own (outputAt {w = w} k c e) deep long
+          (wider (suc i) n f (omega (arith, k .ahead, c .there .ahead)) (omega arith) (f .inside))
           (rw (k .value, k .is, next-is s (c .there)))
       stmt-planned p (varAt {at = i} {p = n} {w = w} k c a) deep long l =
-          let (f, h) = stmt-planned p a (omega arith) long (omega arith) in
-          stmt-own _ (varAt {w = w} k c a) deep long (wider (suc i) n f (omega (arith, k .ahead, c .there .ahead)) (omega arith)) h
+          let f = stmt-planned p a (omega arith) long (omega arith) in
+          stmt-own (varAt {w = w} k c a) deep long
+          (wider (suc i) n f (omega (arith, k .ahead, c .there .ahead)) (omega arith) (f .inside))
           (rw (k .value, k .is, next-is s (c .there)))
       stmt-planned p (chanAt {at = i} {p = n} {w = w} k c a) deep long l =
-          let (f, h) = stmt-planned p a (omega arith) long (omega arith) in
-          stmt-own _ (chanAt {w = w} k c a) deep long (wider (suc i) n f (omega (arith, k .ahead, c .there .ahead)) (omega arith)) h
+          let f = stmt-planned p a (omega arith) long (omega arith) in
+          stmt-own (chanAt {w = w} k c a) deep long
+          (wider (suc i) n f (omega (arith, k .ahead, c .there .ahead)) (omega arith) (f .inside))
           (rw (k .value, k .is, next-is s (c .there)))
       stmt-planned p (seqAt {at = i} {p = n} k c a) deep long l =
-          let (f, h) = seq-planned p a (omega arith) long (omega arith) in
-          stmt-own _ (seqAt k c a) deep long (wider (suc i) n f (omega (arith, k .ahead, c .there .ahead)) (omega arith)) h
+          let f = seq-planned p a (omega arith) long (omega arith) (c .there .inside) in
+          stmt-own (seqAt k c a) deep long
+          (wider (suc i) n f (omega (arith, k .ahead, c .there .ahead)) (omega arith) (f .inside))
           (rw (k .value, k .is, c .there .value, c .fits))
       stmt-planned p (parAt {at = i} {p = n} {ss = ss} k c a) deep long l =
-          let (f, h) = seq-planned p a (omega arith) long (most-sum ss (omega arith)) in
-          stmt-own _ (parAt k c a) deep long (wider (suc i) n f (omega (arith, k .ahead, c .there .ahead)) (omega arith)) h
+          let f = seq-planned p a (omega arith) long (most-sum ss (omega arith)) (c .there .inside) in
+          stmt-own (parAt k c a) deep long
+          (wider (suc i) n f (omega (arith, k .ahead, c .there .ahead)) (omega arith) (f .inside))
           (rw (k .value, k .is, c .there .value, c .fits))
       stmt-planned p (ifAt {at = i} {p = n} k c a) deep long l =
-          let (f, h) = pairs-planned p a (omega arith) long (omega arith) in
-          stmt-own _ (ifAt k c a) deep long (wider (suc i) n f (omega (arith, k .ahead, c .there .ahead)) (omega arith)) h
+          let f = pairs-planned p a (omega arith) long (omega arith) (c .there .inside) in
+          stmt-own (ifAt k c a) deep long
+          (wider (suc i) n f (omega (arith, k .ahead, c .there .ahead)) (omega arith) (f .inside))
           (rw (k .value, k .is, c .there .value, c .fits))
       stmt-planned p (whileAt {d = d} {at = i} {n = j} {m = m} {p = n} {e = t} {b = b} k e a) deep long l =
-          let (f, h) = condition-planned p e (omega arith) long in
-          let (g, r) = stmt-planned (headPlan Condition d s j p) a (omega arith) (f .long ∙ long) (omega arith) in
-          let x = expr-ends s e in
-          let y = stmt-ends a in
-          let z = k .ahead in
-          stmt-own _ (whileAt k e a) deep long (changed-then (suc i) n f g (omega arith) (omega arith) (omega arith) (omega arith))
-          (expr-stable e (aside j m g (λ x l m u v. omega arith)) h, r)
+          let f = condition-planned p e (omega arith) long in
+          let g = stmt-planned (headPlan Condition d s j p) a (omega arith) (f .long ∙ long) (omega arith) in
+          stmt-own (whileAt k e a) deep long
+          (wider (suc i) n (behind f g (omega arith)) (k .ahead) (omega arith) (g .inside))
           (rw (k .value, k .is) (ap (putAt i (extentEntry (stmtExtent (suc d) s i)))
           (part-turn 0 Condition d j m n (temporaries t + 2) (need b) p (condition-head s short e (omega arith))
           (extent-is s short a (omega arith) (omega arith)))))
       stmt-planned p (altAt {at = i} {p = n} k c a) deep long l =
-          let (f, h) = guards-planned p a (omega arith) long (omega arith) in
-          stmt-own _ (altAt k c a) deep long (wider (suc i) n f (omega (arith, k .ahead, c .there .ahead)) (omega arith)) h
+          let f = guards-planned p a (omega arith) long (omega arith) (c .there .inside) in
+          stmt-own (altAt k c a) deep long
+          (wider (suc i) n f (omega (arith, k .ahead, c .there .ahead)) (omega arith) (f .inside))
           (rw (k .value, k .is, c .there .value, c .fits))
 
       seq-planned : {w : Scope} {d k i n : ℕ} {ss : Stmts} (p : List ℕ) (a : StmtsAt s d w k i ss n) → d ≤ 32 → length p ≡ tableLimit
-          → mostNeed ss ≤ wordLimit → Changed i n p (partsBy k Nothing d i p) × PlannedStmts s (partsBy k Nothing d i p) a
-      seq-planned p noStmtAt deep long l = (unchanged _ _ p, tt)
-      seq-planned {d = d} p (stmtsAt {k = k} {at = i} {n = j} {m = n} {b = b} {ss = ss} a c) deep long l =
-          let (f, h) = stmt-planned p a deep long (omega arith) in
-          let (g, t) = seq-planned (stmtPlan d s i p) c deep (f .long ∙ long) (omega arith) in
-          let x = stmt-ends a in
-          let y = all-end c (x .1) in
-          let is = bare-turn k d i j (need b) p (extent-is s short a deep (omega arith)) in
-          subst (λ q. Changed i n p q × PlannedStmts s q (stmtsAt a c)) (sym is) (
-            changed-then i n f g (omega arith) (omega arith) (omega arith) (omega arith),
-            (stmt-stable a (aside i j g (λ x l m u v. omega arith)) h, t),
-          )
+          → mostNeed ss ≤ wordLimit → i ≤ length s → Leaves s i n p (partsBy k Nothing d i p) (λ r. PlannedStmts s r a)
+      seq-planned p noStmtAt deep long l in-table = nothing-in _ _ p (omega arith) in-table
+      seq-planned {d = d} p (stmtsAt {k = k} {at = i} {n = j} {b = b} a c) deep long l in-table =
+          let f = stmt-planned p a deep long (omega arith) in
+          let g = seq-planned (stmtPlan d s i p) c deep (f .long ∙ long) (omega arith) (f .inside) in
+          follows _ (bare-turn k d i j (need b) p (extent-is s short a deep (omega arith))) (behind f g (omega arith)) (λ r h. h)
 
       pairs-planned : {w : Scope} {d k i n : ℕ} {ps : Pairs} (p : List ℕ) (a : PairsAt s d w k i ps n) → d ≤ 32 → length p ≡ tableLimit
-          → pairNeed ps ≤ wordLimit → Changed i n p (partsBy k Condition d i p) × PlannedPairs s (partsBy k Condition d i p) a
-      pairs-planned p noPairAt deep long l = (unchanged _ _ p, tt)
-      pairs-planned {d = d} p (pairAt {k = k} {at = i} {n = j} {m = m} {p = n} {e = e} {b = b} {ps = ps} x a c) deep long l =
-          let (f, h) = condition-planned p x deep long in
+          → pairNeed ps ≤ wordLimit → i ≤ length s → Leaves s i n p (partsBy k Condition d i p) (λ r. PlannedPairs s r a)
+      pairs-planned p noPairAt deep long l in-table = nothing-in _ _ p (omega arith) in-table
+      pairs-planned {d = d} p (pairAt {k = k} {at = i} {n = j} {m = m} {e = e} {b = b} x a c) deep long l in-table =
+          let f = condition-planned p x deep long in
           let q = headPlan Condition d s i p in
-          let (g, t) = stmt-planned q a deep (f .long ∙ long) (omega arith) in
-          let (v, u) = pairs-planned (stmtPlan d s j q) c deep (g .long ∙ f .long ∙ long) (omega arith) in
-          let x-ends = expr-ends s x in
-          let a-ends = stmt-ends a in
-          let c-ends = pairs-end c (a-ends .1) in
-          let is =
-          part-turn k Condition d i j m (temporaries e + 2) (need b) p (condition-head s short x deep)
-          (extent-is s short a deep (omega arith)) in
-          let both = changed-then j n g v (omega arith) (omega arith) (omega arith) (omega arith) in
-          subst (λ q. Changed i n p q × PlannedPairs s q (pairAt x a c)) (sym is) (
-            changed-then i n f both (omega arith) (omega arith) (omega arith) (omega arith),
-            (expr-stable x (aside i j both (λ x l m u v. omega arith)) h, stmt-stable a (aside j m v (λ x l m u v. omega arith)) t, u),
-          )
+          let g = stmt-planned q a deep (f .long ∙ long) (omega arith) in
+          let v = pairs-planned (stmtPlan d s j q) c deep (g .long ∙ f .long ∙ long) (omega arith) (g .inside) in
+          follows _ (part-turn k Condition d i j m (temporaries e + 2) (need b) p (condition-head s short x deep)
+          (extent-is s short a deep (omega arith)))
+          (behind f (behind g v (omega arith)) (omega arith)) (λ r h. (h .0, h .1 .0, h .1 .1))
 
       guards-planned : {w : Scope} {d k i n : ℕ} {gs : Guards} (p : List ℕ) (a : GuardsAt s d w k i gs n) → d ≤ 32 → length p ≡ tableLimit
-          → guardNeed gs ≤ wordLimit → Changed i n p (partsBy k GuardHead d i p) × PlannedGuards s (partsBy k GuardHead d i p) a
-      guards-planned p noGuardAt deep long l = (unchanged _ _ p, tt)
-      guards-planned {d = d} p (guardsAt {k = k} {at = i} {n = j} {m = m} {p = n} {g = e} {b = b} {gs = gs} x a c) deep long l =
-          let (f, h) = guard-planned p x deep long in
+          → guardNeed gs ≤ wordLimit → i ≤ length s → Leaves s i n p (partsBy k GuardHead d i p) (λ r. PlannedGuards s r a)
+      guards-planned p noGuardAt deep long l in-table = nothing-in _ _ p (omega arith) in-table
+      guards-planned {d = d} p (guardsAt {k = k} {at = i} {n = j} {m = m} {g = e} {b = b} x a c) deep long l in-table =
+          let f = guard-planned p x deep long in
           let q = headPlan GuardHead d s i p in
-          let (g, t) = stmt-planned q a deep (f .long ∙ long) (omega arith) in
-          let (v, u) = guards-planned (stmtPlan d s j q) c deep (g .long ∙ f .long ∙ long) (omega arith) in
-          let x-ends = guard-ends x in
-          let a-ends = stmt-ends a in
-          let c-ends = guards-end c (a-ends .1) in
-          let is =
-          part-turn k GuardHead d i j m (guardWords (temporaries (condition e))) (need b) p (guard-head s short x deep)
-          (extent-is s short a deep (omega arith)) in
-          let both = changed-then j n g v (omega arith) (omega arith) (omega arith) (omega arith) in
-          subst (λ q. Changed i n p q × PlannedGuards s q (guardsAt x a c)) (sym is) (
-            changed-then i n f both (omega arith) (omega arith) (omega arith) (omega arith),
-            (guard-stable x (aside i j both (λ x l m u v. omega arith)) h, stmt-stable a (aside j m v (λ x l m u v. omega arith)) t, u),
-          )
+          let g = stmt-planned q a deep (f .long ∙ long) (omega arith) in
+          let v = guards-planned (stmtPlan d s j q) c deep (g .long ∙ f .long ∙ long) (omega arith) (g .inside) in
+          follows _ (part-turn k GuardHead d i j m (guardWords (temporaries (condition e))) (need b) p (guard-head s short x deep)
+          (extent-is s short a deep (omega arith)))
+          (behind f (behind g v (omega arith)) (omega arith)) (λ r h. (h .0, h .1 .0, h .1 .1))
 
     pub plan-of : {w : Scope} {d i n : ℕ} {b : Stmt} (p : List ℕ) (a : StmtAt s d w i b n) → d ≤ 32 → length p ≡ tableLimit
         → need b ≤ wordLimit → PlannedStmt s (stmtPlan d s i p) a
-    plan-of p a deep long l = stmt-planned p a deep long l .1
+    plan-of p a deep long l = stmt-planned p a deep long l .tells _ (λ j x y. refl)
