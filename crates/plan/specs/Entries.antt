@@ -45,34 +45,29 @@ sidesEntry l r =
     entry (nextIn r) (sidesNeed (registersIn l) (registersIn r))
     (sidesHold (orderOf (registersIn l) (registersIn r)) (storedIn l) (storedIn r))
 
--- operator, left, right, by what gives an expression's entry
-abbrev pub operatedEntry : (ℕ → ℕ) → List ℕ → (at : ℕ) → ℕ
-operatedEntry inner s at = let l = inner (nextOf s at) in sidesEntry l (inner (nextIn l))
+-- what is measured of an expression: its entry, and the plan with the entries of all in it
+pub record Entered : Type 0 where
+  pub own : ℕ
+  pub plan : List ℕ
 
--- the entry of the expression at a place, which has `depth` levels left
-unfoldable pub exprEntry : (depth : ℕ) → List ℕ → (at : ℕ) → ℕ
-exprEntry zero s at = entry at 1 0
-exprEntry (suc d) s at =
+abbrev pub entered : ℕ → List ℕ → Entered
+entered x p = record { own = x; plan = p }
+
+-- operator, left, right, by what measures an expression
+abbrev pub sidesBy : (ℕ → List ℕ → Entered) → List ℕ → (at : ℕ) → List ℕ → Entered
+sidesBy inner s at p =
+    let l = inner (nextOf s at) p in
+    let r = inner (nextIn (l .own)) (l .plan) in
+    entered (sidesEntry (l .own) (r .own)) (r .plan)
+
+-- an expression, which has `depth` levels left: its own entry is put at its first place
+unfoldable pub exprEntered : (depth : ℕ) → List ℕ → (at : ℕ) → List ℕ → Entered
+exprEntered zero s at p = entered (entry at 1 0) p
+exprEntered (suc d) s at p =
     let k = valueAt s at in
-    byExpr (exprKind (k .value)) (entry (nextOf s (k .next)) 1 0) (entry (nextOf s (k .next)) 1 0) (exprEntry d s (k .next))
-    (operatedEntry (λ i. exprEntry d s i) s (k .next))
+    let leaf = entered (entry (nextOf s (k .next)) 1 0) p in
+    let m = byExpr (exprKind (k .value)) leaf leaf (exprEntered d s (k .next) p) (sidesBy (λ i q. exprEntered d s i q) s (k .next) p) in
+    entered (m .own) (putAt at (m .own) (m .plan))
 
--- operator, left, right: the plan with the entries of both sides
-abbrev pub operatedPlan : (ℕ → ℕ) → (ℕ → List ℕ → List ℕ) → List ℕ → (at : ℕ) → List ℕ → List ℕ
-operatedPlan inner plans s at p = let i = nextOf s at in plans (nextIn (inner i)) (plans i p)
-
--- the plan with the entries of an expression and of those in it
-unfoldable pub exprPlan : (depth : ℕ) → List ℕ → (at : ℕ) → List ℕ → List ℕ
-exprPlan zero s at p = p
-exprPlan (suc d) s at p =
-    let k = valueAt s at in
-    putAt at (exprEntry (suc d) s at)
-    (byExpr (exprKind (k .value)) p p (exprPlan d s (k .next) p)
-    (operatedPlan (λ i. exprEntry d s i) (λ i q. exprPlan d s i q) s (k .next) p))
-
--- the same of operator, left and right, which have `depth` left
-unfoldable pub sidesEntryAt : (depth : ℕ) → List ℕ → (at : ℕ) → ℕ
-sidesEntryAt d s at = operatedEntry (λ i. exprEntry d s i) s at
-
-unfoldable pub sidesPlanAt : (depth : ℕ) → List ℕ → (at : ℕ) → List ℕ → List ℕ
-sidesPlanAt d s at p = operatedPlan (λ i. exprEntry d s i) (λ i q. exprPlan d s i q) s at p
+unfoldable pub sidesEntered : (depth : ℕ) → List ℕ → (at : ℕ) → List ℕ → Entered
+sidesEntered d s at p = sidesBy (λ i q. exprEntered d s i q) s at p

@@ -1,7 +1,7 @@
 // What is known of expressions before their code is made (document 02, order 2): a plan has an entry at the first place of each.
 ghost use mathlib.Core.Path.{_≡_};
-ghost use Rattle.plan.specs.Entries.{entry as entryOf, nextIn, registersIn, storedIn, planAt, putAt, sidesEntry, exprEntry};
-ghost use Rattle.plan.specs.Entries.{exprPlan, sidesEntryAt, sidesPlanAt};
+ghost use Rattle.plan.specs.Entries.{entry as entryOf, nextIn, registersIn, storedIn, planAt, putAt, sidesEntry};
+ghost use Rattle.plan.specs.Entries.{entered, exprEntered, sidesEntered};
 use model::kinds::ExprKind;
 
 // An entry: the place after an expression, its registers and its stored values.
@@ -65,8 +65,7 @@ pub fn put_entry(plan: &mut [u32; 16384], at: usize, entry: u32)
 
 // What follows an operator's kind: operator, left, right.
 fn measure_sides(table: &[u8], plan: &mut [u32; 16384], at: usize, depth: u64) -> u32
-    ensures said { λ r. ⌜ r ≡ sidesEntryAt depth (now (table .entry)) at ⌝ }
-    ensures plan { λ r. ⌜ now (plan .exit) ≡ sidesPlanAt depth (now (table .entry)) at (now (plan .entry)) ⌝ }
+    ensures { λ r. ⌜ entered r (now (plan .exit)) ≡ sidesEntered depth (now (table .entry)) at (now (plan .entry)) ⌝ }
 {
     let first = numbers::skip(table, at);
     let left = measure_expr(table, plan, first, depth);
@@ -76,8 +75,7 @@ fn measure_sides(table: &[u8], plan: &mut [u32; 16384], at: usize, depth: u64) -
 
 // An expression, and those in it; the depth left falls at each call.
 pub fn measure_expr(table: &[u8], plan: &mut [u32; 16384], at: usize, depth: u64) -> u32
-    ensures said { λ r. ⌜ r ≡ exprEntry depth (now (table .entry)) at ⌝ }
-    ensures plan { λ r. ⌜ now (plan .exit) ≡ exprPlan depth (now (table .entry)) at (now (plan .entry)) ⌝ }
+    ensures { λ r. ⌜ entered r (now (plan .exit)) ≡ exprEntered depth (now (table .entry)) at (now (plan .entry)) ⌝ }
 {
     if depth == 0 {
         return entry(at, 1, 0);

@@ -1,8 +1,7 @@
 // The place after a part, and the words that a statement needs.
 ghost use mathlib.Core.Path.{_≡_};
-ghost use Rattle.plan.specs.Entries.{exprPlan, nextOf};
-ghost use Rattle.plan.specs.Extents.{extentEntry, extentIn, wholeExtent, simpleExtent, simplePlan, guardExtent, headExtent, headPlan};
-ghost use Rattle.plan.specs.Extents.{joined as needed, partsExtentAt, partsPlanAt, insideExtent, insidePlan, stmtExtent, stmtPlan};
+ghost use Rattle.plan.specs.Extents.{extentEntry, extentIn, measured, wholeMeasured, simpleMeasured, guardMeasured};
+ghost use Rattle.plan.specs.Extents.{headMeasured, joined as needed, partsAt, insideMeasured, stmtMeasured};
 use counts::Role;
 use model::kinds::GuardKind;
 use model::kinds::StmtKind;
@@ -37,8 +36,7 @@ pub fn extent_in(plan: &[u32; 16384], at: usize) -> Extent
 
 // An expression that stands in no other.
 fn measure_whole(table: &[u8], plan: &mut [u32; 16384], at: usize, role: Role, depth: u64) -> Extent
-    ensures said { λ r. ⌜ r ≡ wholeExtent role depth (now (table .entry)) at ⌝ }
-    ensures plan { λ r. ⌜ now (plan .exit) ≡ exprPlan depth (now (table .entry)) at (now (plan .entry)) ⌝ }
+    ensures { λ r. ⌜ measured r (now (plan .exit)) ≡ wholeMeasured role depth (now (table .entry)) at (now (plan .entry)) ⌝ }
 {
     let entry = crate::expr::measure_expr(table, plan, at, depth);
     Extent {
@@ -55,8 +53,7 @@ fn measure_simple(
     simple: Simple,
     depth: u64,
 ) -> Extent
-    ensures said { λ r. ⌜ r ≡ simpleExtent simple depth (now (table .entry)) at ⌝ }
-    ensures plan { λ r. ⌜ now (plan .exit) ≡ simplePlan simple depth (now (table .entry)) at (now (plan .entry)) ⌝ }
+    ensures { λ r. ⌜ measured r (now (plan .exit)) ≡ simpleMeasured simple depth (now (table .entry)) at (now (plan .entry)) ⌝ }
 {
     match simple {
         Simple::Skip => Extent {
@@ -78,8 +75,7 @@ fn measure_simple(
 
 // A guard: its condition, and if it waits for input its channel and its variable.
 fn measure_guard(table: &[u8], plan: &mut [u32; 16384], at: usize, depth: u64) -> Extent
-    ensures said { λ r. ⌜ r ≡ guardExtent depth (now (table .entry)) at ⌝ }
-    ensures plan { λ r. ⌜ now (plan .exit) ≡ exprPlan depth (now (table .entry)) (nextOf (now (table .entry)) at) (now (plan .entry)) ⌝ }
+    ensures { λ r. ⌜ measured r (now (plan .exit)) ≡ guardMeasured depth (now (table .entry)) at (now (plan .entry)) ⌝ }
 {
     let number = numbers::value_at(table, at);
     let condition = measure_whole(table, plan, number.next, Role::Guard, depth);
@@ -94,8 +90,7 @@ fn measure_guard(table: &[u8], plan: &mut [u32; 16384], at: usize, depth: u64) -
 
 // What stands before the statement of a part.
 fn measure_head(table: &[u8], plan: &mut [u32; 16384], at: usize, head: Head, depth: u64) -> Extent
-    ensures said { λ r. ⌜ r ≡ headExtent head depth (now (table .entry)) at ⌝ }
-    ensures plan { λ r. ⌜ now (plan .exit) ≡ headPlan head depth (now (table .entry)) at (now (plan .entry)) ⌝ }
+    ensures { λ r. ⌜ measured r (now (plan .exit)) ≡ headMeasured head depth (now (table .entry)) at (now (plan .entry)) ⌝ }
 {
     match head {
         Head::Nothing => Extent { next: at, need: 0 },
@@ -124,8 +119,8 @@ fn measure_parts(
     count: u32,
     depth: u64,
 ) -> Extent
-    ensures said { λ r. ⌜ r ≡ partsExtentAt count head beside depth (now (table .entry)) first ⌝ }
-    ensures plan { λ r. ⌜ now (plan .exit) ≡ partsPlanAt count head depth (now (table .entry)) (first .next) (now (plan .entry)) ⌝ }
+    ensures { λ r.
+        ⌜ measured r (now (plan .exit)) ≡ partsAt count head beside depth (now (table .entry)) (measured first (now (plan .entry))) ⌝ }
 {
     let mut so_far = first;
     let mut left = count;
@@ -150,8 +145,7 @@ fn measure_inside(
     kind: StmtKind,
     depth: u64,
 ) -> Extent
-    ensures said { λ r. ⌜ r ≡ insideExtent kind depth (now (table .entry)) at ⌝ }
-    ensures plan { λ r. ⌜ now (plan .exit) ≡ insidePlan kind depth (now (table .entry)) at (now (plan .entry)) ⌝ }
+    ensures { λ r. ⌜ measured r (now (plan .exit)) ≡ insideMeasured kind depth (now (table .entry)) at (now (plan .entry)) ⌝ }
 {
     match numbers::kinds::shape_of(kind) {
         Shape::Simple(simple) => measure_simple(table, plan, at, simple, depth),
@@ -184,8 +178,7 @@ fn measure_inside(
 
 // A statement, and all in it; the depth left falls at each call.
 pub fn measure_stmt(table: &[u8], plan: &mut [u32; 16384], at: usize, depth: u64) -> Extent
-    ensures said { λ r. ⌜ r ≡ stmtExtent depth (now (table .entry)) at ⌝ }
-    ensures plan { λ r. ⌜ now (plan .exit) ≡ stmtPlan depth (now (table .entry)) at (now (plan .entry)) ⌝ }
+    ensures { λ r. ⌜ measured r (now (plan .exit)) ≡ stmtMeasured depth (now (table .entry)) at (now (plan .entry)) ⌝ }
 {
     if depth == 0 {
         return Extent {

@@ -1,13 +1,12 @@
--- That what is put into the list is the scheme's code: Spelled (what a table's bytes spell), Planned, ExtentIs and PlanOf (what the plan
--- says of an expression and of a statement), Fills and Closes (instructions one behind another, and the Js to an end), ExprCode, Compiles,
--- Declares, Flows, Pars and Choices (each shape of statement), StmtCode (all of them), Bounds and TableCode (a whole table). Turns has the
--- laws that the functions of the cycle cite.
+-- That what is put into the list is the scheme's code: Spelled (what a table's bytes spell), Planned and PlanOf (what the plan tells of an
+-- expression and of a statement), Fills and Closes (instructions one behind another, and the Js to an end), ExprCode, Compiles, Declares,
+-- Flows, Pars and Choices (each shape of statement), StmtCode (all of them), Bounds and TableCode (a whole table). Turns has the laws that
+-- the functions of the cycle cite, Scoping what they cite of names.
 pub mod Spelled
 pub mod Fills
 pub mod Closes
 pub mod Bounds
 pub mod Planned
-pub mod ExtentIs
 pub mod PlanOf
 pub mod ExprCode
 pub mod Compiles

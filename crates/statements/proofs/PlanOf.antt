@@ -1,30 +1,38 @@
--- The plan of a table tells of its program: what is measured of a part is written at places of that part alone.
-use Prim.Native.Nat.{ℕ, suc, _+_, _*_, _/_, _%_, _^_, _≤_, _<_}
+-- The plan of a table tells of its program: what is measured of a part is what it is, and is written at places of that part alone.
+use Prim.Native.Nat.{ℕ, suc, _+_, _*_, _/_, _%_, _^_, _≤_, _<_, max}
 use native.Mathlib.Omega.{arith}
+use native.Mathlib.Nat.{mod-eq-of-lt}
 use mathlib.Core.Path.{_≡_, refl, sym, ap, subst, _∙_}
+use mathlib.Core.Bool.{Bool, true, false, cond}
 use mathlib.Core.List.{List}
 use lib.ListN.{length, length-set}
 use lib.Seq.{getD-set-same, getD-set-other}
 use lib.Dec.{ltb}
 use borrow.Author.Tests.{lt-ltb}
 use Rattle.model.specs.Limits.{wordLimit, tableLimit}
-use Rattle.model.specs.Syntax.{Site, Expr, constant, variable, Stmt, SKIP, STOP, input, Stmts, noStmt, stmt, Pairs, Guard, condition}
-use Rattle.model.specs.Syntax.{Guards}
+use Rattle.model.specs.Word.{low}
+use Rattle.model.specs.Syntax.{Site, Expr, constant, variable, binary, Stmt, SKIP, STOP, input, Stmts, noStmt, stmt, Pairs, Guard}
+use Rattle.model.specs.Syntax.{condition, Guards, WHILE}
 use Rattle.model.specs.Reader.{Scope}
-use Rattle.model.specs.Counts.{temporaries, guardWords, need, mostNeed, sumNeed, pairNeed, guardNeed}
+use Rattle.model.specs.Counts.{order, registers, temporaries, guardWords, need, mostNeed, sumNeed, pairNeed, guardNeed}
 use Rattle.model.proofs.Cases.{by-bool}
-use Rattle.plan.specs.Entries.{nextOf, nextIn, planAt, putAt, exprEntry, exprPlan, sidesPlanAt}
-use Rattle.plan.specs.Extents.{extended, extentEntry, extentIn, simplePlan, headExtent, headPlan, partsPlan, stmtExtent, stmtPlan}
-use Rattle.numbers.specs.Kinds.{countIn}
-use Rattle.numbers.specs.declared.Value.{Value}
+use Rattle.model.proofs.Tables.Needs.{sides-hold}
+use Rattle.counts.specs.Words.{asked}
+use Rattle.counts.specs.declared.Role.{Role}
+use Rattle.counts.specs.declared.Role.the-variants.{Value as ForValue, Output as ForOutput, Guard as ForGuard}
+use Rattle.plan.specs.Entries.{nextOf, nextIn, planAt, putAt, sidesEntry, Entered, entered, exprEntered, sidesEntered}
+use Rattle.plan.specs.Extents.{extended, extentEntry, extentIn, Measured, measured, wholeMeasured, simpleMeasured, guardMeasured}
+use Rattle.plan.specs.Extents.{headMeasured, joined, partsMeasured, insideMeasured, stmtMeasured}
+use Rattle.plan.specs.declared.extent.Extent.{Extent}
+use Rattle.numbers.specs.Items.{valueAt}
+use Rattle.numbers.specs.Kinds.{stmtKind, countIn}
 use Rattle.numbers.specs.declared.kinds.Head.{Head}
 use Rattle.numbers.specs.declared.kinds.Head.the-variants.{Nothing, Condition, Guard as GuardHead}
 use Rattle.statements.proofs.Spelled.{ExprAt, constantAt, variableAt, notAt, binaryAt, GuardAt, inputGuardAt, skipGuardAt, StmtAt}
 use Rattle.statements.proofs.Spelled.{skipAt, stopAt, assignAt, inputAt, outputAt, varAt, chanAt, seqAt, parAt, ifAt, whileAt, altAt}
 use Rattle.statements.proofs.Spelled.{StmtsAt, noStmtAt, stmtsAt, PairsAt, noPairAt, pairAt, GuardsAt, noGuardAt, guardsAt}
-use Rattle.statements.proofs.Planned.{next-is, expr-ends, entry-is, InsideExpr, PlannedExpr, PlannedGuard, InsideStmt}
-use Rattle.statements.proofs.Planned.{PlannedStmts, PlannedPairs, PlannedGuards, PlannedStmt}
-use Rattle.statements.proofs.ExtentIs.{no-head, condition-head, guard-head, extent-is}
+use Rattle.statements.proofs.Planned.{Tells, entry-tells, next-is, expr-ends, holds-few, InsideExpr, PlannedExpr, PlannedGuard}
+use Rattle.statements.proofs.Planned.{InsideStmt, PlannedStmts, PlannedPairs, PlannedGuards, PlannedStmt}
 
 -- what is read from a statement's entry is what was put there
 entry-gives : (n m : ℕ) → n < 2 ^ 16 → m < 2 ^ 16
@@ -61,7 +69,7 @@ module _ (s : List ℕ) where
   nothing-in : (lo hi : ℕ) (p : List ℕ) → lo ≤ hi → hi ≤ length s → Leaves s lo hi p p (λ r. Unit {0})
   nothing-in lo hi p l m = record { forward = l; inside = m; long = refl; others = λ j out. refl; tells = λ r same. tt }
 
-  -- the same of a longer stretch; of a plan that is equal, and of what follows from what is told
+  -- the same of a longer stretch, and of what follows from what is told
   wider : {a b : ℕ} {p q : List ℕ} {P : List ℕ → Type 0} (lo hi : ℕ) → Leaves s a b p q P → lo ≤ a → b ≤ hi → hi ≤ length s
       → Leaves s lo hi p q P
   wider lo hi f l m in-table = record {
@@ -72,15 +80,14 @@ module _ (s : List ℕ) where
     tells = λ r same. f .tells r (λ j x y. same j (omega arith) (omega arith));
   }
 
-  follows : {lo hi : ℕ} {p q : List ℕ} {P Q : List ℕ → Type 0} (r : List ℕ) → r ≡ q → Leaves s lo hi p q P → ((x : List ℕ) → P x → Q x)
-      → Leaves s lo hi p r Q
-  follows {lo} {hi} {p} {q} {P} {Q} r is f so = subst (λ x. Leaves s lo hi p x Q) (sym is) (record {
+  follows : {lo hi : ℕ} {p q : List ℕ} {P Q : List ℕ → Type 0} → Leaves s lo hi p q P → ((x : List ℕ) → P x → Q x) → Leaves s lo hi p q Q
+  follows f so = record {
     forward = f .forward;
     inside = f .inside;
     long = f .long;
     others = λ j out. f .others j out;
     tells = λ x same. so x (f .tells x same);
-  })
+  }
 
   -- one part, and one behind it
   behind : {a b c d : ℕ} {p q r : List ℕ} {P Q : List ℕ → Type 0} → Leaves s a b p q P → Leaves s c d q r Q → b ≤ c
@@ -119,184 +126,235 @@ module _ (s : List ℕ) where
           );
         }
 
-    expr-own : {vs : List Site} {d i n : ℕ} {e : Expr} {p q : List ℕ} (a : ExprAt s vs d i e n) → d ≤ 32 → length p ≡ tableLimit
-        → Leaves s (suc i) n p q (λ r. InsideExpr s r a) → exprPlan d s i p ≡ putAt i (exprEntry d s i) q
-        → Leaves s i n p (exprPlan d s i p) (λ r. PlannedExpr s r a)
-    expr-own {d = d} {i = i} {p = p} a deep long f is =
-        let t = entry-is s short a deep in
-        follows (exprPlan d s i p) is
-        (own long (λ r e. rw e (record { next = t .next; needs = t .needs; holds = t .holds })) f) (λ r h. h)
+    -- what is measured of an expression: its entry tells of it
+    abbrev ExprMade : {vs : List Site} {d i n : ℕ} {e : Expr} → List ℕ → ExprAt s vs d i e n → Entered → Type 0
+    ExprMade {i = i} {n = n} {e = e} p a m = Tells (m .own) n e × Leaves s i n p (m .plan) (λ r. PlannedExpr s r a)
+
+    told : {x y n : ℕ} {e : Expr} → y ≡ x → Tells x n e → Tells y n e
+    told is t = rw is (record { next = t .next; needs = t .needs; holds = t .holds })
+
+    expr-own : {vs : List Site} {d i n x : ℕ} {e : Expr} {p q : List ℕ} (a : ExprAt s vs d i e n) → length p ≡ tableLimit → Tells x n e
+        → Leaves s (suc i) n p q (λ r. InsideExpr s r a) → exprEntered d s i p ≡ entered x (putAt i x q)
+        → ExprMade p a (exprEntered d s i p)
+    expr-own {p = p} a long t f is = subst (λ m. ExprMade p a m) (sym is) (t, own long (λ r e. told e t) f)
 
     -- operator, left and right, by where they stand
-    sides-turn : (d n m j : ℕ) (p : List ℕ) → nextOf s n ≡ m → nextIn (exprEntry d s m) ≡ j
-        → sidesPlanAt d s n p ≡ exprPlan d s j (exprPlan d s m p)
-    unfolding sidesPlanAt
+    sides-turn : (d n m j : ℕ) (p : List ℕ) → nextOf s n ≡ m → nextIn (exprEntered d s m p .own) ≡ j
+        → let l = exprEntered d s m p in
+        let r = exprEntered d s j (l .plan) in
+        sidesEntered d s n p ≡ entered (sidesEntry (l .own) (r .own)) (r .plan)
+    unfolding sidesEntered
     sides-turn d n m j p e f = rw (e, f)
 
     expr-planned : {vs : List Site} {d i n : ℕ} {e : Expr} (p : List ℕ) (a : ExprAt s vs d i e n) → d ≤ 32 → length p ≡ tableLimit
-        → Leaves s i n p (exprPlan d s i p) (λ r. PlannedExpr s r a)
-    unfolding exprPlan sidesPlanAt
+        → ExprMade p a (exprEntered d s i p)
+    unfolding exprEntered sidesEntered sidesEntry registers temporaries
     expr-planned {vs} p (constantAt {d = d} {at = i} {m = n} v k t) deep long =
         let a : ExprAt s vs (suc d) i (constant v) n = constantAt v k t in
-        expr-own a deep long (nothing-in (suc i) n p (expr-ends s a .0) (expr-ends s a .1)) (rw (k .value, k .is))
+        let ends = expr-ends s a in
+        expr-own a long (entry-tells n (constant v) (omega arith) (omega arith)) (nothing-in (suc i) n p (ends .0) (ends .1))
+        (rw (k .value, k .is, next-is s t))
     expr-planned {vs} p (variableAt {d = d} {at = i} {m = n} {x = y} k x) deep long =
         let a : ExprAt s vs (suc d) i (variable y) n = variableAt k x in
-        expr-own a deep long (nothing-in (suc i) n p (expr-ends s a .0) (expr-ends s a .1)) (rw (k .value, k .is))
+        let ends = expr-ends s a in
+        expr-own a long (entry-tells n (variable y) (omega arith) (omega arith)) (nothing-in (suc i) n p (ends .0) (ends .1))
+        (rw (k .value, k .is, next-is s (x .there)))
     expr-planned p (notAt {at = i} {m = n} k a) deep long =
-        let f = expr-planned p a (omega arith) long in
-        expr-own (notAt k a) deep long (wider (suc i) n f (k .ahead) (omega arith) (f .inside)) (rw (k .value, k .is))
-    expr-planned p (binaryAt {d = d} {at = i} {n = n} {m = m} {p = j} {q = z} k v a c) deep long =
-        let f = expr-planned p a (omega arith) long in
-        let g = expr-planned (exprPlan d s m p) c (omega arith) (f .long ∙ long) in
-        expr-own (binaryAt k v a c) deep long
+        let (t, f) = expr-planned p a (omega arith) long in
+        expr-own (notAt k a) long (record { next = t .next; needs = t .needs; holds = t .holds })
+        (wider (suc i) n f (k .ahead) (omega arith) (f .inside)) (rw (k .value, k .is))
+    expr-planned p (binaryAt {d = d} {at = i} {n = n} {m = m} {p = j} {q = z} {op = op} {l = l} {r = r} k v a c) deep long =
+        let left = exprEntered d s m p in
+        let (x, f) = expr-planned p a (omega arith) long in
+        let (y, g) = expr-planned (left .plan) c (omega arith) (f .long ∙ long) in
+        let entry = sidesEntry (left .own) (exprEntered d s j (left .plan) .own) in
+        let few = sides-hold (order l r) (temporaries l) (temporaries r) in
+        let own-told = entry-tells z (binary op l r) (omega (arith, expr-ends s c .1)) (omega (arith, few, holds-few s a, holds-few s c)) in
+        expr-own {x = entry} (binaryAt k v a c) long (rw (x .needs, x .holds, y .next, y .needs, y .holds) own-told)
         (wider (suc i) z (behind f g (omega arith)) (omega (arith, k .ahead, v .there .ahead)) (omega arith) (g .inside))
         (rw (k .value, k .is)
-        (ap (putAt i (exprEntry (suc d) s i)) (sides-turn d n m j p (next-is s (v .there)) (entry-is s short a (omega arith) .next))))
+        (ap (λ m. entered (m .own) (putAt i (m .own) (m .plan))) (sides-turn d n m j p (next-is s (v .there)) (x .next))))
 
-    stmt-own : {w : Scope} {d i n : ℕ} {b : Stmt} {p q : List ℕ} (a : StmtAt s d w i b n) → d ≤ 32 → length p ≡ tableLimit
-        → Leaves s (suc i) n p q (λ r. InsideStmt s r a) → stmtPlan d s i p ≡ putAt i (extentEntry (stmtExtent d s i)) q
-        → Leaves s i n p (stmtPlan d s i p) (λ r. PlannedStmt s r a)
-    unfolding extentIn
-    stmt-own {d = d} {i = i} {n = n} {b = b} {p = p} a deep long f is =
-        let ends = f .inside in
-        follows (stmtPlan d s i p) is
-        (own long (λ r e l. rw (e, extent-is s short a deep l) (entry-gives n (need b) (omega arith) (omega arith))) f) (λ r h. h)
+    -- what is measured of a part: its extent
+    abbrev Made : (i n x : ℕ) → List ℕ → (List ℕ → Type 0) → Measured → Type 0
+    Made i n x p P m = (m .extent ≡ extended n x) × Leaves s i n p (m .plan) P
+
+    whole-made : {vs : List Site} {d i n : ℕ} {e : Expr} (r : Role) (p : List ℕ) (a : ExprAt s vs d i e n) → d ≤ 32 → length p ≡ tableLimit
+        → Made i n (asked r (temporaries e)) p (λ q. PlannedExpr s q a) (wholeMeasured r d s i p)
+    unfolding wholeMeasured
+    whole-made r p a deep long = let (t, f) = expr-planned p a deep long in (rw (t .next, t .holds), f)
 
     -- what stands before the statement of a part
-    condition-planned : {vs : List Site} {d i n : ℕ} {e : Expr} (p : List ℕ) (a : ExprAt s vs d i e n) → d ≤ 32 → length p ≡ tableLimit
-        → Leaves s i n p (headPlan Condition d s i p) (λ r. PlannedExpr s r a)
-    unfolding headPlan
-    condition-planned p a deep long = expr-planned p a deep long
+    condition-made : {vs : List Site} {d i n : ℕ} {e : Expr} (p : List ℕ) (a : ExprAt s vs d i e n) → d ≤ 32 → length p ≡ tableLimit
+        → Made i n (temporaries e + 2) p (λ q. PlannedExpr s q a) (headMeasured Condition d s i p)
+    unfolding headMeasured asked
+    condition-made p a deep long = whole-made ForValue p a deep long
 
-    guard-planned : {w : Scope} {d i n : ℕ} {g : Guard} (p : List ℕ) (a : GuardAt s d w i g n) → d ≤ 32 → length p ≡ tableLimit
-        → Leaves s i n p (headPlan GuardHead d s i p) (λ r. PlannedGuard s r a)
-    unfolding headPlan
-    guard-planned {d = d} {i = i} {n = n} p (inputGuardAt {n = j} k e c x) deep long =
-        let f = expr-planned p e deep long in
-        follows (headPlan GuardHead d s i p) (ap (λ (x : Value). exprPlan d s (x .next) p) (k .value))
-        (wider i n f (omega (arith, k .ahead)) (omega (arith, c .there .ahead, x .there .ahead)) (x .there .inside)) (λ r h. h)
-    guard-planned {d = d} {i = i} {n = n} p (skipGuardAt {n = j} k e) deep long =
-        let f = expr-planned p e deep long in
-        follows (headPlan GuardHead d s i p) (ap (λ (x : Value). exprPlan d s (x .next) p) (k .value))
-        (wider i n f (omega (arith, k .ahead)) (omega arith) (f .inside)) (λ r h. h)
+    guard-made : {w : Scope} {d i n : ℕ} {g : Guard} (p : List ℕ) (a : GuardAt s d w i g n) → d ≤ 32 → length p ≡ tableLimit
+        → Made i n (guardWords (temporaries (condition g))) p (λ q. PlannedGuard s q a) (headMeasured GuardHead d s i p)
+    unfolding headMeasured guardMeasured asked
+    guard-made {i = i} {n = n} p (inputGuardAt k e c x) deep long =
+        let (t, f) = whole-made ForGuard p e deep long in
+        rw (k .value, k .is) (
+          rw (t, next-is s (c .there), next-is s (x .there)),
+          wider i n f (omega (arith, k .ahead)) (omega (arith, c .there .ahead, x .there .ahead)) (x .there .inside),
+        )
+    guard-made {i = i} {n = n} p (skipGuardAt k e) deep long =
+        let (t, f) = whole-made ForGuard p e deep long in
+        rw (k .value, k .is) (t, wider i n f (omega (arith, k .ahead)) (omega arith) (f .inside))
 
-    -- so many parts in front of others, each with its head and its statement
-    abbrev partsBy : (k : ℕ) → Head → (d i : ℕ) → List ℕ → List ℕ
-    partsBy k h d i p = partsPlan k h (λ j. stmtExtent d s j) (λ j q. stmtPlan d s j q) d s i p
+    -- a statement by what is in it: its own entry is put at its first place
+    stmt-own : {w : Scope} {d i n : ℕ} {b : Stmt} {p : List ℕ} (m : Measured) (a : StmtAt s (suc d) w i b n) → length p ≡ tableLimit
+        → need b ≤ wordLimit → Made (suc i) n (need b) p (λ r. InsideStmt s r a) m
+        → (let k = valueAt s i in insideMeasured (stmtKind (k .value)) d s (k .next) p) ≡ m
+        → Made i n (need b) p (λ r. PlannedStmt s r a) (stmtMeasured (suc d) s i p)
+    unfolding stmtMeasured insideMeasured extentIn
+    stmt-own {i = i} {n = n} {b = b} {p = p} m a long l (e, f) is =
+        let ends = f .inside in
+        subst (λ x. Made i n (need b) p (λ r. PlannedStmt s r a) (measured (x .extent) (putAt i (extentEntry (x .extent)) (x .plan))))
+        (sym is) (e, own long (λ r x few. rw (x, e) (entry-gives n (need b) (omega arith) (omega arith))) f)
 
-    part-turn : (k : ℕ) (e : Head) (d i j n h x : ℕ) (p : List ℕ) → headExtent e d s i ≡ extended j h → stmtExtent d s j ≡ extended n x
-        → partsBy (suc k) e d i p ≡ partsBy k e d n (stmtPlan d s j (headPlan e d s i p))
-    unfolding partsPlan
-    part-turn k e d i j n h x p f g = rw (f, g)
+    -- so many parts, behind some that need x words
+    abbrev partsBy : (k : ℕ) → Head → Bool → (d i x : ℕ) → List ℕ → Measured
+    partsBy k h b d i x p = partsMeasured k h b (λ j q. stmtMeasured d s j q) d s (measured (extended i x) p)
 
-    bare-turn : (k d i n x : ℕ) (p : List ℕ) → stmtExtent d s i ≡ extended n x
-        → partsBy (suc k) Nothing d i p ≡ partsBy k Nothing d n (stmtPlan d s i p)
-    unfolding headPlan
-    bare-turn k d i n x p g = part-turn k Nothing d i i n 0 x p (no-head s (λ j. stmtExtent d s j) d i) g
+    part-turn : (k : ℕ) (h : Head) (b : Bool) (d i j n x y z : ℕ) (p : List ℕ) → let q = headMeasured h d s i p in
+        q .extent ≡ extended j y → let r = stmtMeasured d s j (q .plan) in
+        r .extent ≡ extended n z → partsBy (suc k) h b d i x p ≡ partsBy k h b d n (joined b (max x y) z) (r .plan)
+    unfolding partsMeasured
+    part-turn k h b d i j n x y z p f g = rw (f, g)
 
-    -- no branch needs more than all
-    most-sum : (ss : Stmts) → sumNeed ss ≤ wordLimit → mostNeed ss ≤ wordLimit
+    -- names around a body
+    names-turn : (k n x : ℕ) {e : Extent} → e ≡ extended n x → k + x ≤ wordLimit
+        → extended (e .next) (low (k + e .need)) ≡ extended n (k + x)
+    names-turn k n x is l = let sum : low (k + x) ≡ k + x = mod-eq-of-lt (omega arith) in rw (is, sum)
+
+    -- what statements need behind some that need x words: side by side the sum, else the most
+    abbrev total : Bool → ℕ → Stmts → ℕ
+    total b x ss = cond b (x + sumNeed ss) (max x (mostNeed ss))
+
+    total-none : (b : Bool) (x : ℕ) → x ≡ total b x noStmt
     unfolding mostNeed
-    most-sum noStmt l = omega arith
-    most-sum (stmt b ss) l = let r = most-sum ss (omega arith) in omega arith
+    total-none true x = omega arith
+    total-none false x = omega arith
+
+    total-turn : (b : Bool) (x : ℕ) (y : Stmt) (ss : Stmts) → total b x (stmt y ss) ≤ wordLimit
+        → (need y ≤ wordLimit) × (total b (joined b (max x 0) (need y)) ss ≡ total b x (stmt y ss))
+    unfolding mostNeed
+    total-turn true x y ss l =
+        let sum : low (max x 0 + need y) ≡ x + need y = mod-eq-of-lt (omega arith) ∙ omega arith in (omega arith, rw sum (omega arith))
+    total-turn false x y ss l = (omega arith, omega arith)
 
     mutual
-      unfolding stmtPlan countIn simplePlan partsPlan InsideStmt need
+      unfolding insideMeasured simpleMeasured headMeasured partsMeasured countIn asked InsideStmt need
 
       stmt-planned : {w : Scope} {d i n : ℕ} {b : Stmt} (p : List ℕ) (a : StmtAt s d w i b n) → d ≤ 32 → length p ≡ tableLimit
-          → need b ≤ wordLimit → Leaves s i n p (stmtPlan d s i p) (λ r. PlannedStmt s r a)
+          → need b ≤ wordLimit → Made i n (need b) p (λ r. PlannedStmt s r a) (stmtMeasured d s i p)
       stmt-planned {w = w} p (skipAt {d = d} {at = i} {n = n} k) deep long l =
           let a : StmtAt s (suc d) w i SKIP n = skipAt k in
-          stmt-own a deep long (nothing-in (suc i) n p (k .ahead) (k .inside)) (rw (k .value, k .is))
+          stmt-own (measured (extended n 2) p) a long l (refl, nothing-in (suc i) n p (k .ahead) (k .inside)) (rw (k .value, k .is))
       stmt-planned {w = w} p (stopAt {d = d} {at = i} {n = n} k) deep long l =
           let a : StmtAt s (suc d) w i STOP n = stopAt k in
-          stmt-own a deep long (nothing-in (suc i) n p (k .ahead) (k .inside)) (rw (k .value, k .is))
-      stmt-planned p (assignAt {at = i} {p = n} {w = w} k x e) deep long l =
-          let f = expr-planned p e (omega arith) long in
-          stmt-own (assignAt {w = w} k x e) deep long
-          (wider (suc i) n f (omega (arith, k .ahead, x .there .ahead)) (omega arith) (f .inside))
+          stmt-own (measured (extended n 2) p) a long l (refl, nothing-in (suc i) n p (k .ahead) (k .inside)) (rw (k .value, k .is))
+      stmt-planned p (assignAt {d = d} {at = i} {m = j} {p = n} {w = w} k x e) deep long l =
+          let (t, f) = whole-made ForValue p e (omega arith) long in
+          stmt-own (wholeMeasured ForValue d s j p) (assignAt {w = w} k x e) long l
+          (t, wider (suc i) n f (omega (arith, k .ahead, x .there .ahead)) (omega arith) (f .inside))
           (rw (k .value, k .is, next-is s (x .there)))
       stmt-planned {w = w} p (inputAt {d = d} {at = i} {p = n} {c = u} {x = v} k c x) deep long l =
           let a : StmtAt s (suc d) w i (input u v) n = inputAt k c x in
-          stmt-own a deep long
-          (nothing-in (suc i) n p (omega (arith, k .ahead, c .there .ahead, x .there .ahead)) (x .there .inside))
-          (rw (k .value, k .is))
-      stmt-planned p (outputAt {at = i} {p = n} {w = w} k c e) deep long l =
-          let f = expr-planned p e (omega arith) long in
-          stmt-own (outputAt {w = w} k c e) deep long
-          (wider (suc i) n f (omega (arith, k .ahead, c .there .ahead)) (omega arith) (f .inside))
+          stmt-own (measured (extended n 3) p) a long l
+          (refl, nothing-in (suc i) n p (omega (arith, k .ahead, c .there .ahead, x .there .ahead)) (x .there .inside))
+          (rw (k .value, k .is, next-is s (c .there), next-is s (x .there)))
+      stmt-planned p (outputAt {d = d} {at = i} {m = j} {p = n} {w = w} k c e) deep long l =
+          let (t, f) = whole-made ForOutput p e (omega arith) long in
+          stmt-own (wholeMeasured ForOutput d s j p) (outputAt {w = w} k c e) long l
+          (t, wider (suc i) n f (omega (arith, k .ahead, c .there .ahead)) (omega arith) (f .inside))
           (rw (k .value, k .is, next-is s (c .there)))
-      stmt-planned p (varAt {at = i} {p = n} {w = w} k c a) deep long l =
-          let f = stmt-planned p a (omega arith) long (omega arith) in
-          stmt-own (varAt {w = w} k c a) deep long
-          (wider (suc i) n f (omega (arith, k .ahead, c .there .ahead)) (omega arith) (f .inside))
-          (rw (k .value, k .is, next-is s (c .there)))
-      stmt-planned p (chanAt {at = i} {p = n} {w = w} k c a) deep long l =
-          let f = stmt-planned p a (omega arith) long (omega arith) in
-          stmt-own (chanAt {w = w} k c a) deep long
-          (wider (suc i) n f (omega (arith, k .ahead, c .there .ahead)) (omega arith) (f .inside))
-          (rw (k .value, k .is, next-is s (c .there)))
-      stmt-planned p (seqAt {at = i} {p = n} k c a) deep long l =
-          let f = seq-planned p a (omega arith) long (omega arith) (c .there .inside) in
-          stmt-own (seqAt k c a) deep long
-          (wider (suc i) n f (omega (arith, k .ahead, c .there .ahead)) (omega arith) (f .inside))
+      stmt-planned p (varAt {d = d} {at = i} {m = j} {p = n} {k = q} {w = w} {b = b} k c a) deep long l =
+          let (t, f) = stmt-planned p a (omega arith) long (omega arith) in
+          let m = stmtMeasured d s j p in
+          stmt-own (measured (extended (m .extent .next) (low (q + m .extent .need))) (m .plan)) (varAt {w = w} k c a) long l
+          (names-turn q n (need b) t l, wider (suc i) n f (omega (arith, k .ahead, c .there .ahead)) (omega arith) (f .inside))
+          (rw (k .value, k .is, c .there .value))
+      stmt-planned p (chanAt {d = d} {at = i} {m = j} {p = n} {k = q} {w = w} {b = b} k c a) deep long l =
+          let (t, f) = stmt-planned p a (omega arith) long (omega arith) in
+          let m = stmtMeasured d s j p in
+          stmt-own (measured (extended (m .extent .next) (low (q + m .extent .need))) (m .plan)) (chanAt {w = w} k c a) long l
+          (names-turn q n (need b) t l, wider (suc i) n f (omega (arith, k .ahead, c .there .ahead)) (omega arith) (f .inside))
+          (rw (k .value, k .is, c .there .value))
+      stmt-planned p (seqAt {d = d} {at = i} {m = j} {p = n} {k = q} k c a) deep long l =
+          let (t, f) = stmts-planned false 2 p a (omega arith) long l (c .there .inside) in
+          stmt-own (partsBy q Nothing false d j 2 p) (seqAt k c a) long l
+          (t, wider (suc i) n f (omega (arith, k .ahead, c .there .ahead)) (omega arith) (f .inside))
           (rw (k .value, k .is, c .there .value, c .fits))
-      stmt-planned p (parAt {at = i} {p = n} {ss = ss} k c a) deep long l =
-          let f = seq-planned p a (omega arith) long (most-sum ss (omega arith)) (c .there .inside) in
-          stmt-own (parAt k c a) deep long
-          (wider (suc i) n f (omega (arith, k .ahead, c .there .ahead)) (omega arith) (f .inside))
+      stmt-planned p (parAt {d = d} {at = i} {m = j} {p = n} {k = q} k c a) deep long l =
+          let (t, f) = stmts-planned true 2 p a (omega arith) long l (c .there .inside) in
+          stmt-own (partsBy q Nothing true d j 2 p) (parAt k c a) long l
+          (t, wider (suc i) n f (omega (arith, k .ahead, c .there .ahead)) (omega arith) (f .inside))
           (rw (k .value, k .is, c .there .value, c .fits))
-      stmt-planned p (ifAt {at = i} {p = n} k c a) deep long l =
-          let f = pairs-planned p a (omega arith) long (omega arith) (c .there .inside) in
-          stmt-own (ifAt k c a) deep long
-          (wider (suc i) n f (omega (arith, k .ahead, c .there .ahead)) (omega arith) (f .inside))
+      stmt-planned p (ifAt {d = d} {at = i} {m = j} {p = n} {k = q} k c a) deep long l =
+          let (t, f) = pairs-planned 2 p a (omega arith) long (omega arith) (c .there .inside) in
+          stmt-own (partsBy q Condition false d j 2 p) (ifAt k c a) long l
+          (t, wider (suc i) n f (omega (arith, k .ahead, c .there .ahead)) (omega arith) (f .inside))
           (rw (k .value, k .is, c .there .value, c .fits))
       stmt-planned p (whileAt {d = d} {at = i} {n = j} {m = m} {p = n} {e = t} {b = b} k e a) deep long l =
-          let f = condition-planned p e (omega arith) long in
-          let g = stmt-planned (headPlan Condition d s j p) a (omega arith) (f .long ∙ long) (omega arith) in
-          stmt-own (whileAt k e a) deep long
-          (wider (suc i) n (behind f g (omega arith)) (k .ahead) (omega arith) (g .inside))
-          (rw (k .value, k .is) (ap (putAt i (extentEntry (stmtExtent (suc d) s i)))
-          (part-turn 0 Condition d j m n (temporaries t + 2) (need b) p (condition-head s short e (omega arith))
-          (extent-is s short a (omega arith) (omega arith)))))
-      stmt-planned p (altAt {at = i} {p = n} k c a) deep long l =
-          let f = guards-planned p a (omega arith) long (omega arith) (c .there .inside) in
-          stmt-own (altAt k c a) deep long
-          (wider (suc i) n f (omega (arith, k .ahead, c .there .ahead)) (omega arith) (f .inside))
+          let (x, f) = condition-made p e (omega arith) long in
+          let (y, g) = stmt-planned (headMeasured Condition d s j p .plan) a (omega arith) (f .long ∙ long) (omega arith) in
+          stmt-own (partsBy 1 Condition false d j 2 p) (whileAt k e a) long l
+          (subst (λ m. Made (suc i) n (need (WHILE t b)) p (λ r. InsideStmt s r (whileAt k e a)) m)
+          (sym (part-turn 0 Condition false d j m n 2 (temporaries t + 2) (need b) p x y))
+          (ap (extended n) (omega arith), wider (suc i) n (behind f g (omega arith)) (k .ahead) (omega arith) (g .inside)))
+          (rw (k .value, k .is))
+      stmt-planned p (altAt {d = d} {at = i} {m = j} {p = n} {k = q} k c a) deep long l =
+          let (t, f) = guards-planned 4 p a (omega arith) long (omega arith) (c .there .inside) in
+          stmt-own (partsBy q GuardHead false d j 4 p) (altAt k c a) long l
+          (t, wider (suc i) n f (omega (arith, k .ahead, c .there .ahead)) (omega arith) (f .inside))
           (rw (k .value, k .is, c .there .value, c .fits))
 
-      seq-planned : {w : Scope} {d k i n : ℕ} {ss : Stmts} (p : List ℕ) (a : StmtsAt s d w k i ss n) → d ≤ 32 → length p ≡ tableLimit
-          → mostNeed ss ≤ wordLimit → i ≤ length s → Leaves s i n p (partsBy k Nothing d i p) (λ r. PlannedStmts s r a)
-      seq-planned p noStmtAt deep long l in-table = nothing-in _ _ p (omega arith) in-table
-      seq-planned {d = d} p (stmtsAt {k = k} {at = i} {n = j} {b = b} a c) deep long l in-table =
-          let f = stmt-planned p a deep long (omega arith) in
-          let g = seq-planned (stmtPlan d s i p) c deep (f .long ∙ long) (omega arith) (f .inside) in
-          follows _ (bare-turn k d i j (need b) p (extent-is s short a deep (omega arith))) (behind f g (omega arith)) (λ r h. h)
+      stmts-planned : {w : Scope} {d k i n : ℕ} {ss : Stmts} (b : Bool) (x : ℕ) (p : List ℕ) (a : StmtsAt s d w k i ss n) → d ≤ 32
+          → length p ≡ tableLimit → total b x ss ≤ wordLimit → i ≤ length s
+          → Made i n (total b x ss) p (λ r. PlannedStmts s r a) (partsBy k Nothing b d i x p)
+      stmts-planned b x p noStmtAt deep long l in-table =
+          (ap (extended _) (total-none b x), nothing-in _ _ p (omega arith) in-table)
+      stmts-planned {d = d} b x p (stmtsAt {k = k} {at = i} {n = j} {m = n} {b = y} {ss = ss} a c) deep long l in-table =
+          let (few, sum) = total-turn b x y ss l in
+          let (e, f) = stmt-planned p a deep long few in
+          let (g, h) = stmts-planned b (joined b (max x 0) (need y)) (stmtMeasured d s i p .plan) c deep (f .long ∙ long) (omega arith)
+          (f .inside) in
+          subst (λ m. Made i n (total b x (stmt y ss)) p (λ r. PlannedStmts s r (stmtsAt a c)) m)
+          (sym (part-turn k Nothing b d i i j x 0 (need y) p refl e)) (g ∙ ap (extended n) sum, behind f h (omega arith))
 
-      pairs-planned : {w : Scope} {d k i n : ℕ} {ps : Pairs} (p : List ℕ) (a : PairsAt s d w k i ps n) → d ≤ 32 → length p ≡ tableLimit
-          → pairNeed ps ≤ wordLimit → i ≤ length s → Leaves s i n p (partsBy k Condition d i p) (λ r. PlannedPairs s r a)
-      pairs-planned p noPairAt deep long l in-table = nothing-in _ _ p (omega arith) in-table
-      pairs-planned {d = d} p (pairAt {k = k} {at = i} {n = j} {m = m} {e = e} {b = b} x a c) deep long l in-table =
-          let f = condition-planned p x deep long in
-          let q = headPlan Condition d s i p in
-          let g = stmt-planned q a deep (f .long ∙ long) (omega arith) in
-          let v = pairs-planned (stmtPlan d s j q) c deep (g .long ∙ f .long ∙ long) (omega arith) (g .inside) in
-          follows _ (part-turn k Condition d i j m (temporaries e + 2) (need b) p (condition-head s short x deep)
-          (extent-is s short a deep (omega arith)))
-          (behind f (behind g v (omega arith)) (omega arith)) (λ r h. (h .0, h .1 .0, h .1 .1))
+      pairs-planned : {w : Scope} {d k i n : ℕ} {ps : Pairs} (x : ℕ) (p : List ℕ) (a : PairsAt s d w k i ps n) → d ≤ 32
+          → length p ≡ tableLimit → pairNeed ps ≤ wordLimit → i ≤ length s
+          → Made i n (max x (pairNeed ps)) p (λ r. PlannedPairs s r a) (partsBy k Condition false d i x p)
+      pairs-planned x p noPairAt deep long l in-table = (ap (extended _) (omega arith), nothing-in _ _ p (omega arith) in-table)
+      pairs-planned {d = d} x p (pairAt {k = k} {at = i} {n = j} {m = m} {p = n} {e = e} {b = b} {ps = ps} t a c) deep long l in-table =
+          let q = headMeasured Condition d s i p .plan in
+          let words = temporaries e + 2 in
+          let (y, f) = condition-made p t deep long in
+          let (z, g) = stmt-planned q a deep (f .long ∙ long) (omega arith) in
+          let (u, v) = pairs-planned (max (max x words) (need b)) (stmtMeasured d s j q .plan) c deep (g .long ∙ f .long ∙ long)
+          (omega arith) (g .inside) in
+          subst (λ r. Made i n (max x (max words (max (need b) (pairNeed ps)))) p (λ r. PlannedPairs s r (pairAt t a c)) r)
+          (sym (part-turn k Condition false d i j m x words (need b) p y z))
+          (u ∙ ap (extended n) (omega arith), follows (behind f (behind g v (omega arith)) (omega arith)) (λ r h. (h .0, h .1 .0, h .1 .1)))
 
-      guards-planned : {w : Scope} {d k i n : ℕ} {gs : Guards} (p : List ℕ) (a : GuardsAt s d w k i gs n) → d ≤ 32 → length p ≡ tableLimit
-          → guardNeed gs ≤ wordLimit → i ≤ length s → Leaves s i n p (partsBy k GuardHead d i p) (λ r. PlannedGuards s r a)
-      guards-planned p noGuardAt deep long l in-table = nothing-in _ _ p (omega arith) in-table
-      guards-planned {d = d} p (guardsAt {k = k} {at = i} {n = j} {m = m} {g = e} {b = b} x a c) deep long l in-table =
-          let f = guard-planned p x deep long in
-          let q = headPlan GuardHead d s i p in
-          let g = stmt-planned q a deep (f .long ∙ long) (omega arith) in
-          let v = guards-planned (stmtPlan d s j q) c deep (g .long ∙ f .long ∙ long) (omega arith) (g .inside) in
-          follows _ (part-turn k GuardHead d i j m (guardWords (temporaries (condition e))) (need b) p (guard-head s short x deep)
-          (extent-is s short a deep (omega arith)))
-          (behind f (behind g v (omega arith)) (omega arith)) (λ r h. (h .0, h .1 .0, h .1 .1))
+      guards-planned : {w : Scope} {d k i n : ℕ} {gs : Guards} (x : ℕ) (p : List ℕ) (a : GuardsAt s d w k i gs n) → d ≤ 32
+          → length p ≡ tableLimit → guardNeed gs ≤ wordLimit → i ≤ length s
+          → Made i n (max x (guardNeed gs)) p (λ r. PlannedGuards s r a) (partsBy k GuardHead false d i x p)
+      guards-planned x p noGuardAt deep long l in-table = (ap (extended _) (omega arith), nothing-in _ _ p (omega arith) in-table)
+      guards-planned {d = d} x p (guardsAt {k = k} {at = i} {n = j} {m = m} {p = n} {g = e} {b = b} {gs = gs} t a c) deep long l in-table =
+          let q = headMeasured GuardHead d s i p .plan in
+          let words = guardWords (temporaries (condition e)) in
+          let (y, f) = guard-made p t deep long in
+          let (z, g) = stmt-planned q a deep (f .long ∙ long) (omega arith) in
+          let (u, v) = guards-planned (max (max x words) (need b)) (stmtMeasured d s j q .plan) c deep (g .long ∙ f .long ∙ long)
+          (omega arith) (g .inside) in
+          subst (λ r. Made i n (max x (max words (max (need b) (guardNeed gs)))) p (λ r. PlannedGuards s r (guardsAt t a c)) r)
+          (sym (part-turn k GuardHead false d i j m x words (need b) p y z))
+          (u ∙ ap (extended n) (omega arith), follows (behind f (behind g v (omega arith)) (omega arith)) (λ r h. (h .0, h .1 .0, h .1 .1)))
 
     pub plan-of : {w : Scope} {d i n : ℕ} {b : Stmt} (p : List ℕ) (a : StmtAt s d w i b n) → d ≤ 32 → length p ≡ tableLimit
-        → need b ≤ wordLimit → PlannedStmt s (stmtPlan d s i p) a
-    plan-of p a deep long l = stmt-planned p a deep long l .tells _ (λ j x y. refl)
+        → need b ≤ wordLimit → PlannedStmt s (stmtMeasured d s i p .plan) a
+    plan-of p a deep long l = stmt-planned p a deep long l .1 .tells _ (λ j x y. refl)

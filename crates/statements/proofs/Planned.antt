@@ -5,13 +5,13 @@ use native.Mathlib.Omega.{arith}
 use mathlib.Core.Path.{_≡_, ap}
 use mathlib.Core.List.{List}
 use lib.ListN.{length}
-use Rattle.model.specs.Limits.{wordLimit, tableLimit}
-use Rattle.model.specs.Syntax.{Site, Expr, constant, variable, binary, Stmt, Stmts, Pairs, Guard, Guards}
+use Rattle.model.specs.Limits.{wordLimit}
+use Rattle.model.specs.Syntax.{Site, Expr, Stmt, Stmts, Pairs, Guard, Guards}
 use Rattle.model.specs.Reader.{Scope}
 use Rattle.model.specs.Counts.{order, registers, temporaries, need}
 use Rattle.model.proofs.Tables.Needs.{registers-three, sides-hold}
 use Rattle.numbers.specs.declared.Value.{Value}
-use Rattle.plan.specs.Entries.{nextOf, entry, nextIn, registersIn, storedIn, planAt, sidesEntry, exprEntry}
+use Rattle.plan.specs.Entries.{nextOf, entry, nextIn, registersIn, storedIn, planAt}
 use Rattle.plan.specs.Extents.{extended, extentIn}
 use Rattle.statements.proofs.Spelled.{NumeralAt, ExprAt, constantAt, variableAt, notAt, binaryAt, StmtAt, skipAt, stopAt, assignAt}
 use Rattle.statements.proofs.Spelled.{inputAt, outputAt, varAt, chanAt, seqAt, parAt, ifAt, whileAt, altAt, StmtsAt, noStmtAt}
@@ -24,7 +24,7 @@ pub record Tells (x n : ℕ) (e : Expr) : Type 0 where
   pub needs : registersIn x ≡ registers e
   pub holds : storedIn x ≡ temporaries e
 
-entry-tells : (n : ℕ) (e : Expr) → n < 2 ^ 22 → temporaries e ≤ 255 → Tells (entry n (registers e) (temporaries e)) n e
+pub entry-tells : (n : ℕ) (e : Expr) → n < 2 ^ 22 → temporaries e ≤ 255 → Tells (entry n (registers e) (temporaries e)) n e
 unfolding entry nextIn registersIn storedIn
 entry-tells n e l m =
     let few = registers-three e in
@@ -49,24 +49,6 @@ module _ (s : List ℕ) where
   holds-few (notAt k a) = omega (arith, holds-few a)
   holds-few (binaryAt {l = l} {r = r} k v a c) =
       omega (arith, sides-hold (order l r) (temporaries l) (temporaries r), holds-few a, holds-few c)
-
-  -- the entry of an expression tells of it
-  pub entry-is : {vs : List Site} {d i n : ℕ} {e : Expr} → length s ≤ tableLimit → ExprAt s vs d i e n → d ≤ 32
-      → Tells (exprEntry d s i) n e
-  unfolding exprEntry sidesEntry registers temporaries
-  entry-is short (constantAt v k t) l =
-      rw (k .value, k .is, next-is t) (entry-tells _ (constant v) (omega (arith, t .inside)) (omega arith))
-  entry-is short (variableAt {x = x} k a) l =
-      rw (k .value, k .is, next-is (a .there)) (entry-tells _ (variable x) (omega (arith, a .there .inside)) (omega arith))
-  entry-is short (notAt k a) l =
-      let t = entry-is short a (omega arith) in
-      rw (k .value, k .is) (record { next = t .next; needs = t .needs; holds = t .holds })
-  entry-is short (binaryAt {op = op} {l = l} {r = r} k v a c) m =
-      let x = entry-is short a (omega arith) in
-      let y = entry-is short c (omega arith) in
-      rw (k .value, k .is, next-is (v .there), x .next, x .needs, x .holds, y .next, y .needs, y .holds)
-      (entry-tells _ (binary op l r) (omega (arith, expr-ends c .1))
-      (omega (arith, sides-hold (order l r) (temporaries l) (temporaries r), holds-few a, holds-few c)))
 
   module _ (plan : List ℕ) where
     -- an expression's own entry tells of it, and so do those of the expressions in it

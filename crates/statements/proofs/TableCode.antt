@@ -2,13 +2,13 @@
 use Prim.Native.Nat.{ℕ, _+_, _-_, _≤_}
 use native.Mathlib.Omega.{arith}
 use native.Mathlib.Nat.{mod-eq-of-lt, zero-add}
-use mathlib.Core.Path.{_≡_, refl, sym, _∙_}
+use mathlib.Core.Path.{_≡_, refl, sym, ap, subst, _∙_}
 use mathlib.Core.Logic.{⊎-elim}
 use mathlib.Core.List.{List, _++_}
 use mathlib.Core.Option.{some}
 use lib.ListN.{length, length-append, length-replicate, replicate, getElem?}
 use lib.Seq.{sets}
-use Rattle.model.specs.Limits.{wordLimit, tableLimit}
+use Rattle.model.specs.Limits.{wordLimit, tableLimit, depthLimit}
 use Rattle.model.specs.Word.{low}
 use Rattle.model.specs.Syntax.{inputOf, outputOf, Program}
 use Rattle.model.specs.Reader.{Read, parsed, numbered, readProgram, program, refused, readTable}
@@ -28,7 +28,8 @@ use Rattle.model.proofs.Quiet.Setting.{getElem-inside as inside}
 use Rattle.table.proofs.SameItems.{Bytes}
 use Rattle.table.proofs.SameSimple.{numbered-at, lookup-append, length-numbered}
 use Rattle.assembler.specs.Entries.{entriesOf}
-use Rattle.plan.specs.Extents.{tablePlan, planOf}
+use Rattle.plan.specs.Entries.{nextOf}
+use Rattle.plan.specs.Extents.{stmtMeasured, tablePlan, planOf}
 use Rattle.expressions.specs.Emits.{at}
 use Rattle.expressions.specs.Names.{wordsFrom, declaring}
 use Rattle.expressions.specs.Exprs.{written}
@@ -113,7 +114,8 @@ plan-told : (s : List ℕ) (p : Program) → ReadWhole s p → (q : ProgramAt s 
     → PlannedStmt s (planOf s) (q .body)
 unfolding tablePlan
 plan-told s p whole q few =
-    rw (next-is s (q .inputs .there), next-is s (q .outputs .there))
+    let place = ap (nextOf s) (next-is s (q .inputs .there)) ∙ next-is s (q .outputs .there) in
+    subst (λ i. PlannedStmt s (stmtMeasured depthLimit s i (replicate tableLimit 0) .plan) (q .body)) (sym place)
     (plan-of s (whole .short) (replicate tableLimit 0) (q .body) (omega arith) (length-replicate {A = ℕ} tableLimit 0) few)
 
 -- the statement's code

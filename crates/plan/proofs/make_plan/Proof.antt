@@ -7,8 +7,7 @@ use Rattle.plan.specs.Extents.{tablePlan}
 returns : tie.Need-returns
 unfolding tablePlan
 returns c =
-    let sk = c .before .before in
-    simp (← sk .before .skip .ensures, ← sk .skip2 .ensures) (c .measure-stmt .ensures .1)
+    let sk = c .before .before in rw (tablePlan, ← sk .before .skip .ensures, ← sk .skip2 .ensures, ← c .measure-stmt .ensures)
 
 pub make-plan-spec : {M : Type 1} → statement M
 make-plan-spec = tie.close (tie.spec (λ c κs. search needs) (λ c κs. search needs) (λ c κs. search needs) returns)

@@ -1,7 +1,7 @@
 -- `plan::expr::measure_expr` and `plan::expr::measure_sides` meet their contracts; the measure is twice the depth left, for `measure_sides`
 -- one more. Assumes nothing.
 use Rattle.plan.proofs.expr as cycle
-use Prim.Native.Nat.{ℕ, zero, suc, _+_, _-_, _*_, _<_}
+use Prim.Native.Nat.{ℕ, suc, _+_, _-_, _*_, _<_}
 use borrow.Fn.Kinds.{In}
 use borrow.Fn.PlainCycle.{Measures, is, falls, and}
 use Rattle.plan.proofs.expr.measure_expr.Reads as measure-expr
@@ -23,45 +23,21 @@ use borrow.Author.Needs.{needs}
 use native.Mathlib.Omega.{arith}
 use mathlib.Core.List.{List}
 use mathlib.Core.Logic.{⊎-elim}
-use mathlib.Core.Path.{_≡_, refl, sym, _∙_}
+use mathlib.Core.Path.{_≡_}
 use Rattle.model.specs.declared.kinds.ExprKind.{ExprKind}
 use Rattle.numbers.specs.Items.{valueAt}
 use Rattle.numbers.specs.Kinds.{exprKind, byExpr}
 use Rattle.numbers.specs.declared.Value.{Value}
-use Rattle.plan.specs.Entries.{nextOf, nextIn, entry, putAt, sidesEntry, exprEntry, exprPlan, sidesEntryAt, sidesPlanAt}
+use Rattle.plan.specs.Entries.{Entered, entered, nextOf, entry, putAt, exprEntered, sidesEntered}
 
-none : (d : ℕ) (s : List ℕ) (at : ℕ) (p : List ℕ) → d ≡ 0 → (exprEntry d s at ≡ entry at 1 0) × (exprPlan d s at p ≡ p)
-unfolding exprEntry exprPlan
-none d s at p e = (rw e, rw e)
-
--- what follows a kind, and an expression unrolled once where there is depth left
-abbrev kindEntry : (depth : ℕ) → List ℕ → (at : ℕ) → ExprKind → ℕ
-kindEntry d s at k = byExpr k (entry (nextOf s at) 1 0) (entry (nextOf s at) 1 0) (exprEntry d s at) (sidesEntryAt d s at)
-
-abbrev kindPlan : (depth : ℕ) → List ℕ → (at : ℕ) → List ℕ → ExprKind → List ℕ
-kindPlan d s at p k = byExpr k p p (exprPlan d s at p) (sidesPlanAt d s at p)
-
-turn : (d : ℕ) (s : List ℕ) (at : ℕ) (p : List ℕ) → (d ≡ 0 → ⊥)
-    → (exprEntry d s at ≡ (let v = valueAt s at in kindEntry (d - 1) s (v .next) (exprKind (v .value))))
-    × (exprPlan d s at p ≡ putAt at (exprEntry d s at) (let v = valueAt s at in kindPlan (d - 1) s (v .next) p (exprKind (v .value))))
-unfolding exprEntry exprPlan sidesEntryAt sidesPlanAt
-turn zero s at p z = absurd (z refl)
-turn (suc d) s at p z = let e : suc d - 1 ≡ d = omega arith in (rw e, rw e)
-
--- an expression by what its kind gave, and an operator by what its sides gave
-whole : (d : ℕ) (s : List ℕ) (at : ℕ) (p : List ℕ) {v : Value} {k : ExprKind} {o : ℕ} {q r : List ℕ} → (d ≡ 0 → ⊥) → v ≡ valueAt s at
-    → k ≡ exprKind (v .value) → o ≡ kindEntry (d - 1) s (v .next) k → q ≡ kindPlan (d - 1) s (v .next) p k → r ≡ putAt at o q
-    → (o ≡ exprEntry d s at) × (r ≡ exprPlan d s at p)
-whole d s at p z e f g h i =
-    let t = turn d s at p z in
-    let j = g ∙ sym (t .0 ∙ simp (← e, ← f)) in
-    (j, i ∙ sym (t .1 ∙ simp (← j, ← e, ← f, ← h)))
-
-sides : (d : ℕ) (s : List ℕ) (at : ℕ) (p : List ℕ) {i l j r o : ℕ} {q t : List ℕ} → i ≡ nextOf s at → l ≡ exprEntry d s i
-    → q ≡ exprPlan d s i p → j ≡ nextIn l → r ≡ exprEntry d s j → t ≡ exprPlan d s j q → o ≡ sidesEntry l r
-    → (o ≡ sidesEntryAt d s at) × (t ≡ sidesPlanAt d s at p)
-unfolding sidesEntryAt sidesPlanAt
-sides d s at p e f g h k m n = (n ∙ simp (← e, ← f, ← h, ← k), m ∙ simp (← e, ← f, ← g, ← h))
+-- an expression by what follows its kind where there is depth left
+turn : (d : ℕ) (s : List ℕ) (at : ℕ) (p : List ℕ) {v : Value} {k : ExprKind} {m : Entered} {r : List ℕ} → (d ≡ 0 → ⊥) → v ≡ valueAt s at
+    → k ≡ exprKind (v .value)
+    → (let leaf = entered (entry (nextOf s (v .next)) 1 0) p in
+    m ≡ byExpr k leaf leaf (exprEntered (d - 1) s (v .next) p) (sidesEntered (d - 1) s (v .next) p))
+    → r ≡ putAt at (m .own) (m .plan) → entered (m .own) r ≡ exprEntered d s at p
+unfolding exprEntered sidesEntered
+turn d s at p z e f g h = let i : d ≡ suc (d - 1) = omega (arith, z) in rw (i, h, g, f, e)
 
 abbrev μ-measure-expr : Measures 2 measure-expr-kinds.ps ℕ
 μ-measure-expr κs a = 2 * a .1 .1 .1 .0
@@ -115,42 +91,29 @@ measure-sides-claims t = (
   sides-entry-reads.Learnt,
 )
 
--- what was measured behind the kind, in each of its cases
-kinded : {t : ℕ} (c : measure-expr-lts.At-match-came (measure-expr-claims t) (measure-expr-at t) measure-expr.Post)
-    → let k = c .before in
-    let v = k .before .before in
-    let a = v .before .before .before .args in
-    let d = a .depth - 1 in
-    let n = v .value-at .result .next in
-    (c .match .own ≡ kindEntry d (a .table .now) n (k .expr-kind .result))
-    × (c .match .plan ≡ kindPlan d (a .table .now) n (a .plan .now) (k .expr-kind .result))
-kinded c =
-    ⊎-elim (λ w. (w .5 ∙ simp (w .1 .given .1, w .3 .ensures, w .2 .ensures), w .4 ∙ simp (w .1 .given .1)))
-    (⊎-elim (λ w. (w .5 ∙ simp (w .1 .given .1, w .3 .ensures, w .2 .ensures), w .4 ∙ simp (w .1 .given .1)))
-    (⊎-elim (λ w. (w .5 ∙ simp (w .1 .given .1, w .3 .ensures .0), w .4 ∙ simp (w .1 .given .1, w .3 .ensures .1)))
-    (λ w. (w .5 ∙ simp (w .1 .given .1, w .3 .ensures .0), w .4 ∙ simp (w .1 .given .1, w .3 .ensures .1)))))
-    (c .match .came)
-
 measure-expr-returns : (t : ℕ) → measure-expr-lts.Need-returns (measure-expr-claims t) (measure-expr-at t) measure-expr.Post
-measure-expr-returns t c =
-    let e = none _ _ _ _ (c .before .if1 .taken) in (c .entry .ensures ∙ sym (e .0), sym (e .1))
+unfolding exprEntered
+measure-expr-returns t c = rw (c .entry .ensures, c .before .if1 .taken)
 
 measure-expr-returns-2 : (t : ℕ) → measure-expr-lts.Need-returns-2 (measure-expr-claims t) (measure-expr-at t) measure-expr.Post
 measure-expr-returns-2 t c =
     let ma = c .before .before in
     let ek = ma .before in
     let v = ek .before .before in
-    let k = kinded ma in
-    whole _ _ _ _ (v .before .if1 .left) (v .value-at .ensures) (ek .expr-kind .ensures) (k .0) (k .1) (c .put-entry .ensures)
+    turn _ _ _ _ {m = entered (ma .match .own) (ma .match .plan)} (v .before .if1 .left) (v .value-at .ensures) (ek .expr-kind .ensures)
+    (⊎-elim (λ w. rw (w .5, w .4, w .1 .given .1, w .3 .ensures, w .2 .ensures))
+    (⊎-elim (λ w. rw (w .5, w .4, w .1 .given .1, w .3 .ensures, w .2 .ensures))
+    (⊎-elim (λ w. rw (w .5, w .4, w .1 .given .1, w .3 .ensures)) (λ w. rw (w .5, w .4, w .1 .given .1, w .3 .ensures)))) (ma .match .came))
+    (c .put-entry .ensures)
 
 measure-sides-returns : (t : ℕ) → measure-sides-lts.Need-returns (measure-sides-claims t) (measure-sides-at t) measure-sides.Post
+unfolding sidesEntered
 measure-sides-returns t c =
     let me = c .before in
     let n = me .before in
     let mea = n .before .before in
-    let l = mea .measure-expr .ensures in
-    let r = me .measure-expr2 .ensures in
-    sides _ _ _ _ (mea .before .before .skip .ensures) (l .0) (l .1) (n .next-in .ensures) (r .0) (r .1) (c .sides-entry .ensures)
+    let s = mea .before .before .skip .ensures in
+    rw (c .sides-entry .ensures, ← s, ← mea .measure-expr .ensures, ← n .next-in .ensures, ← me .measure-expr2 .ensures)
 
 pub +measure-expr+measure-sides-spec : {M : Type 1} → statement M
 +measure-expr+measure-sides-spec =

@@ -2,7 +2,7 @@
 -- times the depth left, for `measure_parts` one more, for `measure_inside` two more. The loop's invariant: the parts that are left, behind
 -- those that were measured, give what all of them give. Assumes nothing.
 use Rattle.plan.proofs.extent as cycle
-use Prim.Native.Nat.{ℕ, zero, suc, _+_, _-_, _*_, _≤_, _<_, max}
+use Prim.Native.Nat.{ℕ, suc, _+_, _-_, _*_, _<_}
 use borrow.Fn.Kinds.{In}
 use borrow.Fn.PlainCycle.{Measures, is, falls, and}
 use Rattle.plan.proofs.extent.measure_inside.Reads as measure-inside
@@ -30,89 +30,8 @@ use cycle.+measure_inside+measure_parts+measure_stmt.{statement}
 use cycle.+measure_inside+measure_parts+measure_stmt.Tie.{close}
 use borrow.Author.Needs.{needs}
 use native.Mathlib.Omega.{arith}
-use mathlib.Core.Bool.{Bool, true, false}
-use mathlib.Core.List.{List}
-use mathlib.Core.Path.{_≡_, refl, sym, _∙_}
-use Rattle.counts.specs.Words.{leastWords}
-use Rattle.model.specs.Word.{low}
-use Rattle.model.specs.declared.kinds.StmtKind.{StmtKind}
-use Rattle.numbers.specs.Items.{valueAt}
-use Rattle.numbers.specs.Kinds.{stmtKind, shapeOf, countIn}
-use Rattle.numbers.specs.declared.Value.{Value}
-use Rattle.numbers.specs.declared.kinds.Count.{Count}
-use Rattle.numbers.specs.declared.kinds.Declared.{Declared}
-use Rattle.numbers.specs.declared.kinds.Head.{Head}
-use Rattle.numbers.specs.declared.kinds.Head.the-variants.{Nothing}
-use Rattle.numbers.specs.declared.kinds.Shape.the-variants.{Simple as Bare, Declares, Branches, Parts}
-use Rattle.numbers.specs.declared.kinds.Simple.{Simple}
-use Rattle.plan.specs.Entries.{putAt}
-use Rattle.plan.specs.Extents.{extended, extentEntry, simpleExtent, simplePlan, headExtent, headPlan, joined, partsExtent, partsPlan}
-use Rattle.plan.specs.Extents.{stmtExtent, stmtPlan, partsExtentAt, partsPlanAt, insideExtent, insidePlan}
-use Rattle.plan.specs.declared.extent.Extent.{Extent}
-
-none : (d : ℕ) (s : List ℕ) (at : ℕ) (p : List ℕ) → d ≡ 0 → (stmtExtent d s at ≡ extended at 2) × (stmtPlan d s at p ≡ p)
-unfolding stmtExtent stmtPlan
-none d s at p e = (rw e, rw e)
-
--- a statement unrolled once where there is depth left, and by what follows its kind
-turn : (d : ℕ) (s : List ℕ) (at : ℕ) (p : List ℕ) → (d ≡ 0 → ⊥)
-    → let v = valueAt s at in
-    let k = stmtKind (v .value) in
-    (stmtExtent d s at ≡ insideExtent k (d - 1) s (v .next))
-    × (stmtPlan d s at p ≡ putAt at (extentEntry (stmtExtent d s at)) (insidePlan k (d - 1) s (v .next) p))
-unfolding stmtExtent stmtPlan insideExtent insidePlan
-turn zero s at p z = absurd (z refl)
-turn (suc d) s at p z = let e : suc d - 1 ≡ d = omega arith in (rw e, rw e)
-
-whole : (d : ℕ) (s : List ℕ) (at : ℕ) (p : List ℕ) {v : Value} {k : StmtKind} {x : Extent} {n : ℕ} {q r : List ℕ} → (d ≡ 0 → ⊥)
-    → v ≡ valueAt s at → k ≡ stmtKind (v .value) → x ≡ insideExtent k (d - 1) s (v .next) → q ≡ insidePlan k (d - 1) s (v .next) p
-    → n ≡ extentEntry x → r ≡ putAt at n q → (x ≡ stmtExtent d s at) × (r ≡ stmtPlan d s at p)
-whole d s at p z e f g h i j =
-    let t = turn d s at p z in
-    let o = g ∙ sym (t .0 ∙ simp (← e, ← f)) in
-    (o, j ∙ sym (t .1 ∙ simp (← o, ← e, ← f, ← h, ← i)))
-
--- what follows a kind, by its shape
-module _ (k : StmtKind) (d : ℕ) (s : List ℕ) (at : ℕ) (p : List ℕ) where
-  simple : {x : Simple} {o : Extent} {r : List ℕ} → shapeOf k ≡ Bare x → o ≡ simpleExtent x d s at → r ≡ simplePlan x d s at p
-      → (o ≡ insideExtent k d s at) × (r ≡ insidePlan k d s at p)
-  unfolding insideExtent insidePlan
-  simple e f g = (simp e f, simp e g)
-
-  declares : {x : Declared} {v : Value} {b : Extent} {n : ℕ} {r : List ℕ} → shapeOf k ≡ Declares x → v ≡ valueAt s at
-      → b ≡ stmtExtent d s (v .next) → r ≡ stmtPlan d s (v .next) p → n ≡ low (v .value + b .need)
-      → (extended (b .next) n ≡ insideExtent k d s at) × (r ≡ insidePlan k d s at p)
-  unfolding insideExtent insidePlan
-  declares e f g h i = (simp (e, ← f, ← g, ← i), simp e (rw f at h))
-
-  branches : {m : Count} {v : Value} {o : Extent} {r : List ℕ} → shapeOf k ≡ Branches m → v ≡ countIn m s at
-      → o ≡ partsExtentAt (v .value) Nothing true d s (extended (v .next) 2) → r ≡ partsPlanAt (v .value) Nothing d s (v .next) p
-      → (o ≡ insideExtent k d s at) × (r ≡ insidePlan k d s at p)
-  unfolding insideExtent insidePlan partsExtentAt partsPlanAt
-  branches e f g h = (simp (e, ← f) g, simp (e, ← f) h)
-
-  parts : {a : Head} {m : Count} {v : Value} {n : ℕ} {o : Extent} {r : List ℕ} → shapeOf k ≡ Parts a m → v ≡ countIn m s at
-      → n ≡ leastWords a → o ≡ partsExtentAt (v .value) a false d s (extended (v .next) n) → r ≡ partsPlanAt (v .value) a d s (v .next) p
-      → (o ≡ insideExtent k d s at) × (r ≡ insidePlan k d s at p)
-  unfolding insideExtent insidePlan partsExtentAt partsPlanAt
-  parts e f g h i = (simp (e, ← f, ← g) h, simp (e, ← f) i)
-
--- the parts that are left: none, or one and the others
-parts-none : (i : ℕ) (h : Head) (b : Bool) (d : ℕ) (s : List ℕ) (e : Extent) (p : List ℕ) → i ≤ 0
-    → (partsExtentAt i h b d s e ≡ e) × (partsPlanAt i h d s (e .next) p ≡ p)
-unfolding partsExtentAt partsPlanAt partsExtent partsPlan
-parts-none zero h b d s e p l = (refl, refl)
-parts-none (suc i) h b d s e p l = absurd (omega arith)
-
-parts-turn : (i : ℕ) (h : Head) (b : Bool) (d : ℕ) (s : List ℕ) (e : Extent) (p : List ℕ) {x y : Extent} {m n : ℕ} {q r : List ℕ} → 0 < i
-    → x ≡ headExtent h d s (e .next) → q ≡ headPlan h d s (e .next) p → y ≡ stmtExtent d s (x .next) → r ≡ stmtPlan d s (x .next) q
-    → m ≡ max (e .need) (x .need) → n ≡ joined b m (y .need)
-    → (partsExtentAt i h b d s e ≡ partsExtentAt (i - 1) h b d s (extended (y .next) n))
-    × (partsPlanAt i h d s (e .next) p ≡ partsPlanAt (i - 1) h d s (y .next) r)
-unfolding partsExtentAt partsPlanAt partsExtent partsPlan
-parts-turn zero h b d s e p l a q y r m n = absurd (omega arith)
-parts-turn (suc i) h b d s e p l a q y r m n =
-    let f : suc i - 1 ≡ i = omega arith in (simp (f, ← a, ← y, ← m, ← n), simp (f, ← a, ← q, ← y, ← r))
+use mathlib.Core.Path.{_≡_, refl, sym}
+use Rattle.plan.specs.Extents.{measured, partsMeasured, stmtMeasured, partsAt, insideMeasured}
 
 abbrev μ-measure-inside : Measures 2 measure-inside-kinds.ps ℕ
 μ-measure-inside κs a = 3 * a .1 .1 .1 .1 .0 + 2
@@ -149,8 +68,7 @@ measure-stmt-below t =
 
 abbrev measure-parts-Inv-loop : measure-parts-lts.InvT-loop
 measure-parts-Inv-loop table plan₀ head beside count depth so-far₀ left₀ plan so-far left =
-    (partsExtentAt left₀ head beside depth table so-far₀ ≡ partsExtentAt left head beside depth table so-far)
-    × (partsPlanAt left₀ head depth table (so-far₀ .next) plan₀ ≡ partsPlanAt left head depth table (so-far .next) plan)
+    partsAt left₀ head beside depth table (measured so-far₀ plan₀) ≡ partsAt left head beside depth table (measured so-far plan)
 
 abbrev measure-parts-μ-loop : measure-parts-lts.MeasureT-loop
 measure-parts-μ-loop table plan₀ head beside count depth so-far₀ left₀ plan so-far left = left
@@ -202,70 +120,73 @@ measure-stmt-claims t = (
 )
 
 measure-inside-returns : (t : ℕ) → measure-inside-lts.Need-returns (measure-inside-claims t) (measure-inside-at t) measure-inside.Post
+unfolding insideMeasured
 measure-inside-returns t c =
     let si = c .before .before .before in
-    let e = c .measure-simple .ensures in
-    simple _ _ _ _ _ (sym (si .before .before .shape-of .ensures) ∙ si .simple .given .1) (e .0) (e .1)
+    rw (c .measure-simple .ensures, ← si .before .before .shape-of .ensures, si .simple .given .1)
 
 measure-inside-returns-2 : (t : ℕ) → measure-inside-lts.Need-returns-2 (measure-inside-claims t) (measure-inside-at t) measure-inside.Post
+unfolding insideMeasured
 measure-inside-returns-2 t c =
     let me = c .before in
     let v = me .before .before in
     let d = v .before .before in
-    let k = sym (d .before .before .shape-of .ensures) ∙ d .declared .given .1 in
-    let e = me .measure-stmt .ensures in
-    declares _ _ _ _ _ k (v .value-at .ensures) (e .0) (e .1) (c .plus .ensures)
+    let k = d .before .before .shape-of .ensures in
+    rw (c .plus .ensures, ← k, d .declared .given .1, ← v .value-at .ensures, ← me .measure-stmt .ensures)
 
 measure-inside-returns-3 : (t : ℕ) → measure-inside-lts.Need-returns-3 (measure-inside-claims t) (measure-inside-at t) measure-inside.Post
+unfolding insideMeasured partsAt
 measure-inside-returns-3 t c =
     let ca = c .before .before in
     let co = ca .before .before in
-    let e = c .measure-parts .ensures in
-    branches _ _ _ _ _ (sym (co .before .before .shape-of .ensures) ∙ co .count .given .1) (ca .count-at .ensures) (e .0) (e .1)
+    rw (c .measure-parts .ensures, ca .count-at .ensures, ← co .before .before .shape-of .ensures, co .count .given .1)
 
 measure-inside-returns-4 : (t : ℕ) → measure-inside-lts.Need-returns-4 (measure-inside-claims t) (measure-inside-at t) measure-inside.Post
+unfolding insideMeasured partsAt
 measure-inside-returns-4 t c =
     let lw = c .before .before in
     let ca = lw .before in
     let he = ca .before .before in
-    let k = sym (he .before .before .shape-of .ensures) ∙ he .head .given .1 in
-    let e = c .measure-parts2 .ensures in
-    parts _ _ _ _ _ k (ca .count-at2 .ensures) (lw .least-words .ensures) (e .0) (e .1)
+    let k = he .before .before .shape-of .ensures in
+    rw (c .measure-parts2 .ensures, lw .least-words .ensures, ca .count-at2 .ensures, ← k, he .head .given .1)
 
 measure-parts-loop-again : (t : ℕ)
     → measure-parts-lts.Need-loop-again (measure-parts-claims t) (measure-parts-at t) measure-parts.Post measure-parts-Inv-loop
     measure-parts-μ-loop
+unfolding partsAt partsMeasured
 measure-parts-loop-again t c =
     let la = c .before in
     let me = la .before in
     let mh = me .before .before in
     let lt = mh .before .before in
-    let h = mh .measure-head .ensures in
-    let e = me .measure-stmt .ensures in
-    let i = lt .before .loop .inv in
-    let k = parts-turn _ _ _ _ _ _ _ (lt .loop-test .taken) (h .0) (h .1) (e .0) (e .1) (la .larger .ensures) (c .joined .ensures) in
-    (i .0 ∙ k .0, i .1 ∙ k .1)
+    let l = lt .before .loop in
+    let e : l .left ≡ suc (l .left - 1) = omega (arith, lt .loop-test .taken) in
+    rw (e, partsMeasured, ← mh .measure-head .ensures, ← me .measure-stmt .ensures, ← la .larger .ensures, ← c .joined .ensures) at (l .inv)
 
 measure-parts-returns : (t : ℕ)
     → measure-parts-lts.Need-returns (measure-parts-claims t) (measure-parts-at t) measure-parts.Post measure-parts-Inv-loop
     measure-parts-μ-loop
+unfolding partsAt partsMeasured
 measure-parts-returns t c =
-    let i = c .before .loop .inv in
-    let k = parts-none _ _ _ _ _ _ _ (c .loop-test .left) in
-    (sym (i .0 ∙ k .0), sym (i .1 ∙ k .1))
+    let l = c .before .loop in
+    let e : l .left ≡ 0 = omega (arith, c .loop-test .left) in
+    rw e at (sym (l .inv))
 
 measure-stmt-returns : (t : ℕ) → measure-stmt-lts.Need-returns (measure-stmt-claims t) (measure-stmt-at t) measure-stmt.Post
-measure-stmt-returns t c = let e = none _ _ _ _ (c .if1 .taken) in (sym (e .0), sym (e .1))
+unfolding stmtMeasured
+measure-stmt-returns t c = rw (c .if1 .taken)
 
 measure-stmt-returns-2 : (t : ℕ) → measure-stmt-lts.Need-returns-2 (measure-stmt-claims t) (measure-stmt-at t) measure-stmt.Post
+unfolding stmtMeasured insideMeasured
 measure-stmt-returns-2 t c =
     let ee = c .before in
     let mi = ee .before .before in
     let sk = mi .before .before in
     let v = sk .before .before in
-    let e = mi .measure-inside .ensures in
-    whole _ _ _ _ (v .before .if1 .left) (v .value-at .ensures) (sk .stmt-kind .ensures) (e .0) (e .1) (ee .extent-entry .ensures)
-    (c .put-entry .ensures)
+    let d = v .before .before .before .args .depth in
+    let e : d ≡ suc (d - 1) = omega (arith, v .before .if1 .left) in
+    rw (c .put-entry .ensures, ee .extent-entry .ensures, e)
+    (rw (← v .value-at .ensures, ← sk .stmt-kind .ensures, ← mi .measure-inside .ensures))
 
 pub +measure-inside+measure-parts+measure-stmt-spec : {M : Type 1} → statement M
 +measure-inside+measure-parts+measure-stmt-spec =
@@ -295,7 +216,7 @@ pub +measure-inside+measure-parts+measure-stmt-spec : {M : Type 1} → statement
     measure-parts.Post
     measure-parts-Inv-loop
     measure-parts-μ-loop
-    (λ c. (refl, refl))
+    (λ c. refl)
     (λ c κs. search needs)
     (λ c κs. search needs)
     (λ c κs. search needs)

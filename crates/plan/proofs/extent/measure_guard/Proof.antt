@@ -2,30 +2,25 @@
 use borrow.Author.Needs.{needs}
 use Rattle.plan.proofs.extent.measure_guard.Statement.{statement}
 use Rattle.plan.proofs.extent.measure_guard.Tie as tie
-use mathlib.Core.Path.{sym, _∙_}
-use Rattle.plan.specs.Extents.{guardExtent}
+use Rattle.plan.specs.Extents.{guardMeasured}
 
 returns : tie.Need-returns
-unfolding guardExtent
+unfolding guardMeasured
 returns c =
     let sk = c .before in
     let et = sk .before in
     let g = et .before .before in
     let mw = g .before .before in
     let v = mw .before .before .value-at .ensures in
-    let e = mw .measure-whole .ensures in
-    let k = sym (g .guard-kind .ensures) ∙ et .enum-told .given .1 in
-    (simp (← v, ← e .0, k, ← sk .skip .ensures, ← c .skip2 .ensures), rw v at (e .1))
+    rw (c .skip2 .ensures, sk .skip .ensures, ← v, ← mw .measure-whole .ensures, ← g .guard-kind .ensures, et .enum-told .given .1)
 
 returns-2 : tie.Need-returns-2
-unfolding guardExtent
+unfolding guardMeasured
 returns-2 c =
     let g = c .before .before in
     let mw = g .before .before in
     let v = mw .before .before .value-at .ensures in
-    let e = mw .measure-whole .ensures in
-    let k = sym (g .guard-kind .ensures) ∙ c .enum-told2 .given .1 in
-    (simp (← v, ← e .0, k), rw v at (e .1))
+    rw (← v, ← mw .measure-whole .ensures, ← g .guard-kind .ensures, c .enum-told2 .given .1)
 
 pub measure-guard-spec : {M : Type 1} → statement M
 measure-guard-spec =

@@ -2,35 +2,27 @@
 use borrow.Author.Needs.{needs}
 use Rattle.plan.proofs.extent.measure_simple.Statement.{statement}
 use Rattle.plan.proofs.extent.measure_simple.Tie as tie
-use Rattle.plan.specs.Extents.{simpleExtent, simplePlan}
+use Rattle.plan.specs.Extents.{simpleMeasured}
 
 returns : tie.Need-returns
-unfolding simpleExtent simplePlan
-returns c = let e = c .enum-told .given .1 in (simp e, simp e)
+unfolding simpleMeasured
+returns c = rw (c .enum-told .given .1)
 
 returns-2 : tie.Need-returns-2
-unfolding simpleExtent simplePlan
-returns-2 c = let e = c .enum-told2 .given .1 in (simp e, simp e)
+unfolding simpleMeasured
+returns-2 c = rw (c .enum-told2 .given .1)
 
 returns-3 : tie.Need-returns-3
-unfolding simpleExtent simplePlan
-returns-3 c =
-    let sk = c .before in
-    let e = sk .before .before .enum-told3 .given .1 in
-    let r = c .measure-whole .ensures in (simp (e, ← sk .skip .ensures) (r .0), simp (e, ← sk .skip .ensures) (r .1))
+unfolding simpleMeasured
+returns-3 c = rw (c .measure-whole .ensures, c .before .skip .ensures, c .before .before .before .enum-told3 .given .1)
 
 returns-4 : tie.Need-returns-4
-unfolding simpleExtent simplePlan
-returns-4 c =
-    let sk = c .before in
-    let e = sk .before .enum-told4 .given .1 in (simp (e, ← sk .skip2 .ensures, ← c .skip3 .ensures), simp e)
+unfolding simpleMeasured
+returns-4 c = rw (c .skip3 .ensures, c .before .skip2 .ensures, c .before .before .enum-told4 .given .1)
 
 returns-5 : tie.Need-returns-5
-unfolding simpleExtent simplePlan
-returns-5 c =
-    let sk = c .before in
-    let e = sk .before .before .enum-told5 .given .1 in
-    let r = c .measure-whole2 .ensures in (simp (e, ← sk .skip4 .ensures) (r .0), simp (e, ← sk .skip4 .ensures) (r .1))
+unfolding simpleMeasured
+returns-5 c = rw (c .measure-whole2 .ensures, c .before .skip4 .ensures, c .before .before .before .enum-told5 .given .1)
 
 pub measure-simple-spec : {M : Type 1} → statement M
 measure-simple-spec =

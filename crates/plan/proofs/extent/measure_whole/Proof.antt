@@ -4,18 +4,18 @@ use Rattle.plan.proofs.extent.measure_whole.Statement.{statement}
 use Rattle.plan.proofs.extent.measure_whole.Tie as tie
 use native.Mathlib.Omega.{arith}
 use Rattle.plan.specs.Entries.{storedIn}
-use Rattle.plan.specs.Extents.{wholeExtent}
+use Rattle.plan.specs.Extents.{wholeMeasured}
 
 ask-requires : tie.Need-ask-requires
 unfolding storedIn
 ask-requires c κs = omega (arith, c .stored-in .ensures)
 
 returns : tie.Need-returns
-unfolding wholeExtent
+unfolding wholeMeasured
 returns c =
     let si = c .before in
     let n = si .before in
-    let e = n .before .measure-expr .ensures in (simp (← e .0, ← n .next-in .ensures, ← si .stored-in .ensures, ← c .ask .ensures), e .1)
+    rw (c .ask .ensures, si .stored-in .ensures, n .next-in .ensures, ← n .before .measure-expr .ensures)
 
 pub measure-whole-spec : {M : Type 1} → statement M
 measure-whole-spec =
