@@ -103,7 +103,7 @@ unfoldable pub startInto : (d start : ℕ) → Code → Code
 startInto d start c = operationInto STARTP (plainInto LDLP (minus d) (distanceInto LDC start (low (c .here + 2)) c))
 
 -- a branch d words below. 01: its code, LDLP d, ENDP
-abbrev pub branchInto : (d : ℕ) → Inner → (w : ℕ) → Names → (at : ℕ) → Code → Wrote
+unfoldable pub branchInto : (d : ℕ) → Inner → (w : ℕ) → Names → (at : ℕ) → Code → Wrote
 branchInto d inner w ns i c =
     let b = inner (w - d) ns i c in
     written (b .next) (operationInto ENDP (plainInto LDLP d (codeOf b)))

@@ -2,7 +2,9 @@
 -- further for what has statements of that depth inside: for what follows a kind 7, for VAR, CHAN, PAR and parts 6, for SEQ, IF, WHILE and
 -- ALT 5, for the branches of PAR and ALT 4, for a branch and a pair 3. Assumes nothing.
 use Rattle.statements.proofs.stmt as cycle
-use Prim.Native.Nat.{ℕ, _+_, _-_, _*_, _≤_, _<_}
+use Prim.Native.Nat.{ℕ, suc, _+_, _-_, _*_, _≤_, _<_}
+use mathlib.Core.List.{List}
+use borrow.Author.Tests.{eq-eqb, ne-eqb}
 use borrow.Fn.Kinds.{In}
 use borrow.Fn.PlainCycle.{Measures, is, falls, and}
 use Rattle.statements.proofs.stmt.alt.Reads as alt
@@ -77,15 +79,22 @@ use native.Mathlib.Omega.{arith}
 use borrow.Author.Needs.{needs}
 use mathlib.Core.Path.{_≡_, refl, sym, ap, _∙_}
 use Rattle.model.specs.Limits.{nameLimit}
-use Rattle.expressions.specs.Emits.{at as standing}
+use Rattle.expressions.specs.Emits.{Code, at as standing, plainInto, distanceInto, operationInto}
 use Rattle.expressions.specs.Names.{Names, Scoped}
 use Rattle.expressions.specs.declared.words.Scope.{Scope}
-use Rattle.statements.specs.Stmts.{noEnds}
-use Rattle.statements.specs.Kinds.{seqAt, branchesAt}
-use Rattle.statements.proofs.Turns.{stmt-none, stmt-inside, declaration-is, seq-none, seq-more, pair-is, pairsLeft, pairs-none}
-use Rattle.statements.proofs.Turns.{pairs-more, if-is, while-is, branch-is, branches-none, branches-more, par-none, par-more}
-use Rattle.statements.proofs.Turns.{choice-is, choicesLeft, choices-none, choices-more, choices-are, alt-is, parts-seq, parts-if}
-use Rattle.statements.proofs.Turns.{parts-while, parts-alt, inside-by}
+use Rattle.model.specs.Word.{low, minus}
+use Rattle.instruction.specs.Codes.{AJW, LDC, LDPI}
+use Rattle.model.specs.declared.kinds.StmtKind.{StmtKind}
+use Rattle.numbers.specs.Kinds.{shapeOf, countIn}
+use Rattle.numbers.specs.declared.kinds.Count.{Count}
+use Rattle.numbers.specs.declared.kinds.Shape.the-variants.{Branches}
+use Rattle.plan.specs.Extents.{extentIn}
+use Rattle.plan.specs.declared.extent.Extent.{Extent}
+use Rattle.expressions.specs.Exprs.{Wrote, written, codeOf}
+use Rattle.statements.specs.Stmts.{Open, noEnds, headerInto, seqInto, pairInto, pairsInto, branchInto, branchesInto}
+use Rattle.statements.specs.Alts.{choiceInto, choicesInto}
+use Rattle.statements.specs.Kinds.{stmtInto, innerAt, declarationAt, seqAt, pairAt, ifAt, whileAt, branchAt, branchesAt, parAt}
+use Rattle.statements.specs.Kinds.{choiceAt, choicesAt, altAt, partsAt, insideAt}
 use Rattle.statements.proofs.Scoping.{within, within-names, count-most, parts-few, shape-few, relabel, shows-under, stmt-under}
 use Rattle.statements.proofs.Scoping.{branch-under, branches-under}
 
@@ -218,6 +227,30 @@ statement-at t = and 4 statement-kinds.ps (is 4 statement-kinds.ps μ-statement 
 abbrev statement-below : ℕ → In 4 statement-kinds.ps
 statement-below t =
     and 4 statement-kinds.ps (falls 4 statement-kinds.ps _<_ μ-statement t) statement′.Pre
+
+-- the pairs of an IF and the guards of an ALT that are left
+abbrev pairsLeft : (d w : ℕ) → Names → (plan s : List ℕ) → (left k : ℕ) → (ends : List ℕ) → (at : ℕ) → Code → Open
+pairsLeft d w ns plan s n k e i c = pairsInto n k d w (ns .variables) (innerAt d plan s w ns) plan s e i c
+
+abbrev choicesLeft : (d w : ℕ) → Names → (plan s : List ℕ) → (left k choice : ℕ) → (ends : List ℕ) → (at disable : ℕ) → Code → Open
+choicesLeft d w ns plan s n k choice e i dis c = choicesInto n k d (innerAt d plan s) w ns plan s choice e i dis c
+
+-- a PAR by its parts: a law of its own, since rewriting all of them at once where they stand takes too long
+par-more : (d w : ℕ) (ns : Names) (plan s : List ℕ) (n i : ℕ) (c : Code) {m u t g : ℕ} {a p h l z : Code} {e : Extent} {b r : Wrote}
+    → (n ≡ 0 → ⊥) → m ≡ minus 2 → a ≡ plainInto AJW m c → u ≡ low (a .here + 1) → p ≡ operationInto LDPI (standing u (a .list))
+    → h ≡ headerInto n p → t ≡ low (3 * (n - 1)) → g ≡ low (h .here + t) → e ≡ extentIn plan i
+    → b ≡ branchAt 0 d (w - 2) ns plan s i (standing g (h .list))
+    → r ≡ branchesAt (n - 1) d (w - 2) ns plan s (b .next) (e .need) (h .here) (codeOf b)
+    → l ≡ distanceInto LDC (r .here) u (standing (a .here) (r .list)) → z ≡ plainInto AJW 2 (standing (r .here) (l .list))
+    → written (r .next) z ≡ parAt n d w ns plan s i c
+unfolding parAt branchAt branchesAt
+par-more d w ns plan s n i c q pm pa pu pp ph pt pg pe pb pr pl pz =
+    rw (pz, pl, pr, pb, pe, pg, pt, ph, pp, pu, pa, pm, ne-eqb n 0 q)
+
+inside-par : (d w : ℕ) (ns : Names) (plan s : List ℕ) (k : StmtKind) (i : ℕ) (c : Code) {m : Count} → shapeOf k ≡ Branches m
+    → (let n = countIn m s i in parAt (n .value) d w ns plan s (n .next) c) ≡ insideAt k d w ns plan s i c
+unfolding insideAt parAt
+inside-par d w ns plan s k i c e = rw e
 
 abbrev branches-Inv-loop : branches-lts.InvT-loop
 branches-Inv-loop table plan scope words₀ list₀ next₀ start₀ d₀ left₀ words list next start d left =
@@ -461,6 +494,7 @@ alt-choices-requires t c κs =
     (omega (arith, p .pre .0), p .pre .1)
 
 alt-returns : (t : ℕ) → alt-lts.Need-returns (alt-claims t) (alt-at t) alt.Post
+unfolding altAt choicesAt
 alt-returns t c ns h =
     let op = c .before .before .before in
     let p = op .before .before in
@@ -474,10 +508,18 @@ alt-returns t c ns h =
     let mi = pla .before in
     let s = lo .lowered .ensures in
     let r = c .choices .ensures ns h in (
-      alt-is _ _ ns _ _ _ _ _ (mi .minus .ensures) (pla .plain .ensures) (oper .operation .ensures)
-          (rw s at (g .gen-enable .ensures ns (shows-under _ _ _ _ _ s (h .shows)))) (ope .operation2 .ensures) (le .less .ensures)
-          (pl .plus .ensures)
-          (p .plus2 .ensures) (op .operation3 .ensures) (r .0),
+      rw (
+        ← mi .minus .ensures,
+        ← pla .plain .ensures,
+        ← oper .operation .ensures,
+        ← rw s at (g .gen-enable .ensures ns (shows-under _ _ _ _ _ s (h .shows))),
+        ← ope .operation2 .ensures,
+        ← le .less .ensures,
+        ← pl .plus .ensures,
+        ← p .plus2 .ensures,
+        ← op .operation3 .ensures,
+        r .0,
+      ),
       r .1,
     )
 
@@ -488,12 +530,13 @@ branch-statement-requires t c κs =
     let d = ap (λ (x : Scope). x .depth) (lo .lowered .ensures) in omega (arith, p .pre .0)
 
 branch-returns : (t : ℕ) → branch-lts.Need-returns (branch-claims t) (branch-at t) branch.Post
+unfolding branchAt branchInto
 branch-returns t c ns h =
     let p = c .before .before in
     let st = p .before .before in
     let lo = st .before .before .before in
     let r = stmt-under _ _ _ _ _ _ _ (lo .lowered .ensures) (st .statement .ensures) ns h in
-    (branch-is _ _ ns _ _ _ _ _ (r .0) (p .plain .ensures) (c .operation .ensures), r .1)
+    (rw (← r .0, ← p .plain .ensures, ← c .operation .ensures), r .1)
 
 branches-loop-holds : (t : ℕ)
     → branches-lts.Need-loop-holds (branches-claims t) (branches-at t) branches.Post branches-Inv-loop branches-μ-loop
@@ -501,6 +544,7 @@ branches-loop-holds t c ns h = (refl, h)
 
 branches-loop-again : (t : ℕ)
     → branches-lts.Need-loop-again (branches-claims t) (branches-at t) branches.Post branches-Inv-loop branches-μ-loop
+unfolding branchesAt branchesInto branchAt
 branches-loop-again t c ns h =
     let b = c .before in
     let p = b .before .before .before in
@@ -508,18 +552,22 @@ branches-loop-again t c ns h =
     let lt = ei .before in
     let lo = lt .before in
     let i = lo .loop .inv ns h in
-    let r = b .branch .ensures ns (i .1) in (
-      i .0 ∙ branches-more _ _ ns _ _ _ _ _ _ _ (lt .loop-test .taken) (ei .extent-in .ensures) (p .put-start .ensures) (r .0)
-          (c .plus .ensures),
+    let r = b .branch .ensures ns (i .1) in
+    let e : lo .loop .left ≡ suc (lo .loop .left - 1) = omega (arith, lt .loop-test .taken) in (
+      rw (e, branchesInto, ← ei .extent-in .ensures, ← p .put-start .ensures, ← r .0, ← c .plus .ensures) at (i .0),
       r .1,
     )
 
 branches-returns : (t : ℕ) → branches-lts.Need-returns (branches-claims t) (branches-at t) branches.Post branches-Inv-loop branches-μ-loop
+unfolding branchesAt branchesInto
 branches-returns t c ns h =
     let lo = c .before in
-    let i = lo .loop .inv ns h in (branches-none _ _ ns _ _ _ _ _ _ _ (omega (arith, c .loop-test .left)) ∙ sym (i .0), i .1)
+    let i = lo .loop .inv ns h in
+    let e : lo .loop .left ≡ 0 = omega (arith, c .loop-test .left) in
+    (rw e at (sym (i .0)), i .1)
 
 choice-returns : (t : ℕ) → choice-lts.Need-returns (choice-claims t) (choice-at t) choice.Post
+unfolding choiceAt choiceInto
 choice-returns t c ns h =
     let p = c .before .before .before in
     let pl = p .before .before .before in
@@ -528,8 +576,13 @@ choice-returns t c ns h =
     let lo = g .before .before .before in
     let s = lo .lowered .ensures in
     let r = within _ _ _ refl refl (c .statement .ensures) ns h in (
-      choice-is _ _ ns _ _ _ _ _ _ (rw s at (g .gen-guard .ensures ns (shows-under _ _ _ _ _ s (h .shows)))) (pd .put-disable .ensures)
-          (pl .plain .ensures) (p .put-input .ensures ns (h .shows)) (r .0),
+      rw (
+        ← rw s at (g .gen-guard .ensures ns (shows-under _ _ _ _ _ s (h .shows))),
+        ← pd .put-disable .ensures,
+        ← pl .plain .ensures,
+        ← p .put-input .ensures ns (h .shows),
+        ← r .0,
+      ),
       r .1,
     )
 
@@ -540,30 +593,32 @@ choices-loop-holds t c =
     (omega arith, refl, λ ns h. (simp all, h))
 
 choices-loop-again : (t : ℕ) → choices-lts.Need-loop-again (choices-claims t) (choices-at t) choices.Post choices-Inv-loop choices-μ-loop
+unfolding choicesInto choiceAt
 choices-loop-again t c =
     let ch = c .before in
     let lt = ch .before .before .before in
     let lo = lt .before in
     let ar = lo .before .before in
     let l = lo .loop .inv in
-    let less : ar .args .count - lo .loop .i - 1 ≡ ar .args .count - (lo .loop .i + 1) = omega arith in (
+    let left = ar .args .count - lo .loop .i in
+    let e : left ≡ suc (ar .args .count - (lo .loop .i + 1)) = omega (arith, lt .loop-test .taken) in
+    let more : suc (lo .loop .i) ≡ lo .loop .i + 1 = omega arith in (
       omega (arith, lt .loop-test .taken),
       refl,
       λ ns h.
           let i = l .2 ns h in
           let r = rw (l .1) at (ch .choice .ensures ns (i .1)) in
-          (i .0 ∙ choices-more _ _ ns _ _ _ _ _ _ _ _ _ (omega (arith, lt .loop-test .taken)) (r .0) (c .plus .ensures) ∙ simp less, r .1),
+          (rw (e, choicesInto, ← r .0, ← c .plus .ensures, more) at (i .0), r .1),
     )
 
 choices-returns : (t : ℕ) → choices-lts.Need-returns (choices-claims t) (choices-at t) choices.Post choices-Inv-loop choices-μ-loop
+unfolding choicesAt choicesInto
 choices-returns t c ns h =
     let lt = c .before .before .before in
     let lo = lt .before in
-    let i = lo .loop .inv .2 ns h in (
-      choices-are _ _ ns _ _ _ _ _ _ _ (i .0 ∙ choices-none _ _ ns _ _ _ _ _ _ _ _ _ (omega (arith, lt .loop-test .left)))
-          (c .close .ensures),
-      i .1,
-    )
+    let i = lo .loop .inv .2 ns h in
+    let e : lo .before .before .args .count - lo .loop .i ≡ 0 = omega (arith, lt .loop-test .left) in
+    (rw (rw e at (i .0), ← c .close .ensures), i .1)
 
 declare-statement-requires : (t : ℕ) → declare-lts.Need-statement-requires (declare-claims t) (declare-at t) declare.Post
 declare-statement-requires t c κs =
@@ -572,6 +627,7 @@ declare-statement-requires t c κs =
     let d = ap (λ (x : Scope). x .depth) (en .enter .ensures .0) in omega (arith, p .pre .0)
 
 declare-returns : (t : ℕ) → declare-lts.Need-returns (declare-claims t) (declare-at t) declare.Post
+unfolding declarationAt
 declare-returns t c ns h =
     let st = c .before .before in
     let en = st .before .before .before in
@@ -585,8 +641,14 @@ declare-returns t c ns h =
     let a = ar .args in
     let r = within-names (a .declared) _ (a .scope .w - ca .count-at .result .value) (a .scope .depth) (a .scope) _ few
     (λ ms k. e .1 ms k few) (rw (e .0) at (st .statement .ensures)) ns h in (
-      declaration-is _ _ ns _ _ _ _ _ (ca .count-at .ensures) (mi .minus .ensures) (pl .plain .ensures) (p .put-initial .ensures) (r .0)
-          (c .plain2 .ensures),
+      rw (
+        ← ca .count-at .ensures,
+        ← mi .minus .ensures,
+        ← pl .plain .ensures,
+        ← p .put-initial .ensures,
+        ← r .0,
+        ← c .plain2 .ensures,
+      ),
       r .1,
     )
 
@@ -598,17 +660,19 @@ inside-parts-requires t c κs =
     (omega (arith, p .pre .0), shape-few (p .args .kind) _ _ (sym (so .shape-of .ensures) ∙ he .head .given .1))
 
 inside-returns : (t : ℕ) → inside-lts.Need-returns (inside-claims t) (inside-at t) inside.Post
+unfolding insideAt
 inside-returns t c ns h =
     let si = c .before .before .before .before in
     let so = si .before .before in
-    (c .gen-simple .ensures ns (h .shows) ∙ sym (inside-by _ _ ns _ _ _ _ _ (sym (so .shape-of .ensures) ∙ si .simple .given .1)), h)
+    (rw (c .gen-simple .ensures ns (h .shows), ← so .shape-of .ensures, si .simple .given .1), h)
 
 inside-returns-2 : (t : ℕ) → inside-lts.Need-returns-2 (inside-claims t) (inside-at t) inside.Post
+unfolding insideAt declarationAt
 inside-returns-2 t c ns h =
     let d = c .before .before .before .before in
     let so = d .before .before in
     let r = c .declare .ensures ns h in
-    (r .0 ∙ sym (inside-by _ _ ns _ _ _ _ _ (sym (so .shape-of .ensures) ∙ d .declared .given .1)), r .1)
+    (rw (r .0, ← so .shape-of .ensures, d .declared .given .1), r .1)
 
 inside-returns-3 : (t : ℕ) → inside-lts.Need-returns-3 (inside-claims t) (inside-at t) inside.Post
 inside-returns-3 t c ns h =
@@ -616,24 +680,31 @@ inside-returns-3 t c ns h =
     let co = ca .before .before in
     let so = co .before .before in
     let r = c .par .ensures ns h in
-    (r .0 ∙ sym (inside-by _ _ ns _ _ _ _ _ (sym (so .shape-of .ensures) ∙ co .count .given .1) ∙ simp (← ca .count-at .ensures)), r .1)
+    (r .0 ∙ rw (ca .count-at .ensures) (inside-par _ _ ns _ _ _ _ _ (sym (so .shape-of .ensures) ∙ co .count .given .1)), r .1)
 
 inside-returns-4 : (t : ℕ) → inside-lts.Need-returns-4 (inside-claims t) (inside-at t) inside.Post
+unfolding insideAt partsAt
 inside-returns-4 t c ns h =
     let he = c .before .before .before .before in
     let so = he .before .before in
     let r = c .parts .ensures ns h in
-    (r .0 ∙ sym (inside-by _ _ ns _ _ _ _ _ (sym (so .shape-of .ensures) ∙ he .head .given .1)), r .1)
+    (rw (r .0, ← so .shape-of .ensures, he .head .given .1), r .1)
 
 pair-returns : (t : ℕ) → pair-lts.Need-returns (pair-claims t) (pair-at t) pair.Post
+unfolding pairAt pairInto
 pair-returns t c ns h =
     let p = c .before .before in
     let st = p .before in
     let pl = st .before .before .before in
     let g = pl .before in
     let r = within _ _ _ refl refl (st .statement .ensures) ns h in (
-      pair-is _ _ ns _ _ _ _ (g .gen-whole .ensures (ns .variables) (h .shows .variables)) (pl .plus .ensures) (r .0) (p .plus2 .ensures)
-          (c .distance .ensures),
+      rw (
+        ← g .gen-whole .ensures (ns .variables) (h .shows .variables),
+        ← pl .plus .ensures,
+        ← r .0,
+        ← p .plus2 .ensures,
+        ← c .distance .ensures,
+      ),
       r .1,
     )
 
@@ -644,33 +715,36 @@ pairs-loop-holds t c =
     (omega arith, λ ns h. (simp all, h))
 
 pairs-loop-again : (t : ℕ) → pairs-lts.Need-loop-again (pairs-claims t) (pairs-at t) pairs.Post pairs-Inv-loop pairs-μ-loop
+unfolding pairsInto pairAt
 pairs-loop-again t c =
     let p = c .before in
     let lt = p .before .before .before in
     let lo = lt .before in
     let ar = lo .before .before in
     let l = lo .loop .inv in
-    let less : ar .args .count - lo .loop .i - 1 ≡ ar .args .count - (lo .loop .i + 1) = omega arith in (
+    let left = ar .args .count - lo .loop .i in
+    let e : left ≡ suc (ar .args .count - (lo .loop .i + 1)) = omega (arith, lt .loop-test .taken) in
+    let more : suc (lo .loop .i) ≡ lo .loop .i + 1 = omega arith in (
       omega (arith, lt .loop-test .taken),
       λ ns h.
           let i = l .1 ns h in
           let r = p .pair .ensures ns (i .1) in
-          (i .0 ∙ pairs-more _ _ ns _ _ _ _ _ _ _ (omega (arith, lt .loop-test .taken)) (r .0) (c .plus .ensures) ∙ simp less, r .1),
+          (rw (e, pairsInto, ← r .0, ← c .plus .ensures, more) at (i .0), r .1),
     )
 
 pairs-returns : (t : ℕ) → pairs-lts.Need-returns (pairs-claims t) (pairs-at t) pairs.Post pairs-Inv-loop pairs-μ-loop
+unfolding ifAt pairsInto
 pairs-returns t c ns h =
     let op = c .before .before .before in
     let lt = op .before .before in
     let lo = lt .before in
-    let i = lo .loop .inv .1 ns h in (
-      if-is _ _ ns _ _ _ _ _ (i .0 ∙ pairs-none _ _ ns _ _ _ _ _ _ _ (omega (arith, lt .loop-test .left))) (op .operation .ensures)
-          (c .close .ensures),
-      i .1,
-    )
+    let i = lo .loop .inv .1 ns h in
+    let e : lo .before .before .args .count - lo .loop .i ≡ 0 = omega (arith, lt .loop-test .left) in
+    (rw (rw e at (i .0), ← op .operation .ensures, ← c .close .ensures), i .1)
 
 par-returns : (t : ℕ) → par-lts.Need-returns (par-claims t) (par-at t) par.Post
-par-returns t c ns h = (par-none _ _ ns _ _ _ _ _ (c .if1 .taken), h)
+unfolding parAt
+par-returns t c ns h = (rw (eq-eqb _ 0 (c .if1 .taken)), h)
 
 par-branch-requires : (t : ℕ) → par-lts.Need-branch-requires (par-claims t) (par-at t) par.Post
 par-branch-requires t c κs =
@@ -721,64 +795,80 @@ parts-alt-requires t c κs =
     (omega (arith, p .pre .0), rw (ca .count-at .ensures) (parts-few _ _ _ (p .pre .1)))
 
 parts-returns : (t : ℕ) → parts-lts.Need-returns (parts-claims t) (parts-at t) parts.Post
+unfolding partsAt seqAt
 parts-returns t c ns h =
     let et = c .before .before .before in
     let ca = et .before .before in
-    let r = c .seq .ensures ns h in (parts-seq _ _ ns _ _ _ _ _ _ (ca .count-at .ensures) (et .enum-told .given .1) (r .0), r .1)
+    let r = c .seq .ensures ns h in
+    (rw (r .0, ca .count-at .ensures, et .enum-told .given .1), r .1)
 
 parts-returns-2 : (t : ℕ) → parts-lts.Need-returns-2 (parts-claims t) (parts-at t) parts.Post
+unfolding partsAt ifAt
 parts-returns-2 t c ns h =
     let co = c .before .before .before .before in
     let et = co .before .before in
     let ca = et .before .before in
     let r = c .pairs .ensures ns h in
-    (parts-if _ _ ns _ _ _ _ _ _ (ca .count-at .ensures) (et .enum-told2 .given .1) (co .count .given .1) (r .0), r .1)
+    (rw (r .0, ca .count-at .ensures, et .enum-told2 .given .1, co .count .given .1), r .1)
 
 parts-returns-3 : (t : ℕ) → parts-lts.Need-returns-3 (parts-claims t) (parts-at t) parts.Post
+unfolding partsAt whileAt
 parts-returns-3 t c ns h =
     let co = c .before .before .before .before in
     let et = co .before .before in
     let ca = et .before .before in
     let r = c .repetition .ensures ns h in
-    (parts-while _ _ ns _ _ _ _ _ _ (ca .count-at .ensures) (et .enum-told2 .given .1) (co .count2 .given .1) (r .0), r .1)
+    (rw (r .0, ca .count-at .ensures, et .enum-told2 .given .1, co .count2 .given .1), r .1)
 
 parts-returns-4 : (t : ℕ) → parts-lts.Need-returns-4 (parts-claims t) (parts-at t) parts.Post
+unfolding partsAt altAt
 parts-returns-4 t c ns h =
     let et = c .before .before .before in
     let ca = et .before .before in
-    let r = c .alt .ensures ns h in (parts-alt _ _ ns _ _ _ _ _ _ (ca .count-at .ensures) (et .enum-told3 .given .1) (r .0), r .1)
+    let r = c .alt .ensures ns h in
+    (rw (r .0, ca .count-at .ensures, et .enum-told3 .given .1), r .1)
 
 repetition-returns : (t : ℕ) → repetition-lts.Need-returns (repetition-claims t) (repetition-at t) repetition.Post
+unfolding whileAt pairAt
 repetition-returns t c ns h =
     let p = c .before .before in
-    let r = p .pair .ensures ns h in (while-is _ _ ns _ _ _ _ (r .0) (c .distance .ensures), r .1)
+    let r = p .pair .ensures ns h in (rw (← r .0, ← c .distance .ensures), r .1)
 
 seq-loop-holds : (t : ℕ) → seq-lts.Need-loop-holds (seq-claims t) (seq-at t) seq.Post seq-Inv-loop seq-μ-loop
 seq-loop-holds t c ns h = (refl, h)
 
 seq-loop-again : (t : ℕ) → seq-lts.Need-loop-again (seq-claims t) (seq-at t) seq.Post seq-Inv-loop seq-μ-loop
+unfolding seqAt seqInto
 seq-loop-again t c ns h =
     let lt = c .before .before .before in
     let lo = lt .before in
     let i = lo .loop .inv ns h in
     let r = within _ _ _ refl refl (c .statement .ensures) ns (i .1) in
-    (i .0 ∙ seq-more _ _ ns _ _ _ _ _ (lt .loop-test .taken) (r .0), r .1)
+    let e : lo .loop .left ≡ suc (lo .loop .left - 1) = omega (arith, lt .loop-test .taken) in
+    (rw (e, seqInto, ← r .0) at (i .0), r .1)
 
 seq-returns : (t : ℕ) → seq-lts.Need-returns (seq-claims t) (seq-at t) seq.Post seq-Inv-loop seq-μ-loop
+unfolding seqAt seqInto
 seq-returns t c ns h =
     let lo = c .before in
-    let i = lo .loop .inv ns h in (seq-none _ _ ns _ _ _ _ _ (omega (arith, c .loop-test .left)) ∙ sym (i .0), i .1)
+    let i = lo .loop .inv ns h in
+    let e : lo .loop .left ≡ 0 = omega (arith, c .loop-test .left) in
+    (rw e at (sym (i .0)), i .1)
 
 statement-returns : (t : ℕ) → statement-lts.Need-returns (statement-claims t) (statement-at t) statement′.Post
-statement-returns t c ns h = (stmt-none _ _ _ _ _ _ _ (c .if1 .taken), h)
+unfolding stmtInto
+statement-returns t c ns h = (rw (c .if1 .taken), h)
 
 statement-returns-2 : (t : ℕ) → statement-lts.Need-returns-2 (statement-claims t) (statement-at t) statement′.Post
+unfolding stmtInto insideAt
 statement-returns-2 t c ns h =
     let sk = c .before .before .before .before in
     let v = sk .before .before in
     let if = v .before in
     let r = relabel _ _ _ _ (omega (arith, if .if1 .left)) refl refl (c .inside .ensures) ns h in
-    (stmt-inside _ _ ns _ _ _ _ (if .if1 .left) (v .value-at .ensures) (sk .stmt-kind .ensures) (r .0), r .1)
+    let d = if .before .before .before .args .scope .depth in
+    let e : d ≡ suc (d - 1) = omega (arith, if .if1 .left) in
+    (rw e (rw (← v .value-at .ensures, ← sk .stmt-kind .ensures, ← r .0)), r .1)
 
 pub +alt+branch+branches+choice+choices+declare+inside+pair+pairs+par+parts+repetition+seq+statement-spec :
     {M : Type 1} → statement M
