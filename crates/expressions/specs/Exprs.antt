@@ -82,7 +82,7 @@ arranged p h at =
     inOrder (orderOf (registersIn l) (registersIn r)) h at right (nextIn r)
 
 -- two sides, the left one at a place, apart from the operator; h values are held before
-abbrev pub sidesInto : (inner : (held at : ℕ) → Code → Wrote) → (plan : List ℕ) → (h at : ℕ) → Code → Wrote
+unfoldable pub sidesInto : (inner : (held at : ℕ) → Code → Wrote) → (plan : List ℕ) → (h at : ℕ) → Code → Wrote
 sidesInto inner p h at c =
     let a = arranged p h at in
     let one = inner h (a .first) c in

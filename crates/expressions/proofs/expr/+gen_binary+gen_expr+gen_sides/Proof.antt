@@ -1,6 +1,6 @@
 -- `expressions::expr::gen_binary`, `expressions::expr::gen_expr` and `expressions::expr::gen_sides` meet their contracts; the measure is
 -- three times the depth left, for `gen_sides` one more, for `gen_binary` two more. Assumes nothing.
-use Prim.Native.Nat.{ℕ, zero, suc, _+_, _-_, _*_, _<_}
+use Prim.Native.Nat.{ℕ, suc, _+_, _-_, _*_, _<_}
 use borrow.Fn.Kinds.{In}
 use borrow.Fn.PlainCycle.{Measures, is, falls, and}
 use Rattle.expressions.proofs.expr.gen_binary.Reads as gen-binary
@@ -26,62 +26,8 @@ use Rattle.expressions.proofs.expr.+gen_binary+gen_expr+gen_sides.{stat
 use Rattle.expressions.proofs.expr.+gen_binary+gen_expr+gen_sides.Tie.{close}
 use borrow.Author.Needs.{needs}
 use native.Mathlib.Omega.{arith}
-use mathlib.Core.List.{List}
-use mathlib.Core.Path.{_≡_, refl, sym, ap, _∙_}
-use Rattle.model.specs.declared.kinds.ExprKind.{ExprKind}
-use Rattle.model.specs.declared.kinds.Operator.{Operator}
-use Rattle.numbers.specs.Items.{valueAt}
-use Rattle.numbers.specs.Kinds.{exprKind, byExpr, operatorOf}
-use Rattle.numbers.specs.declared.Value.{Value}
-use Rattle.expressions.specs.declared.sides.Sides.{Sides}
-use Rattle.expressions.specs.Emits.{Code, at}
-use Rattle.expressions.specs.Exprs.{Wrote, written, codeOf, notInto, constantInto, variableInto, operatorInto, arranged, betweenInto}
-use Rattle.expressions.specs.Exprs.{behindInto, exprInto, sidesAt, binaryInto}
-
-module _ (d w : ℕ) (vs p s : List ℕ) (h i : ℕ) (c : Code) where
-  none : d ≡ 0 → exprInto d w vs p s h i c ≡ written i c
-  unfolding exprInto
-  none e = rw e
-
-  -- `binaryInto` over `sidesAt`, and by what each part wrote
-  sided : binaryInto d w vs p s h i c
-      ≡ (let o = valueAt s i in
-      let r = sidesAt d w vs p s h (o .next) c in
-      written (r .next) (operatorInto (operatorOf (o .value)) (codeOf r)))
-  unfolding binaryInto sidesAt
-  sided = refl
-
-  operated : {o : Value} {r : Wrote} {k : Operator} {e : Code} → o ≡ valueAt s i → r ≡ sidesAt d w vs p s h (o .next) c
-      → k ≡ operatorOf (o .value) → e ≡ operatorInto k (codeOf r) → written (r .next) e ≡ binaryInto d w vs p s h i c
-  operated f q g e = simp (sided, ← f, ← q, ← g, ← e)
-
--- what follows a kind, and `exprInto` unrolled once where there is depth left
-abbrev byKind : (d w : ℕ) → (vs plan s : List ℕ) → (h : ℕ) → Code → ExprKind → (at : ℕ) → Wrote
-byKind d w vs p s h c k at =
-    byExpr k (constantInto s at c) (variableInto w vs s at c) (notInto (exprInto (d - 1) w vs p s h at c))
-    (binaryInto (d - 1) w vs p s h at c)
-
-turn : (d w : ℕ) (vs p s : List ℕ) (h i : ℕ) (c : Code) → (d ≡ 0 → ⊥)
-    → exprInto d w vs p s h i c ≡ (let v = valueAt s i in byKind d w vs p s h c (exprKind (v .value)) (v .next))
-unfolding exprInto binaryInto
-turn zero w vs p s h i c z = absurd (z refl)
-turn (suc d) w vs p s h i c z = let e : suc d - 1 ≡ d = omega arith in rw e
-
--- two sides, once it is known how they are brought in; and `sidesAt` by what each part wrote
-abbrev bySides : (d w : ℕ) → (vs plan s : List ℕ) → (h : ℕ) → Code → Sides → Wrote
-bySides d w vs p s h c a =
-    let one = exprInto d w vs p s h (a .first) c in
-    let two = exprInto d w vs p s (a .held) (a .second) (betweenInto (a .order) h (codeOf one)) in
-    written (a .next) (behindInto (a .order) h (codeOf two))
-
-brought : (d w : ℕ) (vs p s : List ℕ) (h i : ℕ) (c : Code) {a : Sides} {one two : Wrote} {b e : Code} → a ≡ arranged p h i
-    → one ≡ exprInto d w vs p s h (a .first) c → b ≡ betweenInto (a .order) h (codeOf one)
-    → two ≡ exprInto d w vs p s (a .held) (a .second) b → e ≡ behindInto (a .order) h (codeOf two)
-    → written (a .next) e ≡ sidesAt d w vs p s h i c
-unfolding sidesAt
-brought d w vs p s h i c {a} {one} {two} {b} {e} f q g r k =
-    let m : written (a .next) e ≡ bySides d w vs p s h c a = simp (← q, ← g, ← r, ← k) in
-    m ∙ ap (λ x. bySides d w vs p s h c x) f
+use mathlib.Core.Path.{_≡_}
+use Rattle.expressions.specs.Exprs.{sidesInto, exprInto, sidesAt, binaryInto}
 
 abbrev μ-gen-binary : Measures 4 gen-binary-kinds.ps ℕ
 μ-gen-binary κs a = 3 * a .1 .1 .1 .0 + 2
@@ -163,36 +109,33 @@ gen-binary-gen-sides-requires t c κs =
     (omega (arith, p .0), p .1)
 
 gen-binary-returns : (t : ℕ) → gen-binary-lts.Need-returns (gen-binary-claims t) (gen-binary-at t) gen-binary.Post
+unfolding binaryInto sidesAt
 gen-binary-returns t c vs h =
     let o = c .before .before in
     let r = o .before .before in
-    operated _ _ _ _ _ _ _ _ (r .before .before .value-at .ensures) (r .gen-sides .ensures vs h) (o .operator-of .ensures)
-    (c .gen-operator .ensures)
-
--- an answer that is right once the kind is read
-kinded : {t : ℕ} {k : ExprKind} {r : Wrote} (c : gen-expr-lts.After-expr-kind (gen-expr-claims t) (gen-expr-at t) gen-expr.Post)
-    (vs : List ℕ)
-    → c .expr-kind .result ≡ k
-    → let v = c .before .before in
-    let a = v .before .before .before .args in
-    let f = a .frame in
-    let e = at (a .cursor .here) (a .list .now) in
-    r ≡ byKind (a .depth) (f .w) vs (a .plan .now) (a .table .now) (f .held) e k (v .value-at .result .next)
-    → r ≡ exprInto (a .depth) (f .w) vs (a .plan .now) (a .table .now) (f .held) (a .cursor .at) e
-kinded c vs q e =
-    let v = c .before .before in
-    e ∙ sym (turn _ _ _ _ _ _ _ _ (v .before .if1 .left) ∙ simp (← v .value-at .ensures, sym (c .expr-kind .ensures) ∙ q))
+    rw (← r .before .before .value-at .ensures, ← r .gen-sides .ensures vs h, ← o .operator-of .ensures, ← c .gen-operator .ensures)
 
 gen-expr-returns : (t : ℕ) → gen-expr-lts.Need-returns (gen-expr-claims t) (gen-expr-at t) gen-expr.Post
-gen-expr-returns t c vs h = sym (none _ _ _ _ _ _ _ _ (c .if1 .taken))
+unfolding exprInto
+gen-expr-returns t c vs h = rw (c .if1 .taken)
 
 gen-expr-returns-2 : (t : ℕ) → gen-expr-lts.Need-returns-2 (gen-expr-claims t) (gen-expr-at t) gen-expr.Post
+unfolding exprInto binaryInto
 gen-expr-returns-2 t c vs h =
-    let k = c .before .before in kinded (k .before .before) vs (k .enum-told .given .1) (c .gen-constant .ensures)
+    let k = c .before .before in
+    let v = k .before .before .before .before in
+    let d = v .before .before .before .args .depth in
+    let one : d ≡ suc (d - 1) = omega (arith, v .before .if1 .left) in
+    rw one (rw (← v .value-at .ensures, ← k .before .before .expr-kind .ensures, k .enum-told .given .1, c .gen-constant .ensures))
 
 gen-expr-returns-3 : (t : ℕ) → gen-expr-lts.Need-returns-3 (gen-expr-claims t) (gen-expr-at t) gen-expr.Post
+unfolding exprInto binaryInto
 gen-expr-returns-3 t c vs h =
-    let k = c .before .before in kinded (k .before .before) vs (k .enum-told2 .given .1) (c .gen-variable .ensures vs h)
+    let k = c .before .before in
+    let v = k .before .before .before .before in
+    let d = v .before .before .before .args .depth in
+    let one : d ≡ suc (d - 1) = omega (arith, v .before .if1 .left) in
+    rw one (rw (← v .value-at .ensures, ← k .before .before .expr-kind .ensures, k .enum-told2 .given .1, c .gen-variable .ensures vs h))
 
 gen-expr-gen-expr-requires : (t : ℕ)
     → gen-expr-lts.Need-gen-expr-requires (gen-expr-claims t) (gen-expr-at t) gen-expr.Post
@@ -201,10 +144,15 @@ gen-expr-gen-expr-requires t c κs =
     (omega (arith, p .0), p .1)
 
 gen-expr-returns-4 : (t : ℕ) → gen-expr-lts.Need-returns-4 (gen-expr-claims t) (gen-expr-at t) gen-expr.Post
+unfolding exprInto binaryInto
 gen-expr-returns-4 t c vs h =
     let e = c .before .before in
     let k = e .before .before in
-    kinded (k .before .before) vs (k .enum-told3 .given .1) (simp (← e .gen-expr .ensures vs h, ← c .plain .ensures))
+    let v = k .before .before .before .before in
+    let d = v .before .before .before .args .depth in
+    let one : d ≡ suc (d - 1) = omega (arith, v .before .if1 .left) in
+    let inner = e .gen-expr .ensures vs h in
+    rw one (rw (← v .value-at .ensures, ← k .before .before .expr-kind .ensures, k .enum-told3 .given .1, ← inner, ← c .plain .ensures))
 
 gen-expr-gen-binary-requires : (t : ℕ)
     → gen-expr-lts.Need-gen-binary-requires (gen-expr-claims t) (gen-expr-at t) gen-expr.Post
@@ -213,8 +161,13 @@ gen-expr-gen-binary-requires t c κs =
     (omega (arith, p .0), p .1)
 
 gen-expr-returns-5 : (t : ℕ) → gen-expr-lts.Need-returns-5 (gen-expr-claims t) (gen-expr-at t) gen-expr.Post
+unfolding exprInto binaryInto
 gen-expr-returns-5 t c vs h =
-    let k = c .before .before in kinded (k .before .before) vs (k .enum-told4 .given .1) (c .gen-binary .ensures vs h)
+    let k = c .before .before in
+    let v = k .before .before .before .before in
+    let d = v .before .before .before .args .depth in
+    let one : d ≡ suc (d - 1) = omega (arith, v .before .if1 .left) in
+    rw one (rw (← v .value-at .ensures, ← k .before .before .expr-kind .ensures, k .enum-told4 .given .1, c .gen-binary .ensures vs h))
 
 gen-sides-gen-expr-requires : (t : ℕ)
     → gen-sides-lts.Need-gen-expr-requires (gen-sides-claims t) (gen-sides-at t) gen-sides.Post
@@ -229,13 +182,18 @@ gen-sides-gen-expr-requires-2 t c κs =
     (omega (arith, p .0), p .1)
 
 gen-sides-returns : (t : ℕ) → gen-sides-lts.Need-returns (gen-sides-claims t) (gen-sides-at t) gen-sides.Post
+unfolding sidesAt sidesInto
 gen-sides-returns t c vs h =
     let two = c .before .before in
     let b = two .before .before in
     let one = b .before .before in
-    let a = one .before .before .before .before .args in
-    brought _ _ _ _ _ _ _ (at (a .cursor .here) (a .list .now)) (one .before .before .arrange .ensures) (one .gen-expr .ensures vs h)
-    (b .put-between .ensures) (two .gen-expr2 .ensures vs h) (c .put-behind .ensures)
+    rw (
+      ← one .before .before .arrange .ensures,
+      ← one .gen-expr .ensures vs h,
+      ← b .put-between .ensures,
+      ← two .gen-expr2 .ensures vs h,
+      ← c .put-behind .ensures,
+    )
 
 pub +gen-binary+gen-expr+gen-sides-spec : {M : Type 1} → statement M
 +gen-binary+gen-expr+gen-sides-spec =
