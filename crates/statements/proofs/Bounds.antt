@@ -14,8 +14,7 @@ use Rattle.model.specs.Scheme.{operatorSize, sidesSize, exprSize, wrapSize, who
 use Rattle.model.specs.Scheme.{sizeEnable, sizeDisable, sizeBranches, enableSize, disableSize, inputSize}
 use Rattle.statements.proofs.Spelled.{ExprAt, constantAt, variableAt, notAt, binaryAt, StmtAt, skipAt, stopAt, assignAt, inputAt}
 use Rattle.statements.proofs.Spelled.{outputAt, varAt, chanAt, seqAt, parAt, ifAt, whileAt, altAt, StmtsAt, noStmtAt, stmtsAt}
-use Rattle.statements.proofs.Spelled.{PairsAt}
-use Rattle.statements.proofs.Spelled.{noPairAt, pairAt, GuardAt, inputGuardAt, skipGuardAt, GuardsAt, noGuardAt, guardsAt}
+use Rattle.statements.proofs.Spelled.{PairsAt, noPairAt, pairAt, GuardAt, inputGuardAt, skipGuardAt, GuardsAt, noGuardAt, guardsAt}
 
 operator-small : (op : Operator) → operatorSize op ≤ 2
 unfolding operatorSize

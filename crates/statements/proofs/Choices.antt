@@ -26,19 +26,19 @@ use Rattle.expressions.specs.Names.{Names}
 use Rattle.expressions.specs.Exprs.{written}
 use Rattle.expressions.specs.Simples.{inInto, inputInto}
 use Rattle.statements.specs.Stmts.{Open, noEnds}
-use Rattle.statements.specs.Alts.{guardInto, guarded, behindGuard, enableInto, disableInto, branchInput, choiceInto, choicesInto}
+use Rattle.statements.specs.Alts.{guardInto, guarded, behindGuard, enableInto, disableInto, branchInput, choiceInto}
+use Rattle.statements.specs.Alts.{choicesInto, guardsInto, altInto}
 use Rattle.model.specs.declared.kinds.StmtKind.the-variants.{Alt}
 use Rattle.model.specs.declared.kinds.GuardKind.the-variants.{Input as InputGuard, Skip as SkipGuard}
 use Rattle.numbers.specs.Kinds.{stmtKind, guardKind, countIn}
 use Rattle.instruction.specs.Codes.{AJW, DISC, DISS, ENBC, ENBS}
-use Rattle.statements.specs.Kinds.{stmtInto, innerAt}
+use Rattle.statements.specs.Kinds.{stmtInto, innerAt, insideInto, partsInto}
 use Rattle.statements.specs.declared.alt.Guard.{Guard}
 use Rattle.statements.proofs.Spelled.{KindAt, OneAt, ExprAt, CountAt, StmtAt, inputGuardAt, skipGuardAt, GuardsAt, noGuardAt}
 use Rattle.statements.proofs.Spelled.{guardsAt}
 use Rattle.statements.proofs.Planned.{next-is, PlannedExpr, PlannedStmt, PlannedGuards}
 use Rattle.statements.proofs.Fills.{filled, fill-then, fill-before, fill-none, fill-swap, Room, room-left, room-right, emits}
-use Rattle.statements.proofs.Fills.{emits-fills}
-use Rattle.statements.proofs.Fills.{emits-at, gap-fills}
+use Rattle.statements.proofs.Fills.{emits-fills, emits-at, gap-fills}
 use Rattle.statements.proofs.Closes.{closed, close-is, Kept, kept-all, kept-more, closed-more, closed-none}
 use Rattle.statements.proofs.ExprCode.{whole-code, local-is}
 use Rattle.statements.proofs.Compiles.{Scoped, inner-scope, Placed, Written, Compiles}
@@ -306,7 +306,7 @@ module _ (word : Site → ℕ) (workspace : ℕ → ℕ) (s plan : List ℕ) whe
 
     pub alt-code : {i n m q k : ℕ} {gs : Guards} (j : ℕ) → KindAt s stmtKind i Alt n → CountAt s 0 32 n k m → (a : GuardsAt s d sc k m gs q)
         → PlannedGuards s plan a → Placed word workspace s plan w j (ALT gs) → Written word workspace s plan (suc d) ns w j i q (ALT gs)
-    unfolding stmtInto countIn code need functionCode operationCode operationInto
+    unfolding stmtInto insideInto partsInto altInto guardsInto countIn code need functionCode operationCode operationInto
     alt-code {q = q} {k = k} {gs = gs} j t c a told p o =
         let choice = j + 2 + sizeEnable gs + 1 + sizeDisable gs in
         let over = choice + 1 + sizeBranches gs in

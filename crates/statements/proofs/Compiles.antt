@@ -19,7 +19,7 @@ use Rattle.expressions.specs.Emits.{at, operationInto}
 use Rattle.expressions.specs.Names.{Names}
 use Rattle.expressions.specs.Exprs.{written}
 use Rattle.expressions.specs.Simples.{inputInto, outputInto, assignInto, inInto, outInto, simpleInto}
-use Rattle.statements.specs.Kinds.{stmtInto}
+use Rattle.statements.specs.Kinds.{stmtInto, insideInto}
 use Rattle.statements.proofs.Spelled.{KindAt, OneAt, ExprAt, StmtAt}
 use Rattle.statements.proofs.Planned.{PlannedExpr, PlannedStmt}
 use Rattle.statements.proofs.Fills.{filled, fill-none, Room, room-left, emits-fills, emits-at}
@@ -62,16 +62,16 @@ module _ (word : Site → ℕ) (workspace : ℕ → ℕ) (s plan : List ℕ) whe
 
   module _ {d : ℕ} {sc : M.Scope} {ns : Names} (w j : ℕ) (names : Scoped word (suc d) sc ns) where
     pub skip-code : {i n : ℕ} → KindAt s stmtKind i Skip n → Placed w j SKIP → Written (suc d) ns w j i n SKIP
-    unfolding stmtInto simpleInto code
+    unfolding stmtInto insideInto simpleInto code
     skip-code k p o = rw (k .value, k .is) (ap (written _) (sym (fill-none j o)))
 
     pub stop-code : {i n : ℕ} → KindAt s stmtKind i Stop n → Placed w j STOP → Written (suc d) ns w j i n STOP
-    unfolding stmtInto simpleInto code
+    unfolding stmtInto insideInto simpleInto code
     stop-code k p o = rw (k .value, k .is) (ap (written _) (stopp-fills j o (p .room)))
 
     pub assign-code : {i n m q : ℕ} {x : Site} {e : Expr} → KindAt s stmtKind i Assign n → OneAt s (sc .variables) n x m
         → (c : ExprAt s (sc .variables) d m e q) → PlannedExpr s plan c → Placed w j (assign x e) → Written (suc d) ns w j i q (assign x e)
-    unfolding stmtInto simpleInto assignInto code functionCode
+    unfolding stmtInto insideInto simpleInto assignInto code functionCode
     assign-code {x = x} {e = e} k a c told p o =
         rw (
           k .value,
@@ -84,7 +84,7 @@ module _ (word : Site → ℕ) (workspace : ℕ → ℕ) (s plan : List ℕ) whe
 
     pub input-code : {i n m q : ℕ} {c x : Site} → KindAt s stmtKind i Input n → OneAt s (sc .channels) n c m
         → OneAt s (sc .variables) m x q → Placed w j (input c x) → Written (suc d) ns w j i q (input c x)
-    unfolding stmtInto simpleInto inInto inputInto code functionCode operationCode operationInto
+    unfolding stmtInto insideInto simpleInto inInto inputInto code functionCode operationCode operationInto
     input-code {c = c} {x = x} k a b p o =
         rw (
           k .value,
@@ -98,7 +98,7 @@ module _ (word : Site → ℕ) (workspace : ℕ → ℕ) (s plan : List ℕ) whe
 
     pub output-code : {i n m q : ℕ} {c : Site} {e : Expr} → KindAt s stmtKind i Output n → OneAt s (sc .channels) n c m
         → (b : ExprAt s (sc .variables) d m e q) → PlannedExpr s plan b → Placed w j (output c e) → Written (suc d) ns w j i q (output c e)
-    unfolding stmtInto simpleInto outInto outputInto code functionCode operationCode operationInto
+    unfolding stmtInto insideInto simpleInto outInto outputInto code functionCode operationCode operationInto
     output-code {c = c} {e = e} k a b told p o =
         rw (
           k .value,

@@ -29,8 +29,8 @@ use Rattle.numbers.specs.Kinds.{stmtKind, countIn}
 use Rattle.numbers.specs.declared.kinds.Declared.{Declared}
 use Rattle.numbers.specs.declared.kinds.Declared.the-variants.{Variables, Channels}
 use Rattle.instruction.specs.Codes.{AJW}
-use Rattle.statements.specs.Stmts.{firstInto, initialInto}
-use Rattle.statements.specs.Kinds.{stmtInto}
+use Rattle.statements.specs.Stmts.{firstInto, initialInto, declarationInto}
+use Rattle.statements.specs.Kinds.{stmtInto, insideInto}
 use Rattle.statements.proofs.Spelled.{KindAt, CountAt, StmtAt}
 use Rattle.statements.proofs.Planned.{PlannedStmt}
 use Rattle.statements.proofs.Fills.{filled, fill-then, Room, room-left, room-right, emits, emits-fills, emits-at}
@@ -142,7 +142,7 @@ module _ (word : Site → ℕ) (workspace : ℕ → ℕ) (s plan : List ℕ)
     pub var-code : {i n m q k : ℕ} {b : Stmt} → KindAt s stmtKind i Var n → CountAt s 1 32 n k m
         → (a : StmtAt s d (withVariables i k sc) m b q) → PlannedStmt s plan a
         → Placed word workspace s plan w j (VAR i k b) → Written word workspace s plan (suc d) ns w j i q (VAR i k b)
-    unfolding stmtInto countIn code firstInto functionCode operationCode operationInto need
+    unfolding stmtInto insideInto declarationInto countIn code firstInto functionCode operationCode operationInto need
     var-code {i} {k = k} t c a told p o =
         rw (t .value, t .is, c .there .value, c .fits)
         (declaration-code w j inner Variables (plain ldc 0) (λ c. refl) k (c .most) a told
@@ -156,7 +156,7 @@ module _ (word : Site → ℕ) (workspace : ℕ → ℕ) (s plan : List ℕ)
     pub chan-code : {i n m q k : ℕ} {b : Stmt} → KindAt s stmtKind i Chan n → CountAt s 1 32 n k m
         → (a : StmtAt s d (withChannels i k sc) m b q) → PlannedStmt s plan a
         → Placed word workspace s plan w j (CHAN i k b) → Written word workspace s plan (suc d) ns w j i q (CHAN i k b)
-    unfolding stmtInto countIn code firstInto functionCode operationCode operationInto need
+    unfolding stmtInto insideInto declarationInto countIn code firstInto functionCode operationCode operationInto need
     chan-code {i} {k = k} t c a told p o =
         rw (t .value, t .is, c .there .value, c .fits)
         (declaration-code w j inner Channels (operation mint) (λ c. refl) k (c .most) a told

@@ -25,7 +25,7 @@ use Rattle.statements.specs.Stmts.{startInto, branchInto, branchesInto, 
 use Rattle.model.specs.declared.kinds.StmtKind.the-variants.{Par}
 use Rattle.numbers.specs.Kinds.{stmtKind, countIn}
 use Rattle.instruction.specs.Codes.{AJW}
-use Rattle.statements.specs.Kinds.{stmtInto, innerAt}
+use Rattle.statements.specs.Kinds.{stmtInto, innerAt, insideInto}
 use Rattle.statements.proofs.Spelled.{KindAt, CountAt, StmtAt, StmtsAt, noStmtAt, stmtsAt}
 use Rattle.statements.proofs.Planned.{PlannedStmt, PlannedStmts}
 use Rattle.statements.proofs.Fills.{filled, fill-then, fill-before, fill-none, Room, room-left, emits-fills, emits-at}
@@ -98,7 +98,7 @@ module _ (word : Site → ℕ) (workspace : ℕ → ℕ) (s plan : List ℕ) whe
         → LaidBranches workspace (w - 2) (stmt b ss) → 2 + sumNeed (stmt b ss) ≤ wordLimit
         → Room j (codePar word w j (stmt b ss))
         → parInto (suc k) (innerAt d plan s) w ns plan i (at j o) ≡ written n (filled j (codePar word w j (stmt b ss)) o)
-    unfolding branchInto codePar sumNeed headerInto functionCode operationCode operationInto
+    unfolding parInto branchInto codePar sumNeed headerInto functionCode operationCode operationInto
     branches-code {k} {i} {m} {n} {b} {ss} j o a one c others many small laid few r =
         let first = j + 6 + 3 * howMany ss in
         let over = first + size b + 2 + sizeEnds ss in
@@ -174,7 +174,7 @@ module _ (word : Site → ℕ) (workspace : ℕ → ℕ) (s plan : List ℕ) whe
 
     pub par-code : {i n m q k : ℕ} {ss : Stmts} (j : ℕ) → KindAt s stmtKind i Par n → CountAt s 0 16 n k m → (a : StmtsAt s d sc k m ss q)
         → PlannedStmts s plan a → Placed word workspace s plan w j (PAR i ss) → Written word workspace s plan (suc d) ns w j i q (PAR i ss)
-    unfolding PlannedStmts stmtInto countIn code need
+    unfolding PlannedStmts stmtInto insideInto parInto countIn code need
     par-code j t c noStmtAt told p o = rw (t .value, t .is, c .there .value) (ap (written _) (sym (fill-none j o)))
     par-code j t c (stmtsAt a g) told p o =
         rw (t .value, t .is, c .there .value, c .fits)

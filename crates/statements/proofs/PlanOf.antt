@@ -23,14 +23,14 @@ use Rattle.counts.specs.declared.Role.the-variants.{Value as ForValue, Output a
 use Rattle.plan.specs.Entries.{nextOf, nextIn, planAt, putAt, sidesEntry, Entered, entered, exprEntered, sidesEntered}
 use Rattle.plan.specs.Extents.{extended, extentEntry, extentIn, Measured, measured, wholeMeasured, simpleMeasured, guardMeasured}
 use Rattle.plan.specs.Extents.{headMeasured, joined, partsMeasured, insideMeasured, stmtMeasured}
-use Rattle.plan.specs.declared.extent.Extent.{Extent}
 use Rattle.numbers.specs.Items.{valueAt}
 use Rattle.numbers.specs.Kinds.{stmtKind, countIn}
 use Rattle.numbers.specs.declared.kinds.Head.{Head}
 use Rattle.numbers.specs.declared.kinds.Head.the-variants.{Nothing, Condition, Guard as GuardHead}
-use Rattle.statements.proofs.Spelled.{ExprAt, constantAt, variableAt, notAt, binaryAt, GuardAt, inputGuardAt, skipGuardAt, StmtAt}
-use Rattle.statements.proofs.Spelled.{skipAt, stopAt, assignAt, inputAt, outputAt, varAt, chanAt, seqAt, parAt, ifAt, whileAt, altAt}
-use Rattle.statements.proofs.Spelled.{StmtsAt, noStmtAt, stmtsAt, PairsAt, noPairAt, pairAt, GuardsAt, noGuardAt, guardsAt}
+use Rattle.statements.proofs.Spelled.{NumeralAt, KindAt, ExprAt, constantAt, variableAt, notAt, binaryAt, GuardAt, inputGuardAt}
+use Rattle.statements.proofs.Spelled.{skipGuardAt, StmtAt, skipAt, stopAt, assignAt, inputAt, outputAt, varAt, chanAt, seqAt, parAt}
+use Rattle.statements.proofs.Spelled.{ifAt, whileAt, altAt, StmtsAt, noStmtAt, stmtsAt, PairsAt, noPairAt, pairAt, GuardsAt}
+use Rattle.statements.proofs.Spelled.{noGuardAt, guardsAt}
 use Rattle.statements.proofs.Planned.{Tells, entry-tells, next-is, expr-ends, holds-few, InsideExpr, PlannedExpr, PlannedGuard}
 use Rattle.statements.proofs.Planned.{InsideStmt, PlannedStmts, PlannedPairs, PlannedGuards, PlannedStmt}
 
@@ -179,6 +179,14 @@ module _ (s : List ℕ) where
     abbrev Made : (i n x : ℕ) → List ℕ → (List ℕ → Type 0) → Measured → Type 0
     Made i n x p P m = (m .extent ≡ extended n x) × Leaves s i n p (m .plan) P
 
+    -- a kind and the number behind it lie ahead
+    past : {A : Type 0} {of : ℕ → A} {k : A} {i n v m : ℕ} → KindAt s of i k n → NumeralAt s n v m → suc i ≤ m
+    past k t = omega (arith, k .ahead, t .ahead)
+
+    -- the same from a place before it on
+    ahead : {i n x : ℕ} {p : List ℕ} {P : List ℕ → Type 0} (lo : ℕ) {m : Measured} → lo ≤ i → Made i n x p P m → Made lo n x p P m
+    ahead lo l (t, f) = (t, wider lo _ f l (omega arith) (f .inside))
+
     whole-made : {vs : List Site} {d i n : ℕ} {e : Expr} (r : Role) (p : List ℕ) (a : ExprAt s vs d i e n) → d ≤ 32 → length p ≡ tableLimit
         → Made i n (asked r (temporaries e)) p (λ q. PlannedExpr s q a) (wholeMeasured r d s i p)
     unfolding wholeMeasured
@@ -200,8 +208,7 @@ module _ (s : List ℕ) where
           wider i n f (omega (arith, k .ahead)) (omega (arith, c .there .ahead, x .there .ahead)) (x .there .inside),
         )
     guard-made {i = i} {n = n} p (skipGuardAt k e) deep long =
-        let (t, f) = whole-made ForGuard p e deep long in
-        rw (k .value, k .is) (t, wider i n f (omega (arith, k .ahead)) (omega arith) (f .inside))
+        rw (k .value, k .is) (ahead i (omega (arith, k .ahead)) (whole-made ForGuard p e deep long))
 
     -- a statement by what is in it: its own entry is put at its first place
     stmt-own : {w : Scope} {d i n : ℕ} {b : Stmt} {p : List ℕ} (m : Measured) (a : StmtAt s (suc d) w i b n) → length p ≡ tableLimit
@@ -224,10 +231,23 @@ module _ (s : List ℕ) where
     unfolding partsMeasured
     part-turn k h b d i j n x y z p f g = rw (f, g)
 
+    -- what stands before a statement, the statement, and the parts behind it
+    part-made : (k : ℕ) (h : Head) (b : Bool) (d x : ℕ) {i j m n y z u v : ℕ} {p : List ℕ} {P Q R : List ℕ → Type 0}
+        → Made i j y p P (headMeasured h d s i p) → let q = headMeasured h d s i p .plan in
+        Made j m z q Q (stmtMeasured d s j q) → let a = stmtMeasured d s j q .plan in
+        Made m n u a R (partsBy k h b d m (joined b (max x y) z) a) → u ≡ v
+        → Made i n v p (λ r. P r × Q r × R r) (partsBy (suc k) h b d i x p)
+    part-made k h b d x {i} {j} {m} {n} {y} {z} {v = v} {p = p} {P} {Q} {R} (e, f) (t, g) (w, r) is =
+        subst (λ a. Made i n v p (λ r. P r × Q r × R r) a) (sym (part-turn k h b d i j m x y z p e t))
+        (w ∙ ap (extended n) is, follows (behind f (behind g r (omega arith)) (omega arith)) (λ r h. (h .0, h .1 .0, h .1 .1)))
+
     -- names around a body
-    names-turn : (k n x : ℕ) {e : Extent} → e ≡ extended n x → k + x ≤ wordLimit
-        → extended (e .next) (low (k + e .need)) ≡ extended n (k + x)
-    names-turn k n x is l = let sum : low (k + x) ≡ k + x = mod-eq-of-lt (omega arith) in rw (is, sum)
+    abbrev named : ℕ → Measured → Measured
+    named k m = measured (extended (m .extent .next) (low (k + m .extent .need))) (m .plan)
+
+    named-made : {i n x : ℕ} {p : List ℕ} {P : List ℕ → Type 0} (k : ℕ) {m : Measured} → k + x ≤ wordLimit → Made i n x p P m
+        → Made i n (k + x) p P (named k m)
+    named-made {x = x} k l (t, f) = let sum : low (k + x) ≡ k + x = mod-eq-of-lt (omega arith) in (rw (t, sum), f)
 
     -- what statements need behind some that need x words: side by side the sum, else the most
     abbrev total : Bool → ℕ → Stmts → ℕ
@@ -257,9 +277,8 @@ module _ (s : List ℕ) where
           let a : StmtAt s (suc d) w i STOP n = stopAt k in
           stmt-own (measured (extended n 2) p) a long l (refl, nothing-in (suc i) n p (k .ahead) (k .inside)) (rw (k .value, k .is))
       stmt-planned p (assignAt {d = d} {at = i} {m = j} {p = n} {w = w} k x e) deep long l =
-          let (t, f) = whole-made ForValue p e (omega arith) long in
           stmt-own (wholeMeasured ForValue d s j p) (assignAt {w = w} k x e) long l
-          (t, wider (suc i) n f (omega (arith, k .ahead, x .there .ahead)) (omega arith) (f .inside))
+          (ahead (suc i) (past k (x .there)) (whole-made ForValue p e (omega arith) long))
           (rw (k .value, k .is, next-is s (x .there)))
       stmt-planned {w = w} p (inputAt {d = d} {at = i} {p = n} {c = u} {x = v} k c x) deep long l =
           let a : StmtAt s (suc d) w i (input u v) n = inputAt k c x in
@@ -267,36 +286,28 @@ module _ (s : List ℕ) where
           (refl, nothing-in (suc i) n p (omega (arith, k .ahead, c .there .ahead, x .there .ahead)) (x .there .inside))
           (rw (k .value, k .is, next-is s (c .there), next-is s (x .there)))
       stmt-planned p (outputAt {d = d} {at = i} {m = j} {p = n} {w = w} k c e) deep long l =
-          let (t, f) = whole-made ForOutput p e (omega arith) long in
           stmt-own (wholeMeasured ForOutput d s j p) (outputAt {w = w} k c e) long l
-          (t, wider (suc i) n f (omega (arith, k .ahead, c .there .ahead)) (omega arith) (f .inside))
+          (ahead (suc i) (past k (c .there)) (whole-made ForOutput p e (omega arith) long))
           (rw (k .value, k .is, next-is s (c .there)))
       stmt-planned p (varAt {d = d} {at = i} {m = j} {p = n} {k = q} {w = w} {b = b} k c a) deep long l =
-          let (t, f) = stmt-planned p a (omega arith) long (omega arith) in
-          let m = stmtMeasured d s j p in
-          stmt-own (measured (extended (m .extent .next) (low (q + m .extent .need))) (m .plan)) (varAt {w = w} k c a) long l
-          (names-turn q n (need b) t l, wider (suc i) n f (omega (arith, k .ahead, c .there .ahead)) (omega arith) (f .inside))
+          stmt-own (named q (stmtMeasured d s j p)) (varAt {w = w} k c a) long l
+          (ahead (suc i) (past k (c .there)) (named-made q l (stmt-planned p a (omega arith) long (omega arith))))
           (rw (k .value, k .is, c .there .value))
       stmt-planned p (chanAt {d = d} {at = i} {m = j} {p = n} {k = q} {w = w} {b = b} k c a) deep long l =
-          let (t, f) = stmt-planned p a (omega arith) long (omega arith) in
-          let m = stmtMeasured d s j p in
-          stmt-own (measured (extended (m .extent .next) (low (q + m .extent .need))) (m .plan)) (chanAt {w = w} k c a) long l
-          (names-turn q n (need b) t l, wider (suc i) n f (omega (arith, k .ahead, c .there .ahead)) (omega arith) (f .inside))
+          stmt-own (named q (stmtMeasured d s j p)) (chanAt {w = w} k c a) long l
+          (ahead (suc i) (past k (c .there)) (named-made q l (stmt-planned p a (omega arith) long (omega arith))))
           (rw (k .value, k .is, c .there .value))
       stmt-planned p (seqAt {d = d} {at = i} {m = j} {p = n} {k = q} k c a) deep long l =
-          let (t, f) = stmts-planned false 2 p a (omega arith) long l (c .there .inside) in
           stmt-own (partsBy q Nothing false d j 2 p) (seqAt k c a) long l
-          (t, wider (suc i) n f (omega (arith, k .ahead, c .there .ahead)) (omega arith) (f .inside))
+          (ahead (suc i) (past k (c .there)) (stmts-planned false 2 p a (omega arith) long l (c .there .inside)))
           (rw (k .value, k .is, c .there .value, c .fits))
       stmt-planned p (parAt {d = d} {at = i} {m = j} {p = n} {k = q} k c a) deep long l =
-          let (t, f) = stmts-planned true 2 p a (omega arith) long l (c .there .inside) in
           stmt-own (partsBy q Nothing true d j 2 p) (parAt k c a) long l
-          (t, wider (suc i) n f (omega (arith, k .ahead, c .there .ahead)) (omega arith) (f .inside))
+          (ahead (suc i) (past k (c .there)) (stmts-planned true 2 p a (omega arith) long l (c .there .inside)))
           (rw (k .value, k .is, c .there .value, c .fits))
       stmt-planned p (ifAt {d = d} {at = i} {m = j} {p = n} {k = q} k c a) deep long l =
-          let (t, f) = pairs-planned 2 p a (omega arith) long (omega arith) (c .there .inside) in
           stmt-own (partsBy q Condition false d j 2 p) (ifAt k c a) long l
-          (t, wider (suc i) n f (omega (arith, k .ahead, c .there .ahead)) (omega arith) (f .inside))
+          (ahead (suc i) (past k (c .there)) (pairs-planned 2 p a (omega arith) long (omega arith) (c .there .inside)))
           (rw (k .value, k .is, c .there .value, c .fits))
       stmt-planned p (whileAt {d = d} {at = i} {n = j} {m = m} {p = n} {e = t} {b = b} k e a) deep long l =
           let (x, f) = condition-made p e (omega arith) long in
@@ -307,9 +318,8 @@ module _ (s : List ℕ) where
           (ap (extended n) (omega arith), wider (suc i) n (behind f g (omega arith)) (k .ahead) (omega arith) (g .inside)))
           (rw (k .value, k .is))
       stmt-planned p (altAt {d = d} {at = i} {m = j} {p = n} {k = q} k c a) deep long l =
-          let (t, f) = guards-planned 4 p a (omega arith) long (omega arith) (c .there .inside) in
           stmt-own (partsBy q GuardHead false d j 4 p) (altAt k c a) long l
-          (t, wider (suc i) n f (omega (arith, k .ahead, c .there .ahead)) (omega arith) (f .inside))
+          (ahead (suc i) (past k (c .there)) (guards-planned 4 p a (omega arith) long (omega arith) (c .there .inside)))
           (rw (k .value, k .is, c .there .value, c .fits))
 
       stmts-planned : {w : Scope} {d k i n : ℕ} {ss : Stmts} (b : Bool) (x : ℕ) (p : List ℕ) (a : StmtsAt s d w k i ss n) → d ≤ 32
@@ -329,31 +339,21 @@ module _ (s : List ℕ) where
           → length p ≡ tableLimit → pairNeed ps ≤ wordLimit → i ≤ length s
           → Made i n (max x (pairNeed ps)) p (λ r. PlannedPairs s r a) (partsBy k Condition false d i x p)
       pairs-planned x p noPairAt deep long l in-table = (ap (extended _) (omega arith), nothing-in _ _ p (omega arith) in-table)
-      pairs-planned {d = d} x p (pairAt {k = k} {at = i} {n = j} {m = m} {p = n} {e = e} {b = b} {ps = ps} t a c) deep long l in-table =
-          let q = headMeasured Condition d s i p .plan in
-          let words = temporaries e + 2 in
-          let (y, f) = condition-made p t deep long in
-          let (z, g) = stmt-planned q a deep (f .long ∙ long) (omega arith) in
-          let (u, v) = pairs-planned (max (max x words) (need b)) (stmtMeasured d s j q .plan) c deep (g .long ∙ f .long ∙ long)
-          (omega arith) (g .inside) in
-          subst (λ r. Made i n (max x (max words (max (need b) (pairNeed ps)))) p (λ r. PlannedPairs s r (pairAt t a c)) r)
-          (sym (part-turn k Condition false d i j m x words (need b) p y z))
-          (u ∙ ap (extended n) (omega arith), follows (behind f (behind g v (omega arith)) (omega arith)) (λ r h. (h .0, h .1 .0, h .1 .1)))
+      pairs-planned {d = d} x p (pairAt {k = k} t a c) deep long l in-table =
+          let f = condition-made p t deep long in
+          let g = stmt-planned _ a deep (f .1 .long ∙ long) (omega arith) in
+          let r = pairs-planned _ _ c deep (g .1 .long ∙ f .1 .long ∙ long) (omega arith) (g .1 .inside) in
+          part-made k Condition false d x f g r (omega arith)
 
       guards-planned : {w : Scope} {d k i n : ℕ} {gs : Guards} (x : ℕ) (p : List ℕ) (a : GuardsAt s d w k i gs n) → d ≤ 32
           → length p ≡ tableLimit → guardNeed gs ≤ wordLimit → i ≤ length s
           → Made i n (max x (guardNeed gs)) p (λ r. PlannedGuards s r a) (partsBy k GuardHead false d i x p)
       guards-planned x p noGuardAt deep long l in-table = (ap (extended _) (omega arith), nothing-in _ _ p (omega arith) in-table)
-      guards-planned {d = d} x p (guardsAt {k = k} {at = i} {n = j} {m = m} {p = n} {g = e} {b = b} {gs = gs} t a c) deep long l in-table =
-          let q = headMeasured GuardHead d s i p .plan in
-          let words = guardWords (temporaries (condition e)) in
-          let (y, f) = guard-made p t deep long in
-          let (z, g) = stmt-planned q a deep (f .long ∙ long) (omega arith) in
-          let (u, v) = guards-planned (max (max x words) (need b)) (stmtMeasured d s j q .plan) c deep (g .long ∙ f .long ∙ long)
-          (omega arith) (g .inside) in
-          subst (λ r. Made i n (max x (max words (max (need b) (guardNeed gs)))) p (λ r. PlannedGuards s r (guardsAt t a c)) r)
-          (sym (part-turn k GuardHead false d i j m x words (need b) p y z))
-          (u ∙ ap (extended n) (omega arith), follows (behind f (behind g v (omega arith)) (omega arith)) (λ r h. (h .0, h .1 .0, h .1 .1)))
+      guards-planned {d = d} x p (guardsAt {k = k} t a c) deep long l in-table =
+          let f = guard-made p t deep long in
+          let g = stmt-planned _ a deep (f .1 .long ∙ long) (omega arith) in
+          let r = guards-planned _ _ c deep (g .1 .long ∙ f .1 .long ∙ long) (omega arith) (g .1 .inside) in
+          part-made k GuardHead false d x f g r (omega arith)
 
     pub plan-of : {w : Scope} {d i n : ℕ} {b : Stmt} (p : List ℕ) (a : StmtAt s d w i b n) → d ≤ 32 → length p ≡ tableLimit
         → need b ≤ wordLimit → PlannedStmt s (stmtMeasured d s i p .plan) a

@@ -21,13 +21,13 @@ use Rattle.expressions.specs.Emits.{Code}
 use Rattle.expressions.specs.Exprs.{Wrote}
 use Rattle.expressions.specs.declared.words.Scope.{Scope}
 use Rattle.expressions.proofs.Scopes.{leaves}
-use Rattle.statements.specs.Stmts.{Makes, under}
-use Rattle.statements.specs.Kinds.{FewParts, stmtInto, branchAt, branchesAt}
+use Rattle.statements.specs.Stmts.{Makes, under, branchInto, branchesInto}
+use Rattle.statements.specs.Kinds.{FewParts, stmtInto, innerAt}
 
--- a scope with the same names, and a level less
-pub deeper : (d : ℕ) (sc inner : Scope) (ws : List ℕ) (ns : Names) → inner .variables ≡ sc .variables → inner .channels ≡ sc .channels
-    → Scoped (d + 1) sc ws ns → Scoped d inner ws ns
-deeper d sc inner ws ns v c h = record {
+-- the same names in another scope, with fewer levels left
+deeper : (d e : ℕ) (sc inner : Scope) (ws : List ℕ) (ns : Names) → d ≤ e → inner .variables ≡ sc .variables
+    → inner .channels ≡ sc .channels → Scoped e sc ws ns → Scoped d inner ws ns
+deeper d e sc inner ws ns l v c h = record {
   shows = record { variables = rw v (h .shows .variables); channels = rw c (h .shows .channels) };
   variables = omega (arith, h .variables);
   channels = omega (arith, h .channels);
@@ -35,19 +35,23 @@ deeper d sc inner ws ns v c h = record {
 }
 
 -- what is made with such a scope
-pub within : {A : Type 0} {ws after : List ℕ} {f : Names → A} {a : A} (d : ℕ) (sc inner : Scope) → inner .variables ≡ sc .variables
-    → inner .channels ≡ sc .channels → Makes d inner ws after f a → Makes (d + 1) sc ws after f a
-within {ws = ws} {after = after} d sc inner v c m ns h =
-    let r = m ns (deeper d sc inner ws ns v c h) in
-    let s = r .1 in (
+pub relabel : {A : Type 0} {ws after : List ℕ} {f : Names → A} {a : A} (d e : ℕ) (sc inner : Scope) → d ≤ e
+    → inner .variables ≡ sc .variables → inner .channels ≡ sc .channels → Makes d inner ws after f a → Makes e sc ws after f a
+relabel {ws = ws} d e sc inner l v c m ns h =
+    let r = m ns (deeper d e sc inner ws ns l v c h) in
+    let s = r .1 .shows in (
       r .0,
       record {
-        shows = record { variables = rw (sym v) (s .shows .variables); channels = rw (sym c) (s .shows .channels) };
+        shows = record { variables = rw (sym v) (s .variables); channels = rw (sym c) (s .channels) };
         variables = h .variables;
         channels = h .channels;
-        long = s .long;
+        long = r .1 .long;
       },
     )
+
+pub within : {A : Type 0} {ws after : List ℕ} {f : Names → A} {a : A} (d : ℕ) (sc inner : Scope) → inner .variables ≡ sc .variables
+    → inner .channels ≡ sc .channels → Makes d inner ws after f a → Makes (d + 1) sc ws after f a
+within d sc inner v c m = relabel d (d + 1) sc inner (omega arith) v c m
 
 -- what is made in the scope of a declaration
 pub within-names : {A : Type 0} {between after : List ℕ} {f : Names → A} {a : A} (x : Declared) (n w d : ℕ) (sc : Scope) (ws : List ℕ)
@@ -85,24 +89,6 @@ shape-few If h m e = let q : UpTo partLimit ≡ m = cc in rw (sym q) (omega arit
 shape-few While h m e = let q : Fixed 1 ≡ m = cc in rw (sym q) (omega arith)
 shape-few Alt h m e = let q : UpTo partLimit ≡ m = cc in rw (sym q) (omega arith)
 
--- the same names shown, counted and with room in another scope and at another depth
-renamed : (d e : ℕ) (sc inner : Scope) (ws : List ℕ)
-    (ns : Names) → d ≡ e → inner .variables ≡ sc .variables → inner .channels ≡ sc .channels
-    → Scoped e sc ws ns → Scoped d inner ws ns
-renamed d e sc inner ws ns is v c h = record {
-  shows = record { variables = rw v (h .shows .variables); channels = rw c (h .shows .channels) };
-  variables = rw (is, v) (h .variables);
-  channels = rw (is, c) (h .channels);
-  long = h .long;
-}
-
-pub relabel : {A : Type 0} {ws after : List ℕ} {f : Names → A} {a : A} (d e : ℕ)
-    (sc inner : Scope) → d ≡ e → inner .variables ≡ sc .variables
-    → inner .channels ≡ sc .channels → Makes d inner ws after f a → Makes e sc ws after f a
-relabel {ws = ws} {after = after} d e sc inner is v c m ns h =
-    let r = m ns (renamed d e sc inner ws ns is v c h) in
-    (r .0, renamed e d inner sc after ns (sym is) (sym v) (sym c) (r .1))
-
 -- in the scope of a statement that runs n words below, as a call has answered it
 pub shows-under : (n : ℕ) (sc inner : Scope) (ws : List ℕ) (ns : Names) → inner ≡ under n sc → Shows sc ws ns → Shows inner ws ns
 shows-under n sc inner ws ns e h = rw e (record { variables = h .variables; channels = h .channels })
@@ -111,7 +97,7 @@ made-under : {A : Type 0} {ws after : List ℕ} {a : A} (n : ℕ) (sc inner : Sc
     → Makes (inner .depth + 1) inner ws after (f (inner .depth) (inner .w)) a → Makes (sc .depth + 1) sc ws after (f (sc .depth)
     (sc .w - n)) a
 made-under {ws = ws} {after = after} {a = a} n sc inner f e m =
-    relabel (sc .depth + 1) (sc .depth + 1) sc (under n sc) refl refl refl
+    relabel (sc .depth + 1) (sc .depth + 1) sc (under n sc) (omega arith) refl refl
     (subst (λ x. Makes (x .depth + 1) x ws after (f (x .depth) (x .w)) a) e m)
 
 within-under : {A : Type 0} {ws after : List ℕ} {a : A} (n : ℕ) (sc inner : Scope) (f : (d w : ℕ) → Names → A) → inner ≡ under n sc
@@ -125,11 +111,12 @@ module _ {ws after : List ℕ} {a : Wrote} (n : ℕ) (sc inner : Scope) (plan s 
       → Makes (sc .depth + 1) sc ws after (λ ns. stmtInto (sc .depth) (sc .w - n) ns plan s i c) a
   stmt-under m = within-under n sc inner (λ d w ns. stmtInto d w ns plan s i c) is m
 
-  pub branch-under : (b : ℕ) → Makes (inner .depth + 1) inner ws after (λ ns. branchAt b (inner .depth) (inner .w) ns plan s i c) a
-      → Makes (sc .depth + 1) sc ws after (λ ns. branchAt b (sc .depth) (sc .w - n) ns plan s i c) a
-  branch-under b m = made-under n sc inner (λ d w ns. branchAt b d w ns plan s i c) is m
+  pub branch-under : (b : ℕ)
+      → Makes (inner .depth + 1) inner ws after (λ ns. branchInto b (innerAt (inner .depth) plan s) (inner .w) ns i c) a
+      → Makes (sc .depth + 1) sc ws after (λ ns. branchInto b (innerAt (sc .depth) plan s) (sc .w - n) ns i c) a
+  branch-under b m = made-under n sc inner (λ d w ns. branchInto b (innerAt d plan s) w ns i c) is m
 
   pub branches-under : (k b start : ℕ)
-      → Makes (inner .depth + 1) inner ws after (λ ns. branchesAt k (inner .depth) (inner .w) ns plan s i b start c) a
-      → Makes (sc .depth + 1) sc ws after (λ ns. branchesAt k (sc .depth) (sc .w - n) ns plan s i b start c) a
-  branches-under k b start m = made-under n sc inner (λ d w ns. branchesAt k d w ns plan s i b start c) is m
+      → Makes (inner .depth + 1) inner ws after (λ ns. branchesInto k (innerAt (inner .depth) plan s) (inner .w) ns plan i b start c) a
+      → Makes (sc .depth + 1) sc ws after (λ ns. branchesInto k (innerAt (sc .depth) plan s) (sc .w - n) ns plan i b start c) a
+  branches-under k b start m = made-under n sc inner (λ d w ns. branchesInto k (innerAt d plan s) w ns plan i b start c) is m

@@ -7,8 +7,7 @@ use Rattle.model.specs.Syntax.{Site, declared, Stmt}
 use Rattle.model.specs.Reader as M
 use Rattle.expressions.specs.Names.{Names}
 use Rattle.statements.proofs.Spelled.{StmtAt, skipAt, stopAt, assignAt, inputAt, outputAt, varAt, chanAt, seqAt, parAt, ifAt}
-use Rattle.statements.proofs.Spelled.{whileAt}
-use Rattle.statements.proofs.Spelled.{altAt}
+use Rattle.statements.proofs.Spelled.{whileAt, altAt}
 use Rattle.statements.proofs.Planned.{PlannedStmt, InsideStmt}
 use Rattle.statements.proofs.Compiles.{Scoped, Placed, Written, Compiles, skip-code, stop-code, assign-code, input-code, output-code}
 use Rattle.statements.proofs.Declares.{var-code, chan-code}

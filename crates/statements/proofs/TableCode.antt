@@ -15,7 +15,7 @@ use Rattle.model.specs.Reader.{Read, parsed, numbered, readProgram, program, re
 use Rattle.model.specs.Counts.{processes}
 use Rattle.model.specs.Accept.{accept, memoryWords, answerOf}
 use Rattle.model.specs.Layout.{layout, workspaceOf, base, wordOf}
-use Rattle.model.specs.Scheme.{scheme, code}
+use Rattle.model.specs.Scheme.{scheme}
 use Rattle.model.specs.declared.Facts.{Facts}
 use Rattle.model.specs.declared.Reading.the-variants.{Accepted}
 use Rattle.model.proofs.Cases.{never}

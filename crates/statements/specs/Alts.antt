@@ -85,14 +85,19 @@ choicesInto (suc n) k d inner w ns p s choice e i dis c =
     let b = choiceInto d inner w ns p s choice i dis c in
     choicesInto n (suc k) d inner w ns p s choice (set e k (b .here)) (b .next) (b .disable) (at (low (b .here + 1)) (b .list))
 
--- 01, ALT: AJW -1, ALT, the enabling, ALTWT, the disabling, ALTEND, the branches; each branch ends with J end. The disabling has the
--- enabling's instructions, with another operation, and one more for each guard
-abbrev pub altInto : (count depth : ℕ) → Inner → (w : ℕ) → Names → (plan s : List ℕ) → (at : ℕ) → Code → Wrote
+-- so many guards with their branches. 01: each branch ends with J end
+unfoldable pub guardsInto : (count depth : ℕ) → Inner → (w : ℕ) → Names → (plan s : List ℕ) → (choice at disable : ℕ) → Code → Wrote
+guardsInto n d inner w ns p s choice i dis c =
+    let r = choicesInto n 0 d inner w ns p s choice noEnds i dis c in
+    record { next = r .next; here = r .here; list = closeInto n (r .ends) (r .here) (r .list) }
+
+-- 01, ALT: AJW -1, ALT, the enabling, ALTWT, the disabling, ALTEND, the branches. The disabling has the enabling's instructions, with
+-- another operation, and one more for each guard
+unfoldable pub altInto : (count depth : ℕ) → Inner → (w : ℕ) → Names → (plan s : List ℕ) → (at : ℕ) → Code → Wrote
 altInto n d inner w ns p s i c =
     let a = operationInto ALT (plainInto AJW (minus 1) c) in
     let e = enableInto n d (w - 1) ns p s i a in
     let wt = operationInto ALTWT e in
     let choice = low (wt .here + low (less (e .here) (a .here) + n)) in
     let end = operationInto ALTEND (at choice (wt .list)) in
-    let r = choicesInto n 0 d inner w ns p s choice noEnds i (wt .here) end in
-    record { next = r .next; here = r .here; list = closeInto n (r .ends) (r .here) (r .list) }
+    guardsInto n d inner w ns p s choice i (wt .here) end

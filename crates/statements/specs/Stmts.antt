@@ -39,7 +39,7 @@ initialInto zero x j c = c
 initialInto (suc n) x j c = initialInto n x (low (j + 1)) (plainInto STL j (firstInto x c))
 
 -- 01, VAR and CHAN: AJW -n, the words, body, AJW n
-abbrev pub declarationInto : Declared → Inner → (w : ℕ) → Names → List ℕ → (at : ℕ) → Code → Wrote
+unfoldable pub declarationInto : Declared → Inner → (w : ℕ) → Names → List ℕ → (at : ℕ) → Code → Wrote
 declarationInto x inner w ns s at c =
     let n = countIn (UpTo nameLimit) s at in
     let v = w - n .value in
@@ -86,14 +86,14 @@ pairsInto (suc n) k d w vs inner p s e i c =
     pairsInto n (suc k) d w vs inner p s (set e k (b .here)) (b .next) (at (low (b .here + 1)) (b .list))
 
 -- 01, IF, per pair: condition, CJ next, statement, J end; the last pair too. 02, order 1: STOPP after the last pair, before the end
-abbrev pub ifInto : (count depth w : ℕ) → List ℕ → (ℕ → Code → Wrote) → (plan s : List ℕ) → (at : ℕ) → Code → Wrote
+unfoldable pub ifInto : (count depth w : ℕ) → List ℕ → (ℕ → Code → Wrote) → (plan s : List ℕ) → (at : ℕ) → Code → Wrote
 ifInto n d w vs inner p s i c =
     let r = pairsInto n 0 d w vs inner p s noEnds i c in
     let z = operationInto STOPP (at (r .here) (r .list)) in
     record { next = r .next; here = z .here; list = closeInto n (r .ends) (z .here) (z .list) }
 
 -- 01, WHILE: condition, CJ end, body, J start
-abbrev pub whileInto : (depth w : ℕ) → List ℕ → (ℕ → Code → Wrote) → (plan s : List ℕ) → (at : ℕ) → Code → Wrote
+unfoldable pub whileInto : (depth w : ℕ) → List ℕ → (ℕ → Code → Wrote) → (plan s : List ℕ) → (at : ℕ) → Code → Wrote
 whileInto d w vs inner p s i c =
     let b = pairInto d w vs inner p s i c in
     written (b .next) (distanceInto J (c .here) (b .here) (codeOf b))
@@ -122,7 +122,7 @@ headerInto n c = plainInto STL 1 (plainInto LDC n (plainInto STL 0 c))
 
 -- 01, PAR with branches: AJW -2; LDC end, LDPI, STL 0; LDC count, STL 1; the starts; the branches; AJW 2. PAR of none: no code.
 -- A start has three instructions
-abbrev pub parInto : (count : ℕ) → Inner → (w : ℕ) → Names → (plan : List ℕ) → (at : ℕ) → Code → Wrote
+unfoldable pub parInto : (count : ℕ) → Inner → (w : ℕ) → Names → (plan : List ℕ) → (at : ℕ) → Code → Wrote
 parInto n inner w ns p i c =
     let a = plainInto AJW (minus 2) c in
     let user = low (a .here + 1) in

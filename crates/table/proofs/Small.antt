@@ -31,10 +31,9 @@ use Rattle.model.specs.Counts.{orderOf, guardWords}
 use Rattle.model.proofs.Tables.Needs.{sides-hold}
 use Rattle.table.specs.Exprs.{withExpr, single, constantAt, usedAt, sides, operated, exprAt}
 use Rattle.counts.specs.Words.{asked, leastWords}
-use Rattle.table.specs.Stmts.{wholeAt, variableAt, inputAt, withHead, withStmt, outputAt, leaf, valueAt, takenAt, simpleAt}
-use Rattle.table.specs.Stmts.{guardAt, headAt, nothing, added, partAt, mostFrom, gathered, Branches, joinedBy, BranchesRead, all}
-use Rattle.table.specs.Stmts.{stopped, withBranches, branchesFrom, noBranches, parOf, moreNames, declaring, insideOf}
-use Rattle.table.specs.Stmts.{stmtAt, stmtUses, partIn}
+use Rattle.table.specs.Stmts.{wholeAt, variableAt, inputAt, withHead, withStmt, outputAt, leaf, valueAt, takenAt, simpleAt, guardAt}
+use Rattle.table.specs.Stmts.{headAt, nothing, added, partAt, mostFrom, gathered, Branches, joinedBy, BranchesRead, all, stopped}
+use Rattle.table.specs.Stmts.{withBranches, branchesFrom, noBranches, parOf, moreNames, declaring, insideOf, stmtAt, stmtUses, partIn}
 use Rattle.table.specs.Uses.{noNames}
 use Rattle.numbers.specs.declared.NumberRead.{NumberRead}
 use Rattle.numbers.specs.declared.NumberRead.the-variants.{Number, Bad}

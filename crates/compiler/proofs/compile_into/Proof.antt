@@ -9,8 +9,7 @@ use Rattle.model.specs.Answers.{refusedCompiling}
 use Rattle.model.specs.Code.{compile}
 use Rattle.model.proofs.Laws.Refused.{compile-refuses}
 use Rattle.compiler.proofs.Compiled.{accepted-as, compile-refused, words-are, words-refused, list-refused, scheme-listed}
-use Rattle.compiler.proofs.Compiled.{as-assembled}
-use Rattle.compiler.proofs.Compiled.{buffer-assembled}
+use Rattle.compiler.proofs.Compiled.{as-assembled, buffer-assembled}
 
 returns : tie.Need-returns
 returns c =

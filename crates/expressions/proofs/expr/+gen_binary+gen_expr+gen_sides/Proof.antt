@@ -1,8 +1,6 @@
 -- `expressions::expr::gen_binary`, `expressions::expr::gen_expr` and `expressions::expr::gen_sides` meet their contracts; the measure is
 -- three times the depth left, for `gen_sides` one more, for `gen_binary` two more. Assumes nothing.
-use Prim.Native.Nat.{ℕ, suc, _+_, _-_, _*_, _<_}
-use borrow.Fn.Kinds.{In}
-use borrow.Fn.PlainCycle.{Measures, is, falls, and}
+use Prim.Native.Nat.{ℕ, suc, _+_, _-_, _*_}
 use Rattle.expressions.proofs.expr.gen_binary.Reads as gen-binary
 use Rattle.expressions.proofs.expr.gen_binary.Kinds as gen-binary-kinds
 use Rattle.expressions.proofs.expr.+gen_binary+gen_expr+gen_sides.Lts-gen_binary as gen-binary-lts
@@ -24,216 +22,163 @@ use Rattle.numbers.proofs.kinds.operator_of.Reads as operator-of-reads
 use Rattle.numbers.proofs.value_at.Reads as value-at-reads
 use Rattle.expressions.proofs.expr.+gen_binary+gen_expr+gen_sides.{statement}
 use Rattle.expressions.proofs.expr.+gen_binary+gen_expr+gen_sides.Tie.{close}
+use Rattle.numbers.proofs.Cycles.{Member, At, Below}
 use borrow.Author.Needs.{needs}
 use native.Mathlib.Omega.{arith}
 use mathlib.Core.Path.{_≡_}
 use Rattle.expressions.specs.Exprs.{sidesInto, exprInto, sidesAt, binaryInto}
 
-abbrev μ-gen-binary : Measures 4 gen-binary-kinds.ps ℕ
-μ-gen-binary κs a = 3 * a .1 .1 .1 .0 + 2
+abbrev gen-binary-member : Member gen-binary-kinds.ps
+gen-binary-member = record { measure = λ κs a. 3 * a .1 .1 .1 .0 + 2; required = gen-binary.Pre }
 
-abbrev μ-gen-expr : Measures 4 gen-expr-kinds.ps ℕ
-μ-gen-expr κs a = 3 * a .1 .1 .1 .0
+abbrev gen-expr-member : Member gen-expr-kinds.ps
+gen-expr-member = record { measure = λ κs a. 3 * a .1 .1 .1 .0; required = gen-expr.Pre }
 
-abbrev μ-gen-sides : Measures 4 gen-sides-kinds.ps ℕ
-μ-gen-sides κs a = 3 * a .1 .1 .1 .0 + 1
+abbrev gen-sides-member : Member gen-sides-kinds.ps
+gen-sides-member = record { measure = λ κs a. 3 * a .1 .1 .1 .0 + 1; required = gen-sides.Pre }
 
-abbrev gen-binary-at : ℕ → In 4 gen-binary-kinds.ps
-gen-binary-at t =
-    and 4 gen-binary-kinds.ps (is 4 gen-binary-kinds.ps μ-gen-binary t) gen-binary.Pre
+module _ (t : ℕ) where
+  abbrev gen-binary-claims : gen-binary-lts.Claims
+  gen-binary-claims = (
+    value-at-reads.Asked,
+    value-at-reads.Learnt,
+    Below gen-sides-member t,
+    gen-sides.Post,
+    operator-of-reads.Asked,
+    operator-of-reads.Learnt,
+    gen-operator-reads.Asked,
+    gen-operator-reads.Learnt,
+  )
 
-abbrev gen-binary-below : ℕ → In 4 gen-binary-kinds.ps
-gen-binary-below t =
-    and 4 gen-binary-kinds.ps (falls 4 gen-binary-kinds.ps _<_ μ-gen-binary t) gen-binary.Pre
+  abbrev gen-expr-claims : gen-expr-lts.Claims
+  gen-expr-claims = (
+    value-at-reads.Asked,
+    value-at-reads.Learnt,
+    expr-kind-reads.Asked,
+    expr-kind-reads.Learnt,
+    gen-constant-reads.Asked,
+    gen-constant-reads.Learnt,
+    gen-variable-reads.Asked,
+    gen-variable-reads.Learnt,
+    Below gen-expr-member t,
+    gen-expr.Post,
+    plain-reads.Asked,
+    plain-reads.Learnt,
+    Below gen-binary-member t,
+    gen-binary.Post,
+  )
 
-abbrev gen-expr-at : ℕ → In 4 gen-expr-kinds.ps
-gen-expr-at t = and 4 gen-expr-kinds.ps (is 4 gen-expr-kinds.ps μ-gen-expr t) gen-expr.Pre
+  abbrev gen-sides-claims : gen-sides-lts.Claims
+  gen-sides-claims = (
+    arrange-reads.Asked,
+    arrange-reads.Learnt,
+    Below gen-expr-member t,
+    gen-expr.Post,
+    put-between-reads.Asked,
+    put-between-reads.Learnt,
+    put-behind-reads.Asked,
+    put-behind-reads.Learnt,
+  )
 
-abbrev gen-expr-below : ℕ → In 4 gen-expr-kinds.ps
-gen-expr-below t =
-    and 4 gen-expr-kinds.ps (falls 4 gen-expr-kinds.ps _<_ μ-gen-expr t) gen-expr.Pre
+  gen-binary-gen-sides-requires : gen-binary-lts.Need-gen-sides-requires gen-binary-claims (At gen-binary-member t) gen-binary.Post
+  gen-binary-gen-sides-requires c κs =
+      let p = c .before .before .before .pre in
+      (omega (arith, p .0), p .1)
 
-abbrev gen-sides-at : ℕ → In 4 gen-sides-kinds.ps
-gen-sides-at t = and 4 gen-sides-kinds.ps (is 4 gen-sides-kinds.ps μ-gen-sides t) gen-sides.Pre
+  gen-binary-returns : gen-binary-lts.Need-returns gen-binary-claims (At gen-binary-member t) gen-binary.Post
+  unfolding binaryInto sidesAt
+  gen-binary-returns c vs h =
+      let o = c .before .before in
+      let r = o .before .before in
+      rw (← r .before .before .value-at .ensures, ← r .gen-sides .ensures vs h, ← o .operator-of .ensures, ← c .gen-operator .ensures)
 
-abbrev gen-sides-below : ℕ → In 4 gen-sides-kinds.ps
-gen-sides-below t =
-    and 4 gen-sides-kinds.ps (falls 4 gen-sides-kinds.ps _<_ μ-gen-sides t) gen-sides.Pre
+  gen-expr-returns : gen-expr-lts.Need-returns gen-expr-claims (At gen-expr-member t) gen-expr.Post
+  unfolding exprInto
+  gen-expr-returns c vs h = rw (c .if1 .taken)
 
-abbrev gen-binary-claims : ℕ → gen-binary-lts.Claims
-gen-binary-claims t = (
-  value-at-reads.Asked,
-  value-at-reads.Learnt,
-  gen-sides-below t,
-  gen-sides.Post,
-  operator-of-reads.Asked,
-  operator-of-reads.Learnt,
-  gen-operator-reads.Asked,
-  gen-operator-reads.Learnt,
-)
+  gen-expr-returns-2 : gen-expr-lts.Need-returns-2 gen-expr-claims (At gen-expr-member t) gen-expr.Post
+  unfolding exprInto binaryInto
+  gen-expr-returns-2 c vs h =
+      let k = c .before .before in
+      let v = k .before .before .before .before in
+      let d = v .before .before .before .args .depth in
+      let one : d ≡ suc (d - 1) = omega (arith, v .before .if1 .left) in
+      rw one (rw (← v .value-at .ensures, ← k .before .before .expr-kind .ensures, k .enum-told .given .1, c .gen-constant .ensures))
 
-abbrev gen-expr-claims : ℕ → gen-expr-lts.Claims
-gen-expr-claims t = (
-  value-at-reads.Asked,
-  value-at-reads.Learnt,
-  expr-kind-reads.Asked,
-  expr-kind-reads.Learnt,
-  gen-constant-reads.Asked,
-  gen-constant-reads.Learnt,
-  gen-variable-reads.Asked,
-  gen-variable-reads.Learnt,
-  gen-expr-below t,
-  gen-expr.Post,
-  plain-reads.Asked,
-  plain-reads.Learnt,
-  gen-binary-below t,
-  gen-binary.Post,
-)
+  gen-expr-returns-3 : gen-expr-lts.Need-returns-3 gen-expr-claims (At gen-expr-member t) gen-expr.Post
+  unfolding exprInto binaryInto
+  gen-expr-returns-3 c vs h =
+      let k = c .before .before in
+      let v = k .before .before .before .before in
+      let d = v .before .before .before .args .depth in
+      let one : d ≡ suc (d - 1) = omega (arith, v .before .if1 .left) in
+      rw one (rw (← v .value-at .ensures, ← k .before .before .expr-kind .ensures, k .enum-told2 .given .1, c .gen-variable .ensures vs h))
 
-abbrev gen-sides-claims : ℕ → gen-sides-lts.Claims
-gen-sides-claims t = (
-  arrange-reads.Asked,
-  arrange-reads.Learnt,
-  gen-expr-below t,
-  gen-expr.Post,
-  put-between-reads.Asked,
-  put-between-reads.Learnt,
-  put-behind-reads.Asked,
-  put-behind-reads.Learnt,
-)
+  gen-expr-gen-expr-requires : gen-expr-lts.Need-gen-expr-requires gen-expr-claims (At gen-expr-member t) gen-expr.Post
+  gen-expr-gen-expr-requires c κs =
+      let p = c .before .before .before .before .before .before .before .before .pre in
+      (omega (arith, p .0), p .1)
 
-gen-binary-gen-sides-requires : (t : ℕ)
-    → gen-binary-lts.Need-gen-sides-requires (gen-binary-claims t) (gen-binary-at t) gen-binary.Post
-gen-binary-gen-sides-requires t c κs =
-    let p = c .before .before .before .pre in
-    (omega (arith, p .0), p .1)
+  gen-expr-returns-4 : gen-expr-lts.Need-returns-4 gen-expr-claims (At gen-expr-member t) gen-expr.Post
+  unfolding exprInto binaryInto
+  gen-expr-returns-4 c vs h =
+      let e = c .before .before in
+      let k = e .before .before in
+      let v = k .before .before .before .before in
+      let d = v .before .before .before .args .depth in
+      let one : d ≡ suc (d - 1) = omega (arith, v .before .if1 .left) in
+      let inner = e .gen-expr .ensures vs h in
+      rw one (rw (← v .value-at .ensures, ← k .before .before .expr-kind .ensures, k .enum-told3 .given .1, ← inner, ← c .plain .ensures))
 
-gen-binary-returns : (t : ℕ) → gen-binary-lts.Need-returns (gen-binary-claims t) (gen-binary-at t) gen-binary.Post
-unfolding binaryInto sidesAt
-gen-binary-returns t c vs h =
-    let o = c .before .before in
-    let r = o .before .before in
-    rw (← r .before .before .value-at .ensures, ← r .gen-sides .ensures vs h, ← o .operator-of .ensures, ← c .gen-operator .ensures)
+  gen-expr-gen-binary-requires : gen-expr-lts.Need-gen-binary-requires gen-expr-claims (At gen-expr-member t) gen-expr.Post
+  gen-expr-gen-binary-requires c κs =
+      let p = c .before .before .before .before .before .before .before .before .pre in
+      (omega (arith, p .0), p .1)
 
-gen-expr-returns : (t : ℕ) → gen-expr-lts.Need-returns (gen-expr-claims t) (gen-expr-at t) gen-expr.Post
-unfolding exprInto
-gen-expr-returns t c vs h = rw (c .if1 .taken)
+  gen-expr-returns-5 : gen-expr-lts.Need-returns-5 gen-expr-claims (At gen-expr-member t) gen-expr.Post
+  unfolding exprInto binaryInto
+  gen-expr-returns-5 c vs h =
+      let k = c .before .before in
+      let v = k .before .before .before .before in
+      let d = v .before .before .before .args .depth in
+      let one : d ≡ suc (d - 1) = omega (arith, v .before .if1 .left) in
+      rw one (rw (← v .value-at .ensures, ← k .before .before .expr-kind .ensures, k .enum-told4 .given .1, c .gen-binary .ensures vs h))
 
-gen-expr-returns-2 : (t : ℕ) → gen-expr-lts.Need-returns-2 (gen-expr-claims t) (gen-expr-at t) gen-expr.Post
-unfolding exprInto binaryInto
-gen-expr-returns-2 t c vs h =
-    let k = c .before .before in
-    let v = k .before .before .before .before in
-    let d = v .before .before .before .args .depth in
-    let one : d ≡ suc (d - 1) = omega (arith, v .before .if1 .left) in
-    rw one (rw (← v .value-at .ensures, ← k .before .before .expr-kind .ensures, k .enum-told .given .1, c .gen-constant .ensures))
+  gen-sides-gen-expr-requires : gen-sides-lts.Need-gen-expr-requires gen-sides-claims (At gen-sides-member t) gen-sides.Post
+  gen-sides-gen-expr-requires c κs =
+      let p = c .before .before .before .pre in
+      (omega (arith, p .0), p .1)
 
-gen-expr-returns-3 : (t : ℕ) → gen-expr-lts.Need-returns-3 (gen-expr-claims t) (gen-expr-at t) gen-expr.Post
-unfolding exprInto binaryInto
-gen-expr-returns-3 t c vs h =
-    let k = c .before .before in
-    let v = k .before .before .before .before in
-    let d = v .before .before .before .args .depth in
-    let one : d ≡ suc (d - 1) = omega (arith, v .before .if1 .left) in
-    rw one (rw (← v .value-at .ensures, ← k .before .before .expr-kind .ensures, k .enum-told2 .given .1, c .gen-variable .ensures vs h))
+  gen-sides-gen-expr-requires-2 : gen-sides-lts.Need-gen-expr-requires-2 gen-sides-claims (At gen-sides-member t) gen-sides.Post
+  gen-sides-gen-expr-requires-2 c κs =
+      let p = c .before .before .before .before .before .before .before .pre in
+      (omega (arith, p .0), p .1)
 
-gen-expr-gen-expr-requires : (t : ℕ)
-    → gen-expr-lts.Need-gen-expr-requires (gen-expr-claims t) (gen-expr-at t) gen-expr.Post
-gen-expr-gen-expr-requires t c κs =
-    let p = c .before .before .before .before .before .before .before .before .pre in
-    (omega (arith, p .0), p .1)
-
-gen-expr-returns-4 : (t : ℕ) → gen-expr-lts.Need-returns-4 (gen-expr-claims t) (gen-expr-at t) gen-expr.Post
-unfolding exprInto binaryInto
-gen-expr-returns-4 t c vs h =
-    let e = c .before .before in
-    let k = e .before .before in
-    let v = k .before .before .before .before in
-    let d = v .before .before .before .args .depth in
-    let one : d ≡ suc (d - 1) = omega (arith, v .before .if1 .left) in
-    let inner = e .gen-expr .ensures vs h in
-    rw one (rw (← v .value-at .ensures, ← k .before .before .expr-kind .ensures, k .enum-told3 .given .1, ← inner, ← c .plain .ensures))
-
-gen-expr-gen-binary-requires : (t : ℕ)
-    → gen-expr-lts.Need-gen-binary-requires (gen-expr-claims t) (gen-expr-at t) gen-expr.Post
-gen-expr-gen-binary-requires t c κs =
-    let p = c .before .before .before .before .before .before .before .before .pre in
-    (omega (arith, p .0), p .1)
-
-gen-expr-returns-5 : (t : ℕ) → gen-expr-lts.Need-returns-5 (gen-expr-claims t) (gen-expr-at t) gen-expr.Post
-unfolding exprInto binaryInto
-gen-expr-returns-5 t c vs h =
-    let k = c .before .before in
-    let v = k .before .before .before .before in
-    let d = v .before .before .before .args .depth in
-    let one : d ≡ suc (d - 1) = omega (arith, v .before .if1 .left) in
-    rw one (rw (← v .value-at .ensures, ← k .before .before .expr-kind .ensures, k .enum-told4 .given .1, c .gen-binary .ensures vs h))
-
-gen-sides-gen-expr-requires : (t : ℕ)
-    → gen-sides-lts.Need-gen-expr-requires (gen-sides-claims t) (gen-sides-at t) gen-sides.Post
-gen-sides-gen-expr-requires t c κs =
-    let p = c .before .before .before .pre in
-    (omega (arith, p .0), p .1)
-
-gen-sides-gen-expr-requires-2 : (t : ℕ)
-    → gen-sides-lts.Need-gen-expr-requires-2 (gen-sides-claims t) (gen-sides-at t) gen-sides.Post
-gen-sides-gen-expr-requires-2 t c κs =
-    let p = c .before .before .before .before .before .before .before .pre in
-    (omega (arith, p .0), p .1)
-
-gen-sides-returns : (t : ℕ) → gen-sides-lts.Need-returns (gen-sides-claims t) (gen-sides-at t) gen-sides.Post
-unfolding sidesAt sidesInto
-gen-sides-returns t c vs h =
-    let two = c .before .before in
-    let b = two .before .before in
-    let one = b .before .before in
-    rw (
-      ← one .before .before .arrange .ensures,
-      ← one .gen-expr .ensures vs h,
-      ← b .put-between .ensures,
-      ← two .gen-expr2 .ensures vs h,
-      ← c .put-behind .ensures,
-    )
+  gen-sides-returns : gen-sides-lts.Need-returns gen-sides-claims (At gen-sides-member t) gen-sides.Post
+  unfolding sidesAt sidesInto
+  gen-sides-returns c vs h =
+      let two = c .before .before in
+      let b = two .before .before in
+      let one = b .before .before in
+      rw (
+        ← one .before .before .arrange .ensures,
+        ← one .gen-expr .ensures vs h,
+        ← b .put-between .ensures,
+        ← two .gen-expr2 .ensures vs h,
+        ← c .put-behind .ensures,
+      )
 
 pub +gen-binary+gen-expr+gen-sides-spec : {M : Type 1} → statement M
 +gen-binary+gen-expr+gen-sides-spec =
-    close μ-gen-binary μ-gen-expr μ-gen-sides (λ t. gen-binary-lts.spec (gen-binary-claims t)
-    (gen-binary-at t)
-    gen-binary.Post
-    (λ c κs. search needs)
-    (gen-binary-gen-sides-requires t)
-    (λ c. search needs)
-    (λ c κs. search needs)
-    (λ c κs. search needs)
-    (gen-binary-returns t))
-    (λ t. gen-expr-lts.spec (gen-expr-claims t)
-    (gen-expr-at t)
-    gen-expr.Post
-    (gen-expr-returns t)
-    (λ c κs. search needs)
-    (λ c. search needs)
-    (λ c κs. search needs)
-    (λ c. search needs)
-    (λ c κs. search needs)
-    (λ c. search needs)
-    (λ c κs. search needs)
-    (λ c. search needs)
-    (λ c. search needs)
-    (gen-expr-gen-expr-requires t)
-    (λ c κs. search needs)
-    (λ c. search needs)
-    (λ c. search needs)
-    (gen-expr-gen-binary-requires t)
-    (gen-expr-returns-2 t)
-    (gen-expr-returns-3 t)
-    (gen-expr-returns-4 t)
+    close (gen-binary-member .measure) (gen-expr-member .measure) (gen-sides-member .measure)
+    (λ t. gen-binary-lts.spec (gen-binary-claims t)
+    (At gen-binary-member t) gen-binary.Post (λ c κs. search needs) (gen-binary-gen-sides-requires t) (λ c. search needs)
+    (λ c κs. search needs) (λ c κs. search needs) (gen-binary-returns t))
+    (λ t. gen-expr-lts.spec (gen-expr-claims t) (At gen-expr-member t) gen-expr.Post (gen-expr-returns t) (λ c κs. search needs)
+    (λ c. search needs) (λ c κs. search needs) (λ c. search needs) (λ c κs. search needs) (λ c. search needs) (λ c κs. search needs)
+    (λ c. search needs) (λ c. search needs) (gen-expr-gen-expr-requires t) (λ c κs. search needs) (λ c. search needs)
+    (λ c. search needs) (gen-expr-gen-binary-requires t) (gen-expr-returns-2 t) (gen-expr-returns-3 t) (gen-expr-returns-4 t)
     (gen-expr-returns-5 t))
-    λ t. gen-sides-lts.spec (gen-sides-claims t)
-    (gen-sides-at t)
-    gen-sides.Post
-    (λ c κs. search needs)
-    (gen-sides-gen-expr-requires t)
-    (λ c κs. search needs)
-    (gen-sides-gen-expr-requires-2 t)
-    (λ c κs. search needs)
+    λ t. gen-sides-lts.spec (gen-sides-claims t) (At gen-sides-member t) gen-sides.Post (λ c κs. search needs)
+    (gen-sides-gen-expr-requires t) (λ c κs. search needs) (gen-sides-gen-expr-requires-2 t) (λ c κs. search needs)
     (gen-sides-returns t)

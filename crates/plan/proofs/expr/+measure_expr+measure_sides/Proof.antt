@@ -1,9 +1,7 @@
 -- `plan::expr::measure_expr` and `plan::expr::measure_sides` meet their contracts; the measure is twice the depth left, for `measure_sides`
 -- one more. Assumes nothing.
 use Rattle.plan.proofs.expr as cycle
-use Prim.Native.Nat.{ℕ, suc, _+_, _-_, _*_, _<_}
-use borrow.Fn.Kinds.{In}
-use borrow.Fn.PlainCycle.{Measures, is, falls, and}
+use Prim.Native.Nat.{ℕ, suc, _+_, _-_, _*_}
 use Rattle.plan.proofs.expr.measure_expr.Reads as measure-expr
 use Rattle.plan.proofs.expr.measure_expr.Kinds as measure-expr-kinds
 use cycle.+measure_expr+measure_sides.Lts-measure_expr as measure-expr-lts
@@ -19,6 +17,7 @@ use Rattle.plan.proofs.expr.put_entry.Reads as put-entry-reads
 use Rattle.plan.proofs.expr.sides_entry.Reads as sides-entry-reads
 use cycle.+measure_expr+measure_sides.{statement}
 use cycle.+measure_expr+measure_sides.Tie.{close}
+use Rattle.numbers.proofs.Cycles.{Member, At, Below}
 use borrow.Author.Needs.{needs}
 use native.Mathlib.Omega.{arith}
 use mathlib.Core.List.{List}
@@ -39,112 +38,75 @@ turn : (d : ℕ) (s : List ℕ) (at : ℕ) (p : List ℕ) {v : Value} {k : ExprK
 unfolding exprEntered sidesEntered
 turn d s at p z e f g h = let i : d ≡ suc (d - 1) = omega (arith, z) in rw (i, h, g, f, e)
 
-abbrev μ-measure-expr : Measures 2 measure-expr-kinds.ps ℕ
-μ-measure-expr κs a = 2 * a .1 .1 .1 .0
+abbrev measure-expr-member : Member measure-expr-kinds.ps
+measure-expr-member = record { measure = λ κs a. 2 * a .1 .1 .1 .0; required = measure-expr.Pre }
 
-abbrev μ-measure-sides : Measures 2 measure-sides-kinds.ps ℕ
-μ-measure-sides κs a = 2 * a .1 .1 .1 .0 + 1
+abbrev measure-sides-member : Member measure-sides-kinds.ps
+measure-sides-member = record { measure = λ κs a. 2 * a .1 .1 .1 .0 + 1; required = measure-sides.Pre }
 
-abbrev measure-expr-at : ℕ → In 2 measure-expr-kinds.ps
-measure-expr-at t =
-    and 2 measure-expr-kinds.ps (is 2 measure-expr-kinds.ps μ-measure-expr t) measure-expr.Pre
+module _ (t : ℕ) where
+  abbrev measure-expr-claims : measure-expr-lts.Claims
+  measure-expr-claims = (
+    entry-reads.Asked,
+    entry-reads.Learnt,
+    value-at-reads.Asked,
+    value-at-reads.Learnt,
+    expr-kind-reads.Asked,
+    expr-kind-reads.Learnt,
+    skip-reads.Asked,
+    skip-reads.Learnt,
+    Below measure-expr-member t,
+    measure-expr.Post,
+    Below measure-sides-member t,
+    measure-sides.Post,
+    put-entry-reads.Asked,
+    put-entry-reads.Learnt,
+  )
 
-abbrev measure-expr-below : ℕ → In 2 measure-expr-kinds.ps
-measure-expr-below t =
-    and 2 measure-expr-kinds.ps (falls 2 measure-expr-kinds.ps _<_ μ-measure-expr t) measure-expr.Pre
+  abbrev measure-sides-claims : measure-sides-lts.Claims
+  measure-sides-claims = (
+    skip-reads.Asked,
+    skip-reads.Learnt,
+    Below measure-expr-member t,
+    measure-expr.Post,
+    next-in-reads.Asked,
+    next-in-reads.Learnt,
+    sides-entry-reads.Asked,
+    sides-entry-reads.Learnt,
+  )
 
-abbrev measure-sides-at : ℕ → In 2 measure-sides-kinds.ps
-measure-sides-at t =
-    and 2 measure-sides-kinds.ps (is 2 measure-sides-kinds.ps μ-measure-sides t) measure-sides.Pre
+  measure-expr-returns : measure-expr-lts.Need-returns measure-expr-claims (At measure-expr-member t) measure-expr.Post
+  unfolding exprEntered
+  measure-expr-returns c = rw (c .entry .ensures, c .before .if1 .taken)
 
-abbrev measure-sides-below : ℕ → In 2 measure-sides-kinds.ps
-measure-sides-below t =
-    and 2 measure-sides-kinds.ps (falls 2 measure-sides-kinds.ps _<_ μ-measure-sides t) measure-sides.Pre
+  measure-expr-returns-2 : measure-expr-lts.Need-returns-2 measure-expr-claims (At measure-expr-member t) measure-expr.Post
+  measure-expr-returns-2 c =
+      let ma = c .before .before in
+      let ek = ma .before in
+      let v = ek .before .before in
+      turn _ _ _ _ {m = entered (ma .match .own) (ma .match .plan)} (v .before .if1 .left) (v .value-at .ensures) (ek .expr-kind .ensures)
+      (⊎-elim (λ w. rw (w .5, w .4, w .1 .given .1, w .3 .ensures, w .2 .ensures))
+      (⊎-elim (λ w. rw (w .5, w .4, w .1 .given .1, w .3 .ensures, w .2 .ensures))
+      (⊎-elim (λ w. rw (w .5, w .4, w .1 .given .1, w .3 .ensures)) (λ w. rw (w .5, w .4, w .1 .given .1, w .3 .ensures))))
+      (ma .match .came))
+      (c .put-entry .ensures)
 
-abbrev measure-expr-claims : ℕ → measure-expr-lts.Claims
-measure-expr-claims t = (
-  entry-reads.Asked,
-  entry-reads.Learnt,
-  value-at-reads.Asked,
-  value-at-reads.Learnt,
-  expr-kind-reads.Asked,
-  expr-kind-reads.Learnt,
-  skip-reads.Asked,
-  skip-reads.Learnt,
-  measure-expr-below t,
-  measure-expr.Post,
-  measure-sides-below t,
-  measure-sides.Post,
-  put-entry-reads.Asked,
-  put-entry-reads.Learnt,
-)
-
-abbrev measure-sides-claims : ℕ → measure-sides-lts.Claims
-measure-sides-claims t = (
-  skip-reads.Asked,
-  skip-reads.Learnt,
-  measure-expr-below t,
-  measure-expr.Post,
-  next-in-reads.Asked,
-  next-in-reads.Learnt,
-  sides-entry-reads.Asked,
-  sides-entry-reads.Learnt,
-)
-
-measure-expr-returns : (t : ℕ) → measure-expr-lts.Need-returns (measure-expr-claims t) (measure-expr-at t) measure-expr.Post
-unfolding exprEntered
-measure-expr-returns t c = rw (c .entry .ensures, c .before .if1 .taken)
-
-measure-expr-returns-2 : (t : ℕ) → measure-expr-lts.Need-returns-2 (measure-expr-claims t) (measure-expr-at t) measure-expr.Post
-measure-expr-returns-2 t c =
-    let ma = c .before .before in
-    let ek = ma .before in
-    let v = ek .before .before in
-    turn _ _ _ _ {m = entered (ma .match .own) (ma .match .plan)} (v .before .if1 .left) (v .value-at .ensures) (ek .expr-kind .ensures)
-    (⊎-elim (λ w. rw (w .5, w .4, w .1 .given .1, w .3 .ensures, w .2 .ensures))
-    (⊎-elim (λ w. rw (w .5, w .4, w .1 .given .1, w .3 .ensures, w .2 .ensures))
-    (⊎-elim (λ w. rw (w .5, w .4, w .1 .given .1, w .3 .ensures)) (λ w. rw (w .5, w .4, w .1 .given .1, w .3 .ensures)))) (ma .match .came))
-    (c .put-entry .ensures)
-
-measure-sides-returns : (t : ℕ) → measure-sides-lts.Need-returns (measure-sides-claims t) (measure-sides-at t) measure-sides.Post
-unfolding sidesEntered
-measure-sides-returns t c =
-    let me = c .before in
-    let n = me .before in
-    let mea = n .before .before in
-    let s = mea .before .before .skip .ensures in
-    rw (c .sides-entry .ensures, ← s, ← mea .measure-expr .ensures, ← n .next-in .ensures, ← me .measure-expr2 .ensures)
+  measure-sides-returns : measure-sides-lts.Need-returns measure-sides-claims (At measure-sides-member t) measure-sides.Post
+  unfolding sidesEntered
+  measure-sides-returns c =
+      let me = c .before in
+      let n = me .before in
+      let mea = n .before .before in
+      let s = mea .before .before .skip .ensures in
+      rw (c .sides-entry .ensures, ← s, ← mea .measure-expr .ensures, ← n .next-in .ensures, ← me .measure-expr2 .ensures)
 
 pub +measure-expr+measure-sides-spec : {M : Type 1} → statement M
 +measure-expr+measure-sides-spec =
-    close μ-measure-expr μ-measure-sides (λ t. measure-expr-lts.spec (measure-expr-claims t)
-    (measure-expr-at t)
-    measure-expr.Post
-    (λ c κs. search needs)
-    (measure-expr-returns t)
-    (λ c κs. search needs)
-    (λ c. search needs)
-    (λ c κs. search needs)
-    (λ c. search needs)
-    (λ c κs. search needs)
-    (λ c κs. search needs)
-    (λ c. search needs)
-    (λ c κs. search needs)
-    (λ c κs. search needs)
-    (λ c. search needs)
-    (λ c. search needs)
-    (λ c κs. search needs)
-    (λ c. search needs)
-    (λ c. search needs)
-    (λ c κs. search needs)
-    (λ c κs. search needs)
-    (measure-expr-returns-2 t))
-    λ t. measure-sides-lts.spec (measure-sides-claims t)
-    (measure-sides-at t)
-    measure-sides.Post
-    (λ c κs. search needs)
-    (λ c κs. search needs)
-    (λ c κs. search needs)
-    (λ c κs. search needs)
-    (λ c κs. search needs)
-    (measure-sides-returns t)
+    close (measure-expr-member .measure) (measure-sides-member .measure)
+    (λ t. measure-expr-lts.spec (measure-expr-claims t)
+    (At measure-expr-member t) measure-expr.Post (λ c κs. search needs) (measure-expr-returns t) (λ c κs. search needs)
+    (λ c. search needs) (λ c κs. search needs) (λ c. search needs) (λ c κs. search needs) (λ c κs. search needs) (λ c. search needs)
+    (λ c κs. search needs) (λ c κs. search needs) (λ c. search needs) (λ c. search needs) (λ c κs. search needs) (λ c. search needs)
+    (λ c. search needs) (λ c κs. search needs) (λ c κs. search needs) (measure-expr-returns-2 t))
+    λ t. measure-sides-lts.spec (measure-sides-claims t) (At measure-sides-member t) measure-sides.Post (λ c κs. search needs)
+    (λ c κs. search needs) (λ c κs. search needs) (λ c κs. search needs) (λ c κs. search needs) (measure-sides-returns t)

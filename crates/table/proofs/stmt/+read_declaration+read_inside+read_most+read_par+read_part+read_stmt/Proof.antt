@@ -3,8 +3,6 @@
 use Rattle.model.specs.Limits.{tableLimit}
 use Rattle.table.proofs.stmt as cycle
 use Prim.Native.Nat.{ℕ, _<_, zero, suc, _+_, _-_, _*_, _≤_}
-use borrow.Fn.Kinds.{In}
-use borrow.Fn.PlainCycle.{Measures, is, falls, and}
 use Rattle.table.proofs.stmt.read_declaration.Reads as read-declaration
 use Rattle.table.proofs.stmt.read_declaration.Kinds as read-declaration-kinds
 use cycle.+read_declaration+read_inside+read_most+read_par+read_part+read_stmt.Lts-read_declaration as read-declaration-lts
@@ -43,6 +41,7 @@ use Rattle.table.proofs.usage.leave.Reads as leave-reads
 use Rattle.table.proofs.usage.merge.Reads as merge-reads
 use cycle.+read_declaration+read_inside+read_most+read_par+read_part+read_stmt.{statement}
 use cycle.+read_declaration+read_inside+read_most+read_par+read_part+read_stmt.Tie.{close}
+use Rattle.numbers.proofs.Cycles.{Member, At, Below}
 use borrow.Author.Needs.{needs}
 use native.Mathlib.Omega.{arith}
 use mathlib.Core.Bool.{_||_, or-true, or-false}
@@ -147,23 +146,23 @@ unfolding branchesAt branchesFrom
 branches-turn zero d w s b h = absurd (omega arith)
 branches-turn (suc i) d w s b h = let e : suc i - 1 ≡ i = omega arith in rw e
 
-abbrev μ-read-declaration : Measures 2 read-declaration-kinds.ps ℕ
-μ-read-declaration κs a = 6 * a .1 .1 .1 .1 .0 + 1
+abbrev read-declaration-member : Member read-declaration-kinds.ps
+read-declaration-member = record { measure = λ κs a. 6 * a .1 .1 .1 .1 .0 + 1; required = read-declaration.Pre }
 
-abbrev μ-read-inside : Measures 2 read-inside-kinds.ps ℕ
-μ-read-inside κs a = 6 * a .1 .1 .1 .1 .0 + 3
+abbrev read-inside-member : Member read-inside-kinds.ps
+read-inside-member = record { measure = λ κs a. 6 * a .1 .1 .1 .1 .0 + 3; required = read-inside.Pre }
 
-abbrev μ-read-most : Measures 2 read-most-kinds.ps ℕ
-μ-read-most κs a = 6 * a .1 .1 .1 .1 .0 + 2
+abbrev read-most-member : Member read-most-kinds.ps
+read-most-member = record { measure = λ κs a. 6 * a .1 .1 .1 .1 .0 + 2; required = read-most.Pre }
 
-abbrev μ-read-par : Measures 2 read-par-kinds.ps ℕ
-μ-read-par κs a = 6 * a .1 .1 .1 .1 .0 + 2
+abbrev read-par-member : Member read-par-kinds.ps
+read-par-member = record { measure = λ κs a. 6 * a .1 .1 .1 .1 .0 + 2; required = read-par.Pre }
 
-abbrev μ-read-part : Measures 2 read-part-kinds.ps ℕ
-μ-read-part κs a = 6 * a .1 .1 .1 .0 + 1
+abbrev read-part-member : Member read-part-kinds.ps
+read-part-member = record { measure = λ κs a. 6 * a .1 .1 .1 .0 + 1; required = read-part.Pre }
 
-abbrev μ-read-stmt : Measures 2 read-stmt-kinds.ps ℕ
-μ-read-stmt κs a = 6 * a .1 .1 .0
+abbrev read-stmt-member : Member read-stmt-kinds.ps
+read-stmt-member = record { measure = λ κs a. 6 * a .1 .1 .0; required = read-stmt.Pre }
 
 abbrev read-most-Inv-loop : read-most-lts.InvT-loop
 read-most-Inv-loop table at head count depth names sets₀ sum₀ i₀ sets sum i =
@@ -187,619 +186,481 @@ read-par-Inv-loop table place at count depth names sets sum₀ before₀ bad₀ 
 abbrev read-par-μ-loop : read-par-lts.MeasureT-loop
 read-par-μ-loop table place at count depth names sets sum₀ before₀ bad₀ i₀ sum before bad i = count - i
 
-abbrev read-declaration-at : ℕ → In 2 read-declaration-kinds.ps
-read-declaration-at t =
-    and
-    2
-    read-declaration-kinds.ps
-    (is 2 read-declaration-kinds.ps μ-read-declaration t)
-    read-declaration.Pre
+module _ (t : ℕ) where
+  abbrev read-declaration-claims : read-declaration-lts.Claims
+  read-declaration-claims = (
+    more-names-reads.Asked,
+    more-names-reads.Learnt,
+    Below read-stmt-member t,
+    read-stmt.Post,
+    leave-reads.Asked,
+    leave-reads.Learnt,
+    in-scope-reads.Asked,
+    in-scope-reads.Learnt,
+  )
 
-abbrev read-declaration-below : ℕ → In 2 read-declaration-kinds.ps
-read-declaration-below t =
-    and
-    2
-    read-declaration-kinds.ps
-    (falls 2 read-declaration-kinds.ps _<_ μ-read-declaration t)
-    read-declaration.Pre
+  abbrev read-inside-claims : read-inside-lts.Claims
+  read-inside-claims = (
+    shape-of-reads.Asked,
+    shape-of-reads.Learnt,
+    read-simple-reads.Asked,
+    read-simple-reads.Learnt,
+    read-between-reads.Asked,
+    read-between-reads.Learnt,
+    Below read-declaration-member t,
+    read-declaration.Post,
+    read-count-reads.Asked,
+    read-count-reads.Learnt,
+    Below read-par-member t,
+    read-par.Post,
+    Below read-most-member t,
+    read-most.Post,
+  )
 
-abbrev read-inside-at : ℕ → In 2 read-inside-kinds.ps
-read-inside-at t =
-    and 2 read-inside-kinds.ps (is 2 read-inside-kinds.ps μ-read-inside t) read-inside.Pre
+  abbrev read-most-claims : read-most-lts.Claims
+  read-most-claims = (
+    no-parts-reads.Asked,
+    no-parts-reads.Learnt,
+    Below read-part-member t,
+    read-part.Post,
+    add-reads.Asked,
+    add-reads.Learnt,
+    gather-reads.Asked,
+    gather-reads.Learnt,
+  )
 
-abbrev read-inside-below : ℕ → In 2 read-inside-kinds.ps
-read-inside-below t =
-    and 2 read-inside-kinds.ps (falls 2 read-inside-kinds.ps _<_ μ-read-inside t) read-inside.Pre
+  abbrev read-par-claims : read-par-lts.Claims
+  read-par-claims = (
+    no-parts-reads.Asked,
+    no-parts-reads.Learnt,
+    Below read-stmt-member t,
+    read-stmt.Post,
+    clash-reads.Asked,
+    clash-reads.Learnt,
+    merge-reads.Asked,
+    merge-reads.Learnt,
+    add-reads.Asked,
+    add-reads.Learnt,
+    close-par-reads.Asked,
+    close-par-reads.Learnt,
+  )
 
-abbrev read-most-at : ℕ → In 2 read-most-kinds.ps
-read-most-at t = and 2 read-most-kinds.ps (is 2 read-most-kinds.ps μ-read-most t) read-most.Pre
+  abbrev read-part-claims : read-part-lts.Claims
+  read-part-claims = (
+    read-head-reads.Asked,
+    read-head-reads.Learnt,
+    Below read-stmt-member t,
+    read-stmt.Post,
+    behind-head-reads.Asked,
+    behind-head-reads.Learnt,
+  )
 
-abbrev read-most-below : ℕ → In 2 read-most-kinds.ps
-read-most-below t =
-    and 2 read-most-kinds.ps (falls 2 read-most-kinds.ps _<_ μ-read-most t) read-most.Pre
+  abbrev read-stmt-claims : read-stmt-lts.Claims
+  read-stmt-claims = (
+    read-deep-reads.Asked,
+    read-deep-reads.Learnt,
+    no-stmt-reads.Asked,
+    no-stmt-reads.Learnt,
+    read-between-reads.Asked,
+    read-between-reads.Learnt,
+    stmt-kind-reads.Asked,
+    stmt-kind-reads.Learnt,
+    Below read-inside-member t,
+    read-inside.Post,
+  )
 
-abbrev read-par-at : ℕ → In 2 read-par-kinds.ps
-read-par-at t = and 2 read-par-kinds.ps (is 2 read-par-kinds.ps μ-read-par t) read-par.Pre
+  -- what is counted of the part and of the branch that is read
+  part : {t : ℕ} (c : read-most-lts.After-p read-most-claims (At read-most-member t) read-most.Post read-most-Inv-loop read-most-μ-loop)
+      → let k = c .before .before .before .before .before in
+      Small (k .loop .sum .next) (length (k .before .before .before .args .table .now)) (Stmt (c .p .given .0 .0))
+  part c = part-counts _ _ _ _ _ (sym (c .before .before .read-part .ensures .0) ∙ c .p .given .1)
 
-abbrev read-par-below : ℕ → In 2 read-par-kinds.ps
-read-par-below t =
-    and 2 read-par-kinds.ps (falls 2 read-par-kinds.ps _<_ μ-read-par t) read-par.Pre
+  branch : {t : ℕ} (c : read-par-lts.After-p read-par-claims (At read-par-member t) read-par.Post read-par-Inv-loop read-par-μ-loop)
+      → let k = c .before .before .before .before .before in
+      Small (k .loop .sum .next) (length (k .before .before .before .args .table .now)) (Stmt (c .p .given .0 .0))
+  branch c = stmt-counts _ _ _ _ (sym (c .before .before .read-stmt .ensures .0) ∙ c .p .given .1)
 
-abbrev read-part-at : ℕ → In 2 read-part-kinds.ps
-read-part-at t = and 2 read-part-kinds.ps (is 2 read-part-kinds.ps μ-read-part t) read-part.Pre
+  -- what is to be answered once a kind's number is read, and once its shape is known
+  first : {t : ℕ} {x : Item} (c : read-stmt-lts.After-read-between read-stmt-claims (At read-stmt-member t) read-stmt.Post)
+      → c .read-between .result ≡ x
+      → let a = c .before .before .before .args in
+      (stmtAt (a .depth) (a .names) (a .table .now) (a .at)
+      ≡ withItem NoStmt x (λ k n. insideAt (a .at) (stmtKind k) (a .depth - 1) (a .names) (a .table .now) n))
+      × (stmtUses (a .depth) (a .names) (a .table .now) (a .at) (a .sets .now)
+      ≡ withItem (kept (a .sets .now)) x (λ k n. insideUses (stmtKind k) (a .depth - 1) (a .names) (a .table .now) n (a .sets .now)))
+  first c e =
+      let u = turn _ _ _ _ _ (c .before .if1 .left) in
+      let f = sym (c .read-between .ensures) ∙ e in (u .0 ∙ simp f, u .1 ∙ simp f)
 
-abbrev read-part-below : ℕ → In 2 read-part-kinds.ps
-read-part-below t =
-    and 2 read-part-kinds.ps (falls 2 read-part-kinds.ps _<_ μ-read-part t) read-part.Pre
+  shaped : {t : ℕ} {x : Shape} (c : read-inside-lts.After-shape-of read-inside-claims (At read-inside-member t) read-inside.Post)
+      → c .shape-of .result ≡ x
+      → let a = c .before .before .args in
+      (insideAt (a .place) (a .kind) (a .depth) (a .names) (a .table .now) (a .at)
+      ≡ byKind (a .place) x (a .depth) (a .names) (a .table .now) (a .at))
+      × (insideUses (a .kind) (a .depth) (a .names) (a .table .now) (a .at) (a .sets .now)
+      ≡ usesByKind x (a .depth) (a .names) (a .table .now) (a .sets .now) (a .at))
+  unfolding insideAt insideUses declaredAt declaredUses mostAt mostUsesAt parAt parUsesAt branchesAt
+  shaped c e = let f = sym (c .shape-of .ensures) ∙ e in (simp f, simp f)
 
-abbrev read-stmt-at : ℕ → In 2 read-stmt-kinds.ps
-read-stmt-at t = and 2 read-stmt-kinds.ps (is 2 read-stmt-kinds.ps μ-read-stmt t) read-stmt.Pre
+  -- how parts are counted is known to be few
+  counts-few : {t : ℕ} {x : Shape} (c : read-inside-lts.After-shape-of read-inside-claims (At read-inside-member t) read-inside.Post)
+      → c .shape-of .result ≡ x → FewIn x
+  counts-few c e = rw (sym (c .shape-of .ensures) ∙ e) at (few (c .before .before .args .kind))
 
-abbrev read-stmt-below : ℕ → In 2 read-stmt-kinds.ps
-read-stmt-below t =
-    and 2 read-stmt-kinds.ps (falls 2 read-stmt-kinds.ps _<_ μ-read-stmt t) read-stmt.Pre
+  -- what is to be answered once a part or a branch is read
+  one-part : {t : ℕ} {x : StmtRead}
+      (c : read-most-lts.After-read-part read-most-claims (At read-most-member t) read-most.Post read-most-Inv-loop read-most-μ-loop)
+      → c .read-part .result ≡ x
+      → let a = c .before .before .before .before .before .before .args in
+      let l = c .before .before .before .loop in
+      let m = c .read-part .last .1 .1 .1 .1 .1 .0 in
+      (mostLeft (a .count) (a .head) (a .depth) (a .names) (a .table .now) (nothing (a .at))
+      ≡ withStmt NoSum x (λ p. mostLeft (a .count - (l .i + 1)) (a .head) (a .depth) (a .names) (a .table .now) (added (l .sum) p)))
+      × (usesLeft (a .count) (a .head) (a .depth) (a .names) (a .table .now) (a .at) (a .sets .now)
+      ≡ withStmt (kept m) x (λ p. usesLeft (a .count - (l .i + 1)) (a .head) (a .depth) (a .names) (a .table .now) (p .next) m))
+  one-part c e =
+      let a = c .before .before .before .before .before .before .args in
+      let l = c .before .before .before .loop in
+      let h : 0 < a .count - l .i = omega arith in
+      let z : a .count - l .i - 1 ≡ a .count - (l .i + 1) = omega arith in
+      let u = most-turn _ _ _ _ _ _ _ h in
+      let r = c .read-part .ensures in (
+        l .inv .0 ∙ u .0 ∙ simp (← r .0, e, z),
+        l .inv .1 ∙ u .1 ∙ simp (← r .0, ← r .1, e, z),
+      )
 
-abbrev read-declaration-claims : ℕ → read-declaration-lts.Claims
-read-declaration-claims t = (
-  more-names-reads.Asked,
-  more-names-reads.Learnt,
-  read-stmt-below t,
-  read-stmt.Post,
-  leave-reads.Asked,
-  leave-reads.Learnt,
-  in-scope-reads.Asked,
-  in-scope-reads.Learnt,
-)
+  one-branch : {t : ℕ} {x : StmtRead}
+      (c : read-par-lts.After-read-stmt read-par-claims (At read-par-member t) read-par.Post read-par-Inv-loop read-par-μ-loop)
+      → c .read-stmt .result ≡ x
+      → let a = c .before .before .before .before .before .before .args in
+      let l = c .before .before .before .loop in
+      branchesAt (a .count) (a .depth) (a .names) (a .table .now) (noBranches (a .at))
+      ≡ withStmt stopped x (λ p. branchesAt (a .count - (l .i + 1)) (a .depth) (a .names) (a .table .now)
+      (joinedBy (c .read-stmt .last .1 .1 .1 .1 .0) (record { total = l .sum; before = l .before; bad = l .bad }) p))
+  one-branch c e =
+      let a = c .before .before .before .before .before .before .args in
+      let l = c .before .before .before .loop in
+      let h : 0 < a .count - l .i = omega arith in
+      let z : a .count - l .i - 1 ≡ a .count - (l .i + 1) = omega arith in
+      let r = c .read-stmt .ensures in l .inv .0 ∙ branches-turn _ _ _ _ _ h ∙ simp (← r .0, ← r .1 .0, e, z)
 
-abbrev read-inside-claims : ℕ → read-inside-lts.Claims
-read-inside-claims t = (
-  shape-of-reads.Asked,
-  shape-of-reads.Learnt,
-  read-simple-reads.Asked,
-  read-simple-reads.Learnt,
-  read-between-reads.Asked,
-  read-between-reads.Learnt,
-  read-declaration-below t,
-  read-declaration.Post,
-  read-count-reads.Asked,
-  read-count-reads.Learnt,
-  read-par-below t,
-  read-par.Post,
-  read-most-below t,
-  read-most.Post,
-)
+  -- whether branches clash, once one more is looked at
+  bad-is : {t : ℕ} (c : read-par-lts.Joined1 read-par-claims (At read-par-member t) read-par.Post read-par-Inv-loop read-par-μ-loop)
+      → let r = c .before .before .before .before .before .before in
+      let l = r .before .before .before .before .loop in
+      c .if1 .bad ≡ (l .bad || clashing (l .before) (r .before .read-stmt .last .1 .1 .1 .1 .0))
+  bad-is c =
+      let e = c .before .clash .ensures in
+      ⊎-elim (λ w. w .1 ∙ simp (← e, w .0 .taken, or-true)) (λ w. w .1 ∙ simp (← e, w .0 .left, or-false)) (c .if1 .came)
 
-abbrev read-most-claims : ℕ → read-most-lts.Claims
-read-most-claims t = (
-  no-parts-reads.Asked,
-  no-parts-reads.Learnt,
-  read-part-below t,
-  read-part.Post,
-  add-reads.Asked,
-  add-reads.Learnt,
-  gather-reads.Asked,
-  gather-reads.Learnt,
-)
+  read-declaration-more-names-requires : read-declaration-lts.Need-more-names-requires read-declaration-claims
+      (At read-declaration-member t) read-declaration.Post
+  read-declaration-more-names-requires c κs =
+      let f = c .before .pre .1 .0 in
+      (c .before .pre .1 .2, (omega (arith, f .1), omega (arith, f .2), f .3, f .4))
 
-abbrev read-par-claims : ℕ → read-par-lts.Claims
-read-par-claims t = (
-  no-parts-reads.Asked,
-  no-parts-reads.Learnt,
-  read-stmt-below t,
-  read-stmt.Post,
-  clash-reads.Asked,
-  clash-reads.Learnt,
-  merge-reads.Asked,
-  merge-reads.Learnt,
-  add-reads.Asked,
-  add-reads.Learnt,
-  close-par-reads.Asked,
-  close-par-reads.Learnt,
-)
+  read-declaration-read-stmt-requires : read-declaration-lts.Need-read-stmt-requires read-declaration-claims
+      (At read-declaration-member t) read-declaration.Post
+  read-declaration-read-stmt-requires c κs =
+      let m = c .before in
+      let o = m .before .before in (
+        omega (arith, o .pre .0),
+        (rw (m .more-names .ensures) (more-fits (o .args .declared) _ _ _ (o .pre .1 .2) (o .pre .1 .0)), o .pre .1 .1),
+      )
 
-abbrev read-part-claims : ℕ → read-part-lts.Claims
-read-part-claims t = (
-  read-head-reads.Asked,
-  read-head-reads.Learnt,
-  read-stmt-below t,
-  read-stmt.Post,
-  behind-head-reads.Asked,
-  behind-head-reads.Learnt,
-)
+  read-declaration-leave-requires : read-declaration-lts.Need-leave-requires read-declaration-claims (At read-declaration-member t)
+      read-declaration.Post
+  read-declaration-leave-requires c κs =
+      let f = c .before .before .before .before .before .pre .1 .0 in (omega (arith, f .1), omega (arith, f .2))
 
-abbrev read-stmt-claims : ℕ → read-stmt-lts.Claims
-read-stmt-claims t = (
-  read-deep-reads.Asked,
-  read-deep-reads.Learnt,
-  no-stmt-reads.Asked,
-  no-stmt-reads.Learnt,
-  read-between-reads.Asked,
-  read-between-reads.Learnt,
-  stmt-kind-reads.Asked,
-  stmt-kind-reads.Learnt,
-  read-inside-below t,
-  read-inside.Post,
-)
+  read-declaration-in-scope-requires : read-declaration-lts.Need-in-scope-requires read-declaration-claims (At read-declaration-member t)
+      read-declaration.Post
+  read-declaration-in-scope-requires c κs =
+      let r = c .before .before in
+      let o = r .before .before .before .before in (
+        o .pre .1 .2,
+        rw (r .read-stmt .ensures .0) (small-words (stmtAt _ _ _ _) _ _ (o .pre .1 .1) (stmt-small _ _ _ _)),
+      )
 
--- what is counted of the part and of the branch that is read
-part : {t : ℕ} (c : read-most-lts.After-p (read-most-claims t) (read-most-at t) read-most.Post read-most-Inv-loop read-most-μ-loop)
-    → let k = c .before .before .before .before .before in
-    Small (k .loop .sum .next) (length (k .before .before .before .args .table .now)) (Stmt (c .p .given .0 .0))
-part c = part-counts _ _ _ _ _ (sym (c .before .before .read-part .ensures .0) ∙ c .p .given .1)
+  read-declaration-returns : read-declaration-lts.Need-returns read-declaration-claims (At read-declaration-member t) read-declaration.Post
+  unfolding declaredAt declaredUses
+  read-declaration-returns c =
+      let r = c .before .before .before in
+      let m = r .before .before .more-names .ensures in (
+        simp (c .in-scope .ensures, r .read-stmt .ensures .0, m),
+        simp (c .before .leave .ensures, r .read-stmt .ensures .1 .0, m),
+      )
 
-branch : {t : ℕ} (c : read-par-lts.After-p (read-par-claims t) (read-par-at t) read-par.Post read-par-Inv-loop read-par-μ-loop)
-    → let k = c .before .before .before .before .before in
-    Small (k .loop .sum .next) (length (k .before .before .before .args .table .now)) (Stmt (c .p .given .0 .0))
-branch c = stmt-counts _ _ _ _ (sym (c .before .before .read-stmt .ensures .0) ∙ c .p .given .1)
+  read-inside-read-simple-requires : read-inside-lts.Need-read-simple-requires read-inside-claims (At read-inside-member t) read-inside.Post
+  read-inside-read-simple-requires c κs =
+      let f = c .before .before .before .before .before .before .pre .1 .0 in
+      (omega (arith, f .0), (omega (arith, f .1), omega (arith, f .2), f .3, f .4))
 
--- what is to be answered once a kind's number is read, and once its shape is known
-first : {t : ℕ} {x : Item} (c : read-stmt-lts.After-read-between (read-stmt-claims t) (read-stmt-at t) read-stmt.Post)
-    → c .read-between .result ≡ x
-    → let a = c .before .before .before .args in
-    (stmtAt (a .depth) (a .names) (a .table .now) (a .at)
-    ≡ withItem NoStmt x (λ k n. insideAt (a .at) (stmtKind k) (a .depth - 1) (a .names) (a .table .now) n))
-    × (stmtUses (a .depth) (a .names) (a .table .now) (a .at) (a .sets .now)
-    ≡ withItem (kept (a .sets .now)) x (λ k n. insideUses (stmtKind k) (a .depth - 1) (a .names) (a .table .now) n (a .sets .now)))
-first c e =
-    let u = turn _ _ _ _ _ (c .before .if1 .left) in
-    let f = sym (c .read-between .ensures) ∙ e in (u .0 ∙ simp f, u .1 ∙ simp f)
+  read-inside-read-declaration-requires : read-inside-lts.Need-read-declaration-requires read-inside-claims (At read-inside-member t)
+      read-inside.Post
+  read-inside-read-declaration-requires c κs =
+      let n = c .before .before in
+      let o = n .before .before .before .before .before .before .before .before in (
+        omega (arith, o .pre .0),
+        (o .pre .1 .0, o .pre .1 .1, count-most 1 32 _ _ (sym (n .before .before .read-between .ensures) ∙ n .n .given .1)),
+      )
 
-shaped : {t : ℕ} {x : Shape} (c : read-inside-lts.After-shape-of (read-inside-claims t) (read-inside-at t) read-inside.Post)
-    → c .shape-of .result ≡ x
-    → let a = c .before .before .args in
-    (insideAt (a .place) (a .kind) (a .depth) (a .names) (a .table .now) (a .at)
-    ≡ byKind (a .place) x (a .depth) (a .names) (a .table .now) (a .at))
-    × (insideUses (a .kind) (a .depth) (a .names) (a .table .now) (a .at) (a .sets .now)
-    ≡ usesByKind x (a .depth) (a .names) (a .table .now) (a .sets .now) (a .at))
-unfolding insideAt insideUses declaredAt declaredUses mostAt mostUsesAt parAt parUsesAt branchesAt
-shaped c e = let f = sym (c .shape-of .ensures) ∙ e in (simp f, simp f)
+  read-inside-read-par-requires : read-inside-lts.Need-read-par-requires read-inside-claims (At read-inside-member t) read-inside.Post
+  read-inside-read-par-requires c κs =
+      let n = c .before .before in
+      let r = n .before .before in
+      let k = r .before .before in
+      let o = k .before .before .before .before in
+      let l = counts-few (k .before .before) (k .count .given .1) in
+      let e = sym (r .read-count .ensures) ∙ n .n3 .given .1 in (
+        omega (arith, o .pre .0),
+        (less-fits _ _ (o .pre .1 .0), omega (arith, o .pre .1 .0 .2), o .pre .1 .1, count-few _ _ _ l e, o .pre .1 .2),
+      )
 
--- how parts are counted is known to be few
-counts-few : {t : ℕ} {x : Shape} (c : read-inside-lts.After-shape-of (read-inside-claims t) (read-inside-at t) read-inside.Post)
-    → c .shape-of .result ≡ x → FewIn x
-counts-few c e = rw (sym (c .shape-of .ensures) ∙ e) at (few (c .before .before .args .kind))
+  read-inside-read-most-requires : read-inside-lts.Need-read-most-requires read-inside-claims (At read-inside-member t) read-inside.Post
+  read-inside-read-most-requires c κs =
+      let n = c .before .before in
+      let r = n .before .before in
+      let k = r .before .before in
+      let o = k .before .before .before .before in
+      let l = counts-few (k .before .before) (k .head .given .1) in
+      let e = sym (r .read-count2 .ensures) ∙ n .n5 .given .1 in
+      (omega (arith, o .pre .0), (less-fits _ _ (o .pre .1 .0), omega (arith, o .pre .1 .0 .2), o .pre .1 .1, count-few _ _ _ l e))
 
--- what is to be answered once a part or a branch is read
-one-part : {t : ℕ} {x : StmtRead}
-    (c : read-most-lts.After-read-part (read-most-claims t) (read-most-at t) read-most.Post read-most-Inv-loop read-most-μ-loop)
-    → c .read-part .result ≡ x
-    → let a = c .before .before .before .before .before .before .args in
-    let l = c .before .before .before .loop in
-    let m = c .read-part .last .1 .1 .1 .1 .1 .0 in
-    (mostLeft (a .count) (a .head) (a .depth) (a .names) (a .table .now) (nothing (a .at))
-    ≡ withStmt NoSum x (λ p. mostLeft (a .count - (l .i + 1)) (a .head) (a .depth) (a .names) (a .table .now) (added (l .sum) p)))
-    × (usesLeft (a .count) (a .head) (a .depth) (a .names) (a .table .now) (a .at) (a .sets .now)
-    ≡ withStmt (kept m) x (λ p. usesLeft (a .count - (l .i + 1)) (a .head) (a .depth) (a .names) (a .table .now) (p .next) m))
-one-part c e =
-    let a = c .before .before .before .before .before .before .args in
-    let l = c .before .before .before .loop in
-    let h : 0 < a .count - l .i = omega arith in
-    let z : a .count - l .i - 1 ≡ a .count - (l .i + 1) = omega arith in
-    let u = most-turn _ _ _ _ _ _ _ h in
-    let r = c .read-part .ensures in (
-      l .inv .0 ∙ u .0 ∙ simp (← r .0, e, z),
-      l .inv .1 ∙ u .1 ∙ simp (← r .0, ← r .1, e, z),
-    )
+  read-inside-returns : read-inside-lts.Need-returns read-inside-claims (At read-inside-member t) read-inside.Post
+  read-inside-returns c =
+      let k = c .before .before .before in
+      let h = shaped (k .before .before) (k .simple .given .1) in
+      (c .read-simple .ensures .0 ∙ sym (h .0), c .read-simple .ensures .1 ∙ sym (h .1))
 
-one-branch : {t : ℕ} {x : StmtRead}
-    (c : read-par-lts.After-read-stmt (read-par-claims t) (read-par-at t) read-par.Post read-par-Inv-loop read-par-μ-loop)
-    → c .read-stmt .result ≡ x
-    → let a = c .before .before .before .before .before .before .args in
-    let l = c .before .before .before .loop in
-    branchesAt (a .count) (a .depth) (a .names) (a .table .now) (noBranches (a .at))
-    ≡ withStmt stopped x (λ p. branchesAt (a .count - (l .i + 1)) (a .depth) (a .names) (a .table .now)
-    (joinedBy (c .read-stmt .last .1 .1 .1 .1 .0) (record { total = l .sum; before = l .before; bad = l .bad }) p))
-one-branch c e =
-    let a = c .before .before .before .before .before .before .args in
-    let l = c .before .before .before .loop in
-    let h : 0 < a .count - l .i = omega arith in
-    let z : a .count - l .i - 1 ≡ a .count - (l .i + 1) = omega arith in
-    let r = c .read-stmt .ensures in l .inv .0 ∙ branches-turn _ _ _ _ _ h ∙ simp (← r .0, ← r .1 .0, e, z)
+  read-inside-returns-2 : read-inside-lts.Need-returns-2 read-inside-claims (At read-inside-member t) read-inside.Post
+  read-inside-returns-2 c =
+      let n = c .before .before .before in
+      let r = n .before .before in
+      let k = r .before .before in
+      let h = shaped (k .before .before) (k .declared .given .1) in
+      let e = sym (r .read-between .ensures) ∙ n .n .given .1 in
+      (c .read-declaration .ensures .0 ∙ sym (h .0 ∙ simp e), c .read-declaration .ensures .1 ∙ sym (h .1 ∙ simp e))
 
--- whether branches clash, once one more is looked at
-bad-is : {t : ℕ} (c : read-par-lts.Joined1 (read-par-claims t) (read-par-at t) read-par.Post read-par-Inv-loop read-par-μ-loop)
-    → let r = c .before .before .before .before .before .before in
-    let l = r .before .before .before .before .loop in
-    c .if1 .bad ≡ (l .bad || clashing (l .before) (r .before .read-stmt .last .1 .1 .1 .1 .0))
-bad-is c =
-    let e = c .before .clash .ensures in
-    ⊎-elim (λ w. w .1 ∙ simp (← e, w .0 .taken, or-true)) (λ w. w .1 ∙ simp (← e, w .0 .left, or-false)) (c .if1 .came)
+  read-inside-returns-3 : read-inside-lts.Need-returns-3 read-inside-claims (At read-inside-member t) read-inside.Post
+  read-inside-returns-3 c =
+      let n = c .before in
+      let r = n .before .before in
+      let k = r .before .before in
+      let h = shaped (k .before .before) (k .declared .given .1) in
+      let e = sym (r .read-between .ensures) ∙ n .n2 .given .1 in (sym (h .0 ∙ simp e), sym (h .1 ∙ simp e))
 
-read-declaration-more-names-requires : (t : ℕ)
-    → read-declaration-lts.Need-more-names-requires (read-declaration-claims t) (read-declaration-at t) read-declaration.Post
-read-declaration-more-names-requires t c κs =
-    let f = c .before .pre .1 .0 in
-    (c .before .pre .1 .2, (omega (arith, f .1), omega (arith, f .2), f .3, f .4))
+  read-inside-returns-4 : read-inside-lts.Need-returns-4 read-inside-claims (At read-inside-member t) read-inside.Post
+  read-inside-returns-4 c =
+      let n = c .before .before .before in
+      let r = n .before .before in
+      let k = r .before .before in
+      let h = shaped (k .before .before) (k .count .given .1) in
+      let e = sym (r .read-count .ensures) ∙ n .n3 .given .1 in
+      (c .read-par .ensures .0 ∙ sym (h .0 ∙ simp e), c .read-par .ensures .1 ∙ sym (h .1 ∙ simp e))
 
-read-declaration-read-stmt-requires : (t : ℕ)
-    → read-declaration-lts.Need-read-stmt-requires (read-declaration-claims t) (read-declaration-at t) read-declaration.Post
-read-declaration-read-stmt-requires t c κs =
-    let m = c .before in
-    let o = m .before .before in (
-      omega (arith, o .pre .0),
-      (rw (m .more-names .ensures) (more-fits (o .args .declared) _ _ _ (o .pre .1 .2) (o .pre .1 .0)), o .pre .1 .1),
-    )
+  read-inside-returns-5 : read-inside-lts.Need-returns-5 read-inside-claims (At read-inside-member t) read-inside.Post
+  read-inside-returns-5 c =
+      let n = c .before in
+      let r = n .before .before in
+      let k = r .before .before in
+      let h = shaped (k .before .before) (k .count .given .1) in
+      let e = sym (r .read-count .ensures) ∙ n .n4 .given .1 in (sym (h .0 ∙ simp e), sym (h .1 ∙ simp e))
 
-read-declaration-leave-requires : (t : ℕ)
-    → read-declaration-lts.Need-leave-requires (read-declaration-claims t) (read-declaration-at t) read-declaration.Post
-read-declaration-leave-requires t c κs =
-    let f = c .before .before .before .before .before .pre .1 .0 in (omega (arith, f .1), omega (arith, f .2))
+  read-inside-returns-6 : read-inside-lts.Need-returns-6 read-inside-claims (At read-inside-member t) read-inside.Post
+  read-inside-returns-6 c =
+      let n = c .before .before .before in
+      let r = n .before .before in
+      let k = r .before .before in
+      let h = shaped (k .before .before) (k .head .given .1) in
+      let e = sym (r .read-count2 .ensures) ∙ n .n5 .given .1 in
+      (c .read-most .ensures .0 ∙ sym (h .0 ∙ simp e), c .read-most .ensures .1 ∙ sym (h .1 ∙ simp e))
 
-read-declaration-in-scope-requires : (t : ℕ)
-    → read-declaration-lts.Need-in-scope-requires (read-declaration-claims t) (read-declaration-at t) read-declaration.Post
-read-declaration-in-scope-requires t c κs =
-    let r = c .before .before in
-    let o = r .before .before .before .before in (
-      o .pre .1 .2,
-      rw (r .read-stmt .ensures .0) (small-words (stmtAt _ _ _ _) _ _ (o .pre .1 .1) (stmt-small _ _ _ _)),
-    )
+  read-inside-returns-7 : read-inside-lts.Need-returns-7 read-inside-claims (At read-inside-member t) read-inside.Post
+  read-inside-returns-7 c =
+      let n = c .before in
+      let r = n .before .before in
+      let k = r .before .before in
+      let h = shaped (k .before .before) (k .head .given .1) in
+      let e = sym (r .read-count2 .ensures) ∙ n .n6 .given .1 in (sym (h .0 ∙ simp e), sym (h .1 ∙ simp e))
 
-read-declaration-returns : (t : ℕ)
-    → read-declaration-lts.Need-returns (read-declaration-claims t) (read-declaration-at t) read-declaration.Post
-unfolding declaredAt declaredUses
-read-declaration-returns t c =
-    let r = c .before .before .before in
-    let m = r .before .before .more-names .ensures in (
-      simp (c .in-scope .ensures, r .read-stmt .ensures .0, m),
-      simp (c .before .leave .ensures, r .read-stmt .ensures .1 .0, m),
-    )
+  read-most-loop-holds : read-most-lts.Need-loop-holds read-most-claims (At read-most-member t) read-most.Post read-most-Inv-loop
+      read-most-μ-loop
+  read-most-loop-holds c =
+      let e : c .before .before .args .count - 0 ≡ c .before .before .args .count = omega arith in
+      let n = c .no-parts .ensures in rw (n, e) (refl, refl, omega arith, omega arith, omega arith)
 
-read-inside-read-simple-requires : (t : ℕ)
-    → read-inside-lts.Need-read-simple-requires (read-inside-claims t) (read-inside-at t) read-inside.Post
-read-inside-read-simple-requires t c κs =
-    let f = c .before .before .before .before .before .before .pre .1 .0 in
-    (omega (arith, f .0), (omega (arith, f .1), omega (arith, f .2), f .3, f .4))
+  read-most-read-part-requires : read-most-lts.Need-read-part-requires read-most-claims (At read-most-member t) read-most.Post
+      read-most-Inv-loop read-most-μ-loop
+  read-most-read-part-requires c κs =
+      let o = c .before .before .before .before .before in (omega (arith, o .pre .0), (o .pre .1 .0, o .pre .1 .1, o .pre .1 .2))
 
-read-inside-read-declaration-requires : (t : ℕ)
-    → read-inside-lts.Need-read-declaration-requires (read-inside-claims t) (read-inside-at t) read-inside.Post
-read-inside-read-declaration-requires t c κs =
-    let n = c .before .before in
-    let o = n .before .before .before .before .before .before .before .before in (
-      omega (arith, o .pre .0),
-      (o .pre .1 .0, o .pre .1 .1, count-most 1 32 _ _ (sym (n .before .before .read-between .ensures) ∙ n .n .given .1)),
-    )
+  read-most-add-requires : read-most-lts.Need-add-requires read-most-claims (At read-most-member t) read-most.Post read-most-Inv-loop
+      read-most-μ-loop
+  read-most-add-requires c κs =
+      let h = part (c .before) in (omega arith, omega arith, omega arith, omega arith)
 
-read-inside-read-par-requires : (t : ℕ) → read-inside-lts.Need-read-par-requires (read-inside-claims t) (read-inside-at t) read-inside.Post
-read-inside-read-par-requires t c κs =
-    let n = c .before .before in
-    let r = n .before .before in
-    let k = r .before .before in
-    let o = k .before .before .before .before in
-    let l = counts-few (k .before .before) (k .count .given .1) in
-    let e = sym (r .read-count .ensures) ∙ n .n3 .given .1 in (
-      omega (arith, o .pre .0),
-      (less-fits _ _ (o .pre .1 .0), omega (arith, o .pre .1 .0 .2), o .pre .1 .1, count-few _ _ _ l e, o .pre .1 .2),
-    )
+  read-most-loop-again : read-most-lts.Need-loop-again read-most-claims (At read-most-member t) read-most.Post read-most-Inv-loop
+      read-most-μ-loop
+  read-most-loop-again c =
+      let p = c .before .before in
+      let h = part p in
+      let short = p .before .before .before .before .before .before .before .before .pre .1 .2 in
+      let o = one-part (p .before .before) (p .p .given .1) in (
+        o .0 ∙ simp (c .add .ensures),
+        o .1 ∙ simp (c .add .ensures),
+        omega arith,
+        rw (c .add .ensures) (omega arith),
+        rw (c .add .ensures) (omega arith),
+      )
 
-read-inside-read-most-requires : (t : ℕ)
-    → read-inside-lts.Need-read-most-requires (read-inside-claims t) (read-inside-at t) read-inside.Post
-read-inside-read-most-requires t c κs =
-    let n = c .before .before in
-    let r = n .before .before in
-    let k = r .before .before in
-    let o = k .before .before .before .before in
-    let l = counts-few (k .before .before) (k .head .given .1) in
-    let e = sym (r .read-count2 .ensures) ∙ n .n5 .given .1 in
-    (omega (arith, o .pre .0), (less-fits _ _ (o .pre .1 .0), omega (arith, o .pre .1 .0 .2), o .pre .1 .1, count-few _ _ _ l e))
+  read-most-returns : read-most-lts.Need-returns read-most-claims (At read-most-member t) read-most.Post read-most-Inv-loop read-most-μ-loop
+  unfolding mostAt mostUsesAt
+  read-most-returns c =
+      let o = one-part (c .before .before .before) (c .before .n .given .1) in (simp (o .0), sym (o .1))
 
-read-inside-returns : (t : ℕ) → read-inside-lts.Need-returns (read-inside-claims t) (read-inside-at t) read-inside.Post
-read-inside-returns t c =
-    let k = c .before .before .before in
-    let h = shaped (k .before .before) (k .simple .given .1) in
-    (c .read-simple .ensures .0 ∙ sym (h .0), c .read-simple .ensures .1 ∙ sym (h .1))
+  read-most-returns-2 : read-most-lts.Need-returns-2 read-most-claims (At read-most-member t) read-most.Post read-most-Inv-loop
+      read-most-μ-loop
+  unfolding mostAt mostUsesAt
+  read-most-returns-2 c =
+      let l = c .before .before .loop in
+      let z : c .before .before .before .before .before .args .count - l .i ≡ 0 = omega arith in
+      let n = most-none _ _ _ _ _ _ _ z in (c .gather .ensures ∙ simp (l .inv .0 ∙ n .0), sym (l .inv .1 ∙ n .1))
 
-read-inside-returns-2 : (t : ℕ) → read-inside-lts.Need-returns-2 (read-inside-claims t) (read-inside-at t) read-inside.Post
-read-inside-returns-2 t c =
-    let n = c .before .before .before in
-    let r = n .before .before in
-    let k = r .before .before in
-    let h = shaped (k .before .before) (k .declared .given .1) in
-    let e = sym (r .read-between .ensures) ∙ n .n .given .1 in
-    (c .read-declaration .ensures .0 ∙ sym (h .0 ∙ simp e), c .read-declaration .ensures .1 ∙ sym (h .1 ∙ simp e))
+  read-par-loop-holds : read-par-lts.Need-loop-holds read-par-claims (At read-par-member t) read-par.Post read-par-Inv-loop read-par-μ-loop
+  read-par-loop-holds c =
+      let e : c .before .before .args .count - 0 ≡ c .before .before .args .count = omega arith in
+      let n = c .no-parts .ensures in rw (n, e) (refl, omega arith, omega arith, omega arith)
 
-read-inside-returns-3 : (t : ℕ) → read-inside-lts.Need-returns-3 (read-inside-claims t) (read-inside-at t) read-inside.Post
-read-inside-returns-3 t c =
-    let n = c .before in
-    let r = n .before .before in
-    let k = r .before .before in
-    let h = shaped (k .before .before) (k .declared .given .1) in
-    let e = sym (r .read-between .ensures) ∙ n .n2 .given .1 in (sym (h .0 ∙ simp e), sym (h .1 ∙ simp e))
+  read-par-read-stmt-requires : read-par-lts.Need-read-stmt-requires read-par-claims (At read-par-member t) read-par.Post
+      read-par-Inv-loop read-par-μ-loop
+  read-par-read-stmt-requires c κs =
+      let o = c .before .before .before .before .before in (omega (arith, o .pre .0), (o .pre .1 .0, o .pre .1 .2))
 
-read-inside-returns-4 : (t : ℕ) → read-inside-lts.Need-returns-4 (read-inside-claims t) (read-inside-at t) read-inside.Post
-read-inside-returns-4 t c =
-    let n = c .before .before .before in
-    let r = n .before .before in
-    let k = r .before .before in
-    let h = shaped (k .before .before) (k .count .given .1) in
-    let e = sym (r .read-count .ensures) ∙ n .n3 .given .1 in
-    (c .read-par .ensures .0 ∙ sym (h .0 ∙ simp e), c .read-par .ensures .1 ∙ sym (h .1 ∙ simp e))
+  read-par-add-requires : read-par-lts.Need-add-requires read-par-claims (At read-par-member t) read-par.Post read-par-Inv-loop
+      read-par-μ-loop
+  read-par-add-requires c κs =
+      let h = branch (c .before .before .before .before .before .before .before .before) in
+      (omega arith, omega arith, omega arith, omega arith)
 
-read-inside-returns-5 : (t : ℕ) → read-inside-lts.Need-returns-5 (read-inside-claims t) (read-inside-at t) read-inside.Post
-read-inside-returns-5 t c =
-    let n = c .before in
-    let r = n .before .before in
-    let k = r .before .before in
-    let h = shaped (k .before .before) (k .count .given .1) in
-    let e = sym (r .read-count .ensures) ∙ n .n4 .given .1 in (sym (h .0 ∙ simp e), sym (h .1 ∙ simp e))
+  read-par-add-i : read-par-lts.Need-add-i read-par-claims (At read-par-member t) read-par.Post read-par-Inv-loop read-par-μ-loop
+  read-par-add-i c =
+      let p = c .before .before .before .before .before .before .before .before .before in
+      let k = p .before .before .before .before .before in
+      record { fits = omega (arith, k .loop .inv .1, k .before .before .before .pre .1 .3) }
 
-read-inside-returns-6 : (t : ℕ) → read-inside-lts.Need-returns-6 (read-inside-claims t) (read-inside-at t) read-inside.Post
-read-inside-returns-6 t c =
-    let n = c .before .before .before in
-    let r = n .before .before in
-    let k = r .before .before in
-    let h = shaped (k .before .before) (k .head .given .1) in
-    let e = sym (r .read-count2 .ensures) ∙ n .n5 .given .1 in
-    (c .read-most .ensures .0 ∙ sym (h .0 ∙ simp e), c .read-most .ensures .1 ∙ sym (h .1 ∙ simp e))
+  read-par-loop-again : read-par-lts.Need-loop-again read-par-claims (At read-par-member t) read-par.Post read-par-Inv-loop read-par-μ-loop
+  read-par-loop-again c =
+      let j = c .before .before .before .before in
+      let p = j .before .before .before .before .before in
+      let h = branch p in
+      let o = p .before .before .before .before .before .before .before .before .pre .1 .2 in (
+        one-branch (p .before .before) (p .p .given .1) ∙ simp (c .add .ensures, c .before .merge .ensures, bad-is j),
+        omega arith,
+        rw (c .add .ensures) (omega arith),
+        rw (c .add .ensures) (omega arith),
+      )
 
-read-inside-returns-7 : (t : ℕ) → read-inside-lts.Need-returns-7 (read-inside-claims t) (read-inside-at t) read-inside.Post
-read-inside-returns-7 t c =
-    let n = c .before in
-    let r = n .before .before in
-    let k = r .before .before in
-    let h = shaped (k .before .before) (k .head .given .1) in
-    let e = sym (r .read-count2 .ensures) ∙ n .n6 .given .1 in (sym (h .0 ∙ simp e), sym (h .1 ∙ simp e))
+  read-par-returns : read-par-lts.Need-returns read-par-claims (At read-par-member t) read-par.Post read-par-Inv-loop read-par-μ-loop
+  unfolding parAt parUsesAt
+  read-par-returns c =
+      let e = one-branch (c .before .before .before) (c .before .n .given .1) in (simp e, simp e)
 
-read-most-loop-holds : (t : ℕ)
-    → read-most-lts.Need-loop-holds (read-most-claims t) (read-most-at t) read-most.Post read-most-Inv-loop read-most-μ-loop
-read-most-loop-holds t c =
-    let e : c .before .before .args .count - 0 ≡ c .before .before .args .count = omega arith in
-    let n = c .no-parts .ensures in rw (n, e) (refl, refl, omega arith, omega arith, omega arith)
+  read-par-close-par-requires : read-par-lts.Need-close-par-requires read-par-claims (At read-par-member t) read-par.Post
+      read-par-Inv-loop read-par-μ-loop
+  read-par-close-par-requires c κs = omega arith
 
-read-most-read-part-requires : (t : ℕ)
-    → read-most-lts.Need-read-part-requires (read-most-claims t) (read-most-at t) read-most.Post read-most-Inv-loop read-most-μ-loop
-read-most-read-part-requires t c κs =
-    let o = c .before .before .before .before .before in (omega (arith, o .pre .0), (o .pre .1 .0, o .pre .1 .1, o .pre .1 .2))
+  read-par-returns-2 : read-par-lts.Need-returns-2 read-par-claims (At read-par-member t) read-par.Post read-par-Inv-loop read-par-μ-loop
+  unfolding parAt parUsesAt
+  read-par-returns-2 c =
+      let k = c .before .before .before .before .before in
+      let z : k .before .before .before .args .count - k .loop .i ≡ 0 = omega arith in
+      let e = k .loop .inv .0 ∙ branches-none _ _ _ _ _ z in
+      (c .close-par .ensures ∙ simp e, c .before .merge2 .ensures ∙ simp e)
 
-read-most-add-requires : (t : ℕ)
-    → read-most-lts.Need-add-requires (read-most-claims t) (read-most-at t) read-most.Post read-most-Inv-loop read-most-μ-loop
-read-most-add-requires t c κs =
-    let h = part (c .before) in (omega arith, omega arith, omega arith, omega arith)
+  read-part-read-stmt-requires : read-part-lts.Need-read-stmt-requires read-part-claims (At read-part-member t) read-part.Post
+  read-part-read-stmt-requires c κs =
+      let o = c .before .before .before .before .before .before .before in (omega (arith, o .pre .0), (o .pre .1 .0, o .pre .1 .2))
 
-read-most-loop-again : (t : ℕ)
-    → read-most-lts.Need-loop-again (read-most-claims t) (read-most-at t) read-most.Post read-most-Inv-loop read-most-μ-loop
-read-most-loop-again t c =
-    let p = c .before .before in
-    let h = part p in
-    let short = p .before .before .before .before .before .before .before .before .pre .1 .2 in
-    let o = one-part (p .before .before) (p .p .given .1) in (
-      o .0 ∙ simp (c .add .ensures),
-      o .1 ∙ simp (c .add .ensures),
-      omega arith,
-      rw (c .add .ensures) (omega arith),
-      rw (c .add .ensures) (omega arith),
-    )
+  read-part-returns : read-part-lts.Need-returns read-part-claims (At read-part-member t) read-part.Post
+  unfolding partIn partAt partUsesIn partUses
+  read-part-returns c =
+      let k = c .before .before .before .before in
+      let h = k .before .before .read-head .ensures in
+      let e = sym (h .0) ∙ k .next .given .1 in
+      let r = c .before .read-stmt .ensures in (simp (e, c .behind-head .ensures, r .0), simp (e, r .1 .0, h .1))
 
-read-most-returns : (t : ℕ)
-    → read-most-lts.Need-returns (read-most-claims t) (read-most-at t) read-most.Post read-most-Inv-loop read-most-μ-loop
-unfolding mostAt mostUsesAt
-read-most-returns t c =
-    let o = one-part (c .before .before .before) (c .before .n .given .1) in (simp (o .0), sym (o .1))
+  read-part-returns-2 : read-part-lts.Need-returns-2 read-part-claims (At read-part-member t) read-part.Post
+  unfolding partIn partAt partUsesIn partUses
+  read-part-returns-2 c =
+      let h = c .before .before .before .read-head .ensures in
+      let e = sym (h .0) ∙ c .before .n .given .1 in (simp e, simp (e, h .1))
 
-read-most-returns-2 : (t : ℕ)
-    → read-most-lts.Need-returns-2 (read-most-claims t) (read-most-at t) read-most.Post read-most-Inv-loop read-most-μ-loop
-unfolding mostAt mostUsesAt
-read-most-returns-2 t c =
-    let l = c .before .before .loop in
-    let z : c .before .before .before .before .before .args .count - l .i ≡ 0 = omega arith in
-    let n = most-none _ _ _ _ _ _ _ z in (c .gather .ensures ∙ simp (l .inv .0 ∙ n .0), sym (l .inv .1 ∙ n .1))
+  -- the sets that a statement leaves are exactly its usage
+  with-exact : {t : ℕ} {r : StmtRead} {m : List ℕ}
+      (c : read-stmt-lts.After-shared-slice-known read-stmt-claims (At read-stmt-member t) read-stmt.Post)
+      → let a = c .before .args in
+      r ≡ stmtAt (a .depth) (a .names) (a .table .now) (a .at)
+      → m ≡ stmtUses (a .depth) (a .names) (a .table .now) (a .at) (a .sets .now)
+      → (r ≡ stmtAt (a .depth) (a .names) (a .table .now) (a .at))
+      × ((m ≡ stmtUses (a .depth) (a .names) (a .table .now) (a .at) (a .sets .now))
+      × Exact (a .depth) (a .names) (a .table .now) (a .at) (a .sets .now) m)
+  with-exact c e f =
+      (e, (f, rw f (exact-uses _ _ _ _ _ (λ i. c .shared-slice-known .given i .fits) (c .before .pre .1 .0))))
 
-read-par-loop-holds : (t : ℕ)
-    → read-par-lts.Need-loop-holds (read-par-claims t) (read-par-at t) read-par.Post read-par-Inv-loop read-par-μ-loop
-read-par-loop-holds t c =
-    let e : c .before .before .args .count - 0 ≡ c .before .before .args .count = omega arith in
-    let n = c .no-parts .ensures in rw (n, e) (refl, omega arith, omega arith, omega arith)
+  read-stmt-returns : read-stmt-lts.Need-returns read-stmt-claims (At read-stmt-member t) read-stmt.Post
+  read-stmt-returns c =
+      let h = none _ _ _ _ _ (c .before .before .if1 .taken) in
+      with-exact (c .before .before .before) (sym (h .0 ∙ simp (c .no-stmt .ensures, c .before .read-deep .ensures))) (sym (h .1))
 
-read-par-read-stmt-requires : (t : ℕ)
-    → read-par-lts.Need-read-stmt-requires (read-par-claims t) (read-par-at t) read-par.Post read-par-Inv-loop read-par-μ-loop
-read-par-read-stmt-requires t c κs =
-    let o = c .before .before .before .before .before in (omega (arith, o .pre .0), (o .pre .1 .0, o .pre .1 .2))
+  read-stmt-read-inside-requires : read-stmt-lts.Need-read-inside-requires read-stmt-claims (At read-stmt-member t) read-stmt.Post
+  read-stmt-read-inside-requires c κs =
+      let k = c .before .before .before in
+      let o = k .before .before .before .before .before in
+      let e = sym (k .before .before .read-between .ensures) ∙ k .number .given .1 in
+      let b = rw e at (between-in 0 lastStatement (o .args .table .now) (o .args .at)) in (
+        omega (arith, o .pre .0),
+        (same-fits _ _ (k .before .before .before .if1 .left) (o .pre .1 .0), o .pre .1 .1, omega (arith, b, o .pre .1 .1)),
+      )
 
-read-par-add-requires : (t : ℕ)
-    → read-par-lts.Need-add-requires (read-par-claims t) (read-par-at t) read-par.Post read-par-Inv-loop read-par-μ-loop
-read-par-add-requires t c κs =
-    let h = branch (c .before .before .before .before .before .before .before .before) in
-    (omega arith, omega arith, omega arith, omega arith)
+  read-stmt-returns-2 : read-stmt-lts.Need-returns-2 read-stmt-claims (At read-stmt-member t) read-stmt.Post
+  read-stmt-returns-2 c =
+      let k = c .before .before .before .before in
+      let h = first (k .before .before) (k .number .given .1) in
+      let e = c .before .before .stmt-kind .ensures in
+      let r = c .read-inside .ensures in
+      with-exact (k .before .before .before .before) (r .0 ∙ sym (h .0 ∙ simp (← e))) (r .1 ∙ sym (h .1 ∙ simp (← e)))
 
-read-par-add-i : (t : ℕ)
-    → read-par-lts.Need-add-i (read-par-claims t) (read-par-at t) read-par.Post read-par-Inv-loop read-par-μ-loop
-read-par-add-i t c =
-    let p = c .before .before .before .before .before .before .before .before .before in
-    let k = p .before .before .before .before .before in
-    record { fits = omega (arith, k .loop .inv .1, k .before .before .before .pre .1 .3) }
-
-read-par-loop-again : (t : ℕ)
-    → read-par-lts.Need-loop-again (read-par-claims t) (read-par-at t) read-par.Post read-par-Inv-loop read-par-μ-loop
-read-par-loop-again t c =
-    let j = c .before .before .before .before in
-    let p = j .before .before .before .before .before in
-    let h = branch p in
-    let o = p .before .before .before .before .before .before .before .before .pre .1 .2 in (
-      one-branch (p .before .before) (p .p .given .1) ∙ simp (c .add .ensures, c .before .merge .ensures, bad-is j),
-      omega arith,
-      rw (c .add .ensures) (omega arith),
-      rw (c .add .ensures) (omega arith),
-    )
-
-read-par-returns : (t : ℕ) → read-par-lts.Need-returns (read-par-claims t) (read-par-at t) read-par.Post read-par-Inv-loop read-par-μ-loop
-unfolding parAt parUsesAt
-read-par-returns t c =
-    let e = one-branch (c .before .before .before) (c .before .n .given .1) in (simp e, simp e)
-
-read-par-close-par-requires : (t : ℕ)
-    → read-par-lts.Need-close-par-requires (read-par-claims t) (read-par-at t) read-par.Post read-par-Inv-loop read-par-μ-loop
-read-par-close-par-requires t c κs = omega arith
-
-read-par-returns-2 : (t : ℕ)
-    → read-par-lts.Need-returns-2 (read-par-claims t) (read-par-at t) read-par.Post read-par-Inv-loop read-par-μ-loop
-unfolding parAt parUsesAt
-read-par-returns-2 t c =
-    let k = c .before .before .before .before .before in
-    let z : k .before .before .before .args .count - k .loop .i ≡ 0 = omega arith in
-    let e = k .loop .inv .0 ∙ branches-none _ _ _ _ _ z in
-    (c .close-par .ensures ∙ simp e, c .before .merge2 .ensures ∙ simp e)
-
-read-part-read-stmt-requires : (t : ℕ) → read-part-lts.Need-read-stmt-requires (read-part-claims t) (read-part-at t) read-part.Post
-read-part-read-stmt-requires t c κs =
-    let o = c .before .before .before .before .before .before .before in (omega (arith, o .pre .0), (o .pre .1 .0, o .pre .1 .2))
-
-read-part-returns : (t : ℕ) → read-part-lts.Need-returns (read-part-claims t) (read-part-at t) read-part.Post
-unfolding partIn partAt partUsesIn partUses
-read-part-returns t c =
-    let k = c .before .before .before .before in
-    let h = k .before .before .read-head .ensures in
-    let e = sym (h .0) ∙ k .next .given .1 in
-    let r = c .before .read-stmt .ensures in (simp (e, c .behind-head .ensures, r .0), simp (e, r .1 .0, h .1))
-
-read-part-returns-2 : (t : ℕ) → read-part-lts.Need-returns-2 (read-part-claims t) (read-part-at t) read-part.Post
-unfolding partIn partAt partUsesIn partUses
-read-part-returns-2 t c =
-    let h = c .before .before .before .read-head .ensures in
-    let e = sym (h .0) ∙ c .before .n .given .1 in (simp e, simp (e, h .1))
-
--- the sets that a statement leaves are exactly its usage
-with-exact : {t : ℕ} {r : StmtRead} {m : List ℕ}
-    (c : read-stmt-lts.After-shared-slice-known (read-stmt-claims t) (read-stmt-at t) read-stmt.Post)
-    → let a = c .before .args in
-    r ≡ stmtAt (a .depth) (a .names) (a .table .now) (a .at)
-    → m ≡ stmtUses (a .depth) (a .names) (a .table .now) (a .at) (a .sets .now)
-    → (r ≡ stmtAt (a .depth) (a .names) (a .table .now) (a .at))
-    × ((m ≡ stmtUses (a .depth) (a .names) (a .table .now) (a .at) (a .sets .now))
-    × Exact (a .depth) (a .names) (a .table .now) (a .at) (a .sets .now) m)
-with-exact c e f =
-    (e, (f, rw f (exact-uses _ _ _ _ _ (λ i. c .shared-slice-known .given i .fits) (c .before .pre .1 .0))))
-
-read-stmt-returns : (t : ℕ) → read-stmt-lts.Need-returns (read-stmt-claims t) (read-stmt-at t) read-stmt.Post
-read-stmt-returns t c =
-    let h = none _ _ _ _ _ (c .before .before .if1 .taken) in
-    with-exact (c .before .before .before) (sym (h .0 ∙ simp (c .no-stmt .ensures, c .before .read-deep .ensures))) (sym (h .1))
-
-read-stmt-read-inside-requires : (t : ℕ) → read-stmt-lts.Need-read-inside-requires (read-stmt-claims t) (read-stmt-at t) read-stmt.Post
-read-stmt-read-inside-requires t c κs =
-    let k = c .before .before .before in
-    let o = k .before .before .before .before .before in
-    let e = sym (k .before .before .read-between .ensures) ∙ k .number .given .1 in
-    let b = rw e at (between-in 0 lastStatement (o .args .table .now) (o .args .at)) in (
-      omega (arith, o .pre .0),
-      (same-fits _ _ (k .before .before .before .if1 .left) (o .pre .1 .0), o .pre .1 .1, omega (arith, b, o .pre .1 .1)),
-    )
-
-read-stmt-returns-2 : (t : ℕ) → read-stmt-lts.Need-returns-2 (read-stmt-claims t) (read-stmt-at t) read-stmt.Post
-read-stmt-returns-2 t c =
-    let k = c .before .before .before .before in
-    let h = first (k .before .before) (k .number .given .1) in
-    let e = c .before .before .stmt-kind .ensures in
-    let r = c .read-inside .ensures in
-    with-exact (k .before .before .before .before) (r .0 ∙ sym (h .0 ∙ simp (← e))) (r .1 ∙ sym (h .1 ∙ simp (← e)))
-
-read-stmt-returns-3 : (t : ℕ) → read-stmt-lts.Need-returns-3 (read-stmt-claims t) (read-stmt-at t) read-stmt.Post
-read-stmt-returns-3 t c =
-    let k = c .before .before .before in
-    let h = first k (c .before .n .given .1) in with-exact (k .before .before) (sym (h .0)) (sym (h .1))
+  read-stmt-returns-3 : read-stmt-lts.Need-returns-3 read-stmt-claims (At read-stmt-member t) read-stmt.Post
+  read-stmt-returns-3 c =
+      let k = c .before .before .before in
+      let h = first k (c .before .n .given .1) in with-exact (k .before .before) (sym (h .0)) (sym (h .1))
 
 pub +read-declaration+read-inside+read-most+read-par+read-part+read-stmt-spec :
     {M : Type 1} → statement M
 +read-declaration+read-inside+read-most+read-par+read-part+read-stmt-spec =
-    close
-    μ-read-declaration
-    μ-read-inside
-    μ-read-most
-    μ-read-par
-    μ-read-part
-    μ-read-stmt
-    (λ t. read-declaration-lts.spec (read-declaration-claims t)
-    (read-declaration-at t)
-    read-declaration.Post
-    (read-declaration-more-names-requires t)
-    (read-declaration-read-stmt-requires t)
-    (read-declaration-leave-requires t)
-    (read-declaration-in-scope-requires t)
-    (read-declaration-returns t))
-    (λ t. read-inside-lts.spec (read-inside-claims t)
-    (read-inside-at t)
-    read-inside.Post
-    (λ c κs. search needs)
-    (λ c. search needs)
-    (read-inside-read-simple-requires t)
-    (λ c. search needs)
-    (λ c κs. search needs)
-    (λ c. search needs)
-    (read-inside-read-declaration-requires t)
-    (λ c. search needs)
-    (λ c. search needs)
-    (λ c κs. search needs)
-    (λ c. search needs)
-    (read-inside-read-par-requires t)
-    (λ c. search needs)
-    (λ c. search needs)
-    (λ c κs. search needs)
-    (λ c. search needs)
-    (read-inside-read-most-requires t)
-    (λ c. search needs)
-    (read-inside-returns t)
-    (read-inside-returns-2 t)
-    (read-inside-returns-3 t)
-    (read-inside-returns-4 t)
-    (read-inside-returns-5 t)
-    (read-inside-returns-6 t)
+    close (read-declaration-member .measure) (read-inside-member .measure) (read-most-member .measure) (read-par-member .measure)
+    (read-part-member .measure) (read-stmt-member .measure)
+    (λ t. read-declaration-lts.spec (read-declaration-claims t) (At read-declaration-member t) read-declaration.Post
+    (read-declaration-more-names-requires t) (read-declaration-read-stmt-requires t) (read-declaration-leave-requires t)
+    (read-declaration-in-scope-requires t) (read-declaration-returns t))
+    (λ t. read-inside-lts.spec (read-inside-claims t) (At read-inside-member t) read-inside.Post (λ c κs. search needs)
+    (λ c. search needs) (read-inside-read-simple-requires t) (λ c. search needs) (λ c κs. search needs) (λ c. search needs)
+    (read-inside-read-declaration-requires t) (λ c. search needs) (λ c. search needs) (λ c κs. search needs) (λ c. search needs)
+    (read-inside-read-par-requires t) (λ c. search needs) (λ c. search needs) (λ c κs. search needs) (λ c. search needs)
+    (read-inside-read-most-requires t) (λ c. search needs) (read-inside-returns t) (read-inside-returns-2 t)
+    (read-inside-returns-3 t) (read-inside-returns-4 t) (read-inside-returns-5 t) (read-inside-returns-6 t)
     (read-inside-returns-7 t))
-    (λ t. read-most-lts.spec (read-most-claims t)
-    (read-most-at t)
-    read-most.Post
-    read-most-Inv-loop
-    read-most-μ-loop
-    (λ c κs. search needs)
-    (read-most-loop-holds t)
-    (read-most-read-part-requires t)
-    (λ c. search needs)
-    (read-most-add-requires t)
-    (λ c. search needs)
-    (λ c. search needs)
-    (read-most-loop-again t)
-    (λ c. search needs)
-    (read-most-returns t)
-    (λ c κs. search needs)
-    (read-most-returns-2 t))
-    (λ t. read-par-lts.spec (read-par-claims t)
-    (read-par-at t)
-    read-par.Post
-    read-par-Inv-loop
-    read-par-μ-loop
-    (λ c κs. search needs)
-    (read-par-loop-holds t)
-    (read-par-read-stmt-requires t)
-    (λ c. search needs)
-    (λ c κs. search needs)
-    (λ c κs. search needs)
-    (read-par-add-requires t)
-    (read-par-add-i t)
-    (λ c. search needs)
-    (read-par-loop-again t)
-    (λ c. search needs)
-    (read-par-returns t)
-    (λ c κs. search needs)
-    (read-par-close-par-requires t)
-    (read-par-returns-2 t))
-    (λ t. read-part-lts.spec (read-part-claims t)
-    (read-part-at t)
-    read-part.Post
-    (λ c κs. search needs)
-    (λ c. search needs)
-    (read-part-read-stmt-requires t)
-    (λ c κs. search needs)
-    (λ c. search needs)
-    (read-part-returns t)
-    (read-part-returns-2 t))
-    λ t. read-stmt-lts.spec (read-stmt-claims t)
-    (read-stmt-at t)
-    read-stmt.Post
-    (λ c κs. search needs)
-    (λ c κs. search needs)
-    (read-stmt-returns t)
-    (λ c κs. search needs)
-    (λ c. search needs)
-    (λ c κs. search needs)
-    (λ c. search needs)
-    (read-stmt-read-inside-requires t)
-    (λ c. search needs)
-    (read-stmt-returns-2 t)
-    (read-stmt-returns-3 t)
+    (λ t. read-most-lts.spec (read-most-claims t) (At read-most-member t) read-most.Post read-most-Inv-loop read-most-μ-loop
+    (λ c κs. search needs) (read-most-loop-holds t) (read-most-read-part-requires t) (λ c. search needs) (read-most-add-requires t)
+    (λ c. search needs) (λ c. search needs) (read-most-loop-again t) (λ c. search needs) (read-most-returns t)
+    (λ c κs. search needs) (read-most-returns-2 t))
+    (λ t. read-par-lts.spec (read-par-claims t) (At read-par-member t) read-par.Post read-par-Inv-loop read-par-μ-loop
+    (λ c κs. search needs) (read-par-loop-holds t) (read-par-read-stmt-requires t) (λ c. search needs) (λ c κs. search needs)
+    (λ c κs. search needs) (read-par-add-requires t) (read-par-add-i t) (λ c. search needs) (read-par-loop-again t)
+    (λ c. search needs) (read-par-returns t) (λ c κs. search needs) (read-par-close-par-requires t) (read-par-returns-2 t))
+    (λ t. read-part-lts.spec (read-part-claims t) (At read-part-member t) read-part.Post (λ c κs. search needs) (λ c. search needs)
+    (read-part-read-stmt-requires t) (λ c κs. search needs) (λ c. search needs) (read-part-returns t) (read-part-returns-2 t))
+    λ t. read-stmt-lts.spec (read-stmt-claims t) (At read-stmt-member t) read-stmt.Post (λ c κs. search needs)
+    (λ c κs. search needs) (read-stmt-returns t) (λ c κs. search needs) (λ c. search needs) (λ c κs. search needs)
+    (λ c. search needs) (read-stmt-read-inside-requires t) (λ c. search needs) (read-stmt-returns-2 t) (read-stmt-returns-3 t)
