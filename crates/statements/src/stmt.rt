@@ -91,8 +91,8 @@ fn declare(
 ) -> Cursor
     ensures { λ r.
         ⌜ Makes (scope .depth + 1) scope (now (words .entry)) (now (words .exit))
-        (λ ns. declarationInto declared (innerAt (scope .depth) (now (plan .entry)) (now (table .entry))) (scope .w) ns (now (table
-        .entry)) (cursor .at) (standing (cursor .here) (now (list .entry)))) (wrote r (now (list .exit))) ⌝ }
+        (λ ns. declarationInto declared (innerAt (scope .depth) (now (plan .entry)) (now (table .entry))) (scope .w) ns
+        (now (table .entry)) (cursor .at) (standing (cursor .here) (now (list .entry)))) (wrote r (now (list .exit))) ⌝ }
 {
     let count = numbers::kinds::count_at(table, cursor.at, Count::UpTo(model::limits::NAMES));
     let n = count.value;
@@ -127,8 +127,8 @@ fn seq(
 ) -> Cursor
     ensures { λ r.
         ⌜ Makes (scope .depth + 1) scope (now (words .entry)) (now (words .exit))
-        (λ ns. seqInto count (innerAt (scope .depth) (now (plan .entry)) (now (table .entry)) (scope .w) ns) (cursor .at) (standing (cursor
-        .here) (now (list .entry)))) (wrote r (now (list .exit))) ⌝ }
+        (λ ns. seqInto count (innerAt (scope .depth) (now (plan .entry)) (now (table .entry)) (scope .w) ns) (cursor .at)
+        (standing (cursor .here) (now (list .entry)))) (wrote r (now (list .exit))) ⌝ }
 {
     let mut next = cursor;
     let mut left = count;
@@ -150,9 +150,9 @@ fn pair(
 ) -> Cursor
     ensures { λ r.
         ⌜ Makes (scope .depth + 1) scope (now (words .entry)) (now (words .exit))
-        (λ ns. pairInto (scope .depth) (scope .w) (ns .variables) (innerAt (scope .depth) (now (plan .entry)) (now (table .entry)) (scope
-        .w) ns) (now (plan .entry)) (now (table .entry)) (cursor .at) (standing (cursor .here) (now (list .entry)))) (wrote r (now (list
-        .exit))) ⌝ }
+        (λ ns. pairInto (scope .depth) (scope .w) (ns .variables)
+        (innerAt (scope .depth) (now (plan .entry)) (now (table .entry)) (scope .w) ns) (now (plan .entry)) (now (table .entry))
+        (cursor .at) (standing (cursor .here) (now (list .entry)))) (wrote r (now (list .exit))) ⌝ }
 {
     let test = expressions::gen_whole(table, plan, cursor, 0, scope, &*words, list);
     let start = Cursor {
@@ -191,9 +191,9 @@ fn pairs(
     requires { ⌜ count ≤ partLimit ⌝ }
     ensures { λ r.
         ⌜ Makes (scope .depth + 1) scope (now (words .entry)) (now (words .exit))
-        (λ ns. ifInto count (scope .depth) (scope .w) (ns .variables) (innerAt (scope .depth) (now (plan .entry)) (now (table .entry))
-        (scope .w) ns) (now (plan .entry)) (now (table .entry)) (cursor .at) (standing (cursor .here) (now (list .entry)))) (wrote r (now
-        (list .exit))) ⌝ }
+        (λ ns. ifInto count (scope .depth) (scope .w) (ns .variables)
+        (innerAt (scope .depth) (now (plan .entry)) (now (table .entry)) (scope .w) ns) (now (plan .entry)) (now (table .entry))
+        (cursor .at) (standing (cursor .here) (now (list .entry)))) (wrote r (now (list .exit))) ⌝ }
 {
     let mut ends: [u32; 32] = [0; 32];
     let mut next = cursor;
@@ -226,9 +226,9 @@ fn repetition(
 ) -> Cursor
     ensures { λ r.
         ⌜ Makes (scope .depth + 1) scope (now (words .entry)) (now (words .exit))
-        (λ ns. whileInto (scope .depth) (scope .w) (ns .variables) (innerAt (scope .depth) (now (plan .entry)) (now (table .entry)) (scope
-        .w) ns) (now (plan .entry)) (now (table .entry)) (cursor .at) (standing (cursor .here) (now (list .entry)))) (wrote r (now (list
-        .exit))) ⌝ }
+        (λ ns. whileInto (scope .depth) (scope .w) (ns .variables)
+        (innerAt (scope .depth) (now (plan .entry)) (now (table .entry)) (scope .w) ns) (now (plan .entry)) (now (table .entry))
+        (cursor .at) (standing (cursor .here) (now (list .entry)))) (wrote r (now (list .exit))) ⌝ }
 {
     let body = pair(table, plan, cursor, scope, words, list);
     let end = expressions::distance(
@@ -271,8 +271,8 @@ fn branch(
 ) -> Cursor
     ensures { λ r.
         ⌜ Makes (scope .depth + 1) scope (now (words .entry)) (now (words .exit))
-        (λ ns. branchInto d (innerAt (scope .depth) (now (plan .entry)) (now (table .entry))) (scope .w) ns (cursor .at) (standing (cursor
-        .here) (now (list .entry)))) (wrote r (now (list .exit))) ⌝ }
+        (λ ns. branchInto d (innerAt (scope .depth) (now (plan .entry)) (now (table .entry))) (scope .w) ns (cursor .at)
+        (standing (cursor .here) (now (list .entry)))) (wrote r (now (list .exit))) ⌝ }
 {
     let inner = lowered(scope, d);
     let body = statement(table, plan, cursor, inner, words, list);
@@ -295,8 +295,8 @@ fn branches(
 ) -> Cursor
     ensures { λ r.
         ⌜ Makes (scope .depth + 1) scope (now (words .entry)) (now (words .exit))
-        (λ ns. branchesInto (rest .left) (innerAt (scope .depth) (now (plan .entry)) (now (table .entry))) (scope .w) ns (now (plan
-        .entry)) (rest .at) (rest .d) (rest .start) (standing (rest .here) (now (list .entry)))) (wrote r (now (list .exit))) ⌝ }
+        (λ ns. branchesInto (rest .left) (innerAt (scope .depth) (now (plan .entry)) (now (table .entry))) (scope .w) ns
+        (now (plan .entry)) (rest .at) (rest .d) (rest .start) (standing (rest .here) (now (list .entry)))) (wrote r (now (list .exit))) ⌝ }
 {
     let mut next = Cursor {
         at: rest.at,
@@ -336,8 +336,8 @@ fn par(
 ) -> Cursor
     ensures { λ r.
         ⌜ Makes (scope .depth + 1) scope (now (words .entry)) (now (words .exit))
-        (λ ns. parInto count (innerAt (scope .depth) (now (plan .entry)) (now (table .entry))) (scope .w) ns (now (plan .entry)) (cursor
-        .at) (standing (cursor .here) (now (list .entry)))) (wrote r (now (list .exit))) ⌝ }
+        (λ ns. parInto count (innerAt (scope .depth) (now (plan .entry)) (now (table .entry))) (scope .w) ns (now (plan .entry))
+        (cursor .at) (standing (cursor .here) (now (list .entry)))) (wrote r (now (list .exit))) ⌝ }
 {
     if count == 0 {
         return cursor;
@@ -407,9 +407,9 @@ fn choice(
 ) -> Turn
     ensures { λ r.
         ⌜ Makes (scope .depth + 1) scope (now (words .entry)) (now (words .exit))
-        (λ ns. choiceInto (scope .depth) (innerAt (scope .depth) (now (plan .entry)) (now (table .entry))) (scope .w) ns (now (plan
-        .entry)) (now (table .entry)) (turn .choice) (turn .at) (turn .disable) (standing (turn .here) (now (list .entry)))) (chosen r (now
-        (list .exit))) ⌝ }
+        (λ ns. choiceInto (scope .depth) (innerAt (scope .depth) (now (plan .entry)) (now (table .entry))) (scope .w) ns
+        (now (plan .entry)) (now (table .entry)) (turn .choice) (turn .at) (turn .disable) (standing (turn .here) (now (list .entry))))
+        (chosen r (now (list .exit))) ⌝ }
 {
     let start = Cursor {
         at: turn.at,
@@ -441,9 +441,9 @@ fn choices(
     requires { ⌜ count ≤ partLimit ⌝ }
     ensures { λ r.
         ⌜ Makes (scope .depth + 1) scope (now (words .entry)) (now (words .exit))
-        (λ ns. guardsInto count (scope .depth) (innerAt (scope .depth) (now (plan .entry)) (now (table .entry))) (scope .w) ns (now (plan
-        .entry)) (now (table .entry)) (first .choice) (first .at) (first .disable) (standing (first .here) (now (list .entry)))) (wrote r
-        (now (list .exit))) ⌝ }
+        (λ ns. guardsInto count (scope .depth) (innerAt (scope .depth) (now (plan .entry)) (now (table .entry))) (scope .w) ns
+        (now (plan .entry)) (now (table .entry)) (first .choice) (first .at) (first .disable) (standing (first .here) (now (list .entry))))
+        (wrote r (now (list .exit))) ⌝ }
 {
     let mut ends: [u32; 32] = [0; 32];
     let mut turn = first;
@@ -480,8 +480,9 @@ fn alt(
     requires { ⌜ count ≤ partLimit ⌝ }
     ensures { λ r.
         ⌜ Makes (scope .depth + 1) scope (now (words .entry)) (now (words .exit))
-        (λ ns. altInto count (scope .depth) (innerAt (scope .depth) (now (plan .entry)) (now (table .entry))) (scope .w) ns (now (plan
-        .entry)) (now (table .entry)) (cursor .at) (standing (cursor .here) (now (list .entry)))) (wrote r (now (list .exit))) ⌝ }
+        (λ ns. altInto count (scope .depth) (innerAt (scope .depth) (now (plan .entry)) (now (table .entry))) (scope .w) ns
+        (now (plan .entry)) (now (table .entry)) (cursor .at) (standing (cursor .here) (now (list .entry))))
+        (wrote r (now (list .exit))) ⌝ }
 {
     let second = expressions::plain(
         list,
@@ -519,9 +520,9 @@ fn parts(
     requires { ⌜ FewParts (form .count) ⌝ }
     ensures { λ r.
         ⌜ Makes (scope .depth + 1) scope (now (words .entry)) (now (words .exit))
-        (λ ns. partsInto (form .head) (form .count) (scope .depth) (innerAt (scope .depth) (now (plan .entry)) (now (table .entry))) (scope
-        .w) ns (now (plan .entry)) (now (table .entry)) (cursor .at) (standing (cursor .here) (now (list .entry)))) (wrote r (now (list
-        .exit))) ⌝ }
+        (λ ns. partsInto (form .head) (form .count) (scope .depth) (innerAt (scope .depth) (now (plan .entry)) (now (table .entry)))
+        (scope .w) ns (now (plan .entry)) (now (table .entry)) (cursor .at) (standing (cursor .here) (now (list .entry))))
+        (wrote r (now (list .exit))) ⌝ }
 {
     let head = form.head;
     let count = form.count;
@@ -553,8 +554,9 @@ fn inside(
 ) -> Cursor
     ensures { λ r.
         ⌜ Makes (scope .depth + 1) scope (now (words .entry)) (now (words .exit))
-        (λ ns. insideInto kind (scope .depth) (innerAt (scope .depth) (now (plan .entry)) (now (table .entry))) (scope .w) ns (now (plan
-        .entry)) (now (table .entry)) (cursor .at) (standing (cursor .here) (now (list .entry)))) (wrote r (now (list .exit))) ⌝ }
+        (λ ns. insideInto kind (scope .depth) (innerAt (scope .depth) (now (plan .entry)) (now (table .entry))) (scope .w) ns
+        (now (plan .entry)) (now (table .entry)) (cursor .at) (standing (cursor .here) (now (list .entry))))
+        (wrote r (now (list .exit))) ⌝ }
 {
     match numbers::kinds::shape_of(kind) {
         Shape::Simple(simple) => gen_simple(table, plan, cursor, simple, scope, &*words, list),
@@ -588,8 +590,8 @@ pub fn statement(
 ) -> Cursor
     ensures { λ r.
         ⌜ Makes (scope .depth) scope (now (words .entry)) (now (words .exit))
-        (λ ns. stmtInto (scope .depth) (scope .w) ns (now (plan .entry)) (now (table .entry)) (cursor .at) (standing (cursor .here) (now
-        (list .entry)))) (wrote r (now (list .exit))) ⌝ }
+        (λ ns. stmtInto (scope .depth) (scope .w) ns (now (plan .entry)) (now (table .entry)) (cursor .at)
+        (standing (cursor .here) (now (list .entry)))) (wrote r (now (list .exit))) ⌝ }
 {
     if scope.depth == 0 {
         return cursor;
