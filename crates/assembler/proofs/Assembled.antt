@@ -76,6 +76,12 @@ unfolding prefixesOf
 prefixes-few (plain f o) = fewest-fits o .1
 prefixes-few (distance f r u) = omega arith
 
+-- every instruction takes at least one byte, and at most eight
+pub bytes-least : (xs : List Instruction) → length xs ≤ bytesIn xs
+unfolding bytesIn
+bytes-least [] = omega arith
+bytes-least (x ∷ xs) = omega (arith, bytes-least xs)
+
 bytes-few : (xs : List Instruction) → bytesIn xs ≤ 8 * length xs
 unfolding bytesIn
 bytes-few [] = omega arith

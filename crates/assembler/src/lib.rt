@@ -3,7 +3,7 @@
 ghost use mathlib.Core.Path.{_≡_};
 ghost use Prim.Native.Nat.{_≤_};
 ghost use Rattle.assembler.specs.Entries.{plainEntry, distanceEntry, byteIn, operandIn, distanceIn};
-ghost use Rattle.assembler.specs.Places.{prefixesIn, placeIn, operandBy, within};
+ghost use Rattle.assembler.specs.Places.{prefixesIn, sized, placed, placeIn, operandBy, wrote, within};
 ghost use Rattle.assembler.specs.Listed.{Size, Places, Bytes};
 
 // The most entries of a list: each takes at least one byte of code.
@@ -69,6 +69,9 @@ fn listed(count: usize) -> usize
 // The place of each entry's first byte, and behind them the place after the last. The answer is the size of the code.
 // The places are written through a slice: of one its length is known in the proof, behind a `&mut` to an array it is not.
 pub fn place(list: &[u64; 16384], count: usize, places: &mut [u32; 16385]) -> u32
+    ensures made { λ r.
+        ⌜ (r ≡ sized (within count) 0 0 (now (list .entry)))
+        × (now (places .exit) ≡ placed (within count) 0 0 (now (list .entry)) (now (places .entry))) ⌝ }
     ensures size { λ r. ⌜ Size count (now (list .entry)) r ⌝ }
     ensures places { λ r. ⌜ Places count (now (list .entry)) (now (places .exit)) ⌝ }
 {
@@ -111,7 +114,8 @@ fn operand_by(places: &[u32; 16385], entry: u64) -> u32
 
 // The bytes of a list into a lent buffer, by the places of its entries. Bytes past the buffer's end are left out.
 pub fn write(list: &[u64; 16384], count: usize, places: &[u32; 16385], out: &mut [u8])
-    ensures { λ r. ⌜ Bytes count (now (list .entry)) (now (places .entry)) (now (out .entry)) (now (out .exit)) ⌝ }
+    ensures made { λ _. ⌜ now (out .exit) ≡ wrote (within count) 0 (now (list .entry)) (now (places .entry)) (now (out .entry)) ⌝ }
+    ensures bytes { λ _. ⌜ Bytes count (now (list .entry)) (now (places .entry)) (now (out .entry)) (now (out .exit)) ⌝ }
 {
     let most = listed(count);
     let mut i: usize = 0;

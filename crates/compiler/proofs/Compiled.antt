@@ -3,7 +3,7 @@ use Prim.Native.Nat.{ℕ, _≤_, _<_}
 use native.Mathlib.Omega.{arith}
 use native.Mathlib.Nat.{zero-add}
 use mathlib.Core.Path.{_≡_, refl, sym, ap, _∙_}
-use mathlib.Core.List.{List, [], _∷_}
+use mathlib.Core.List.{List}
 use lib.ListN.{length, take}
 use lib.Seq.{sets, sets-eq, take-at}
 use lib.Dec.{leb}
@@ -12,7 +12,6 @@ use Rattle.model.specs.Limits.{wordLimit, codeLimit}
 use Rattle.model.specs.Syntax.{Program}
 use Rattle.model.specs.Reader.{Read, program, refused as unread}
 use Rattle.model.specs.Accept.{accept, memoryWords, answerOf}
-use Rattle.model.specs.Instruction.{Instruction}
 use Rattle.model.specs.Scheme.{scheme}
 use Rattle.model.specs.Code.{Compilation, bytesIn, placeOf, codeOf, encode, compiled, refused, fitting, compile, compiledAnswer}
 use Rattle.model.specs.Code.{bufferAfter, givenBack, numberOf, returnedOf}
@@ -26,6 +25,7 @@ use Rattle.model.proofs.Coding.Realise.{encode-length}
 use Rattle.model.proofs.Cases.{by-bool, never}
 use Rattle.assembler.specs.Entries.{entriesOf}
 use Rattle.assembler.specs.Listed.{Listed}
+use Rattle.assembler.proofs.Assembled.{bytes-least}
 use Rattle.statements.proofs.Fills.{entries-length}
 use Rattle.statements.proofs.TableCode.{facts-are}
 use Rattle.compiler.specs.Codes.{assembled, bytesInto}
@@ -38,12 +38,6 @@ accepted-as (unread n at) f e = never (cc)
 refused-as : (r : Read) (n p : ℕ) → answerOf r ≡ Refused n p → r ≡ unread n p
 refused-as (program q) n p e = never (cc)
 refused-as (unread k at) n p e = let a : k ≡ n = cc in let b : at ≡ p = cc in rw (a, b)
-
--- every instruction takes at least one byte
-pub bytes-least : (xs : List Instruction) → length xs ≤ bytesIn xs
-unfolding bytesIn
-bytes-least [] = omega arith
-bytes-least (x ∷ xs) = omega (arith, bytes-least xs)
 
 -- the scheme's list, where it is not too long
 pub scheme-listed : (s : List ℕ) (p : Program) (o : List ℕ) {n : ℕ} {l : List ℕ} → accept s ≡ program p → memoryWords p ≤ wordLimit

@@ -1,30 +1,17 @@
--- The list of an accepted table, and what is answered for the bytes of a list (01, "Workspace and code"; refusals 10 and 11).
-use Prim.Native.Nat.{ℕ, _≤_}
+-- What is answered for the bytes of a list (01, "Workspace and code"; refusals 10 and 11).
+use Prim.Native.Nat.{ℕ}
 use mathlib.Core.Path.{_≡_}
 use mathlib.Core.Bool.{cond, _&&_}
 use mathlib.Core.List.{List}
 use lib.ListN.{length}
 use lib.Seq.{sets}
 use lib.Dec.{leb}
-use Rattle.model.specs.Limits.{codeLimit, wordLimit}
-use Rattle.model.specs.Syntax.{Program}
-use Rattle.model.specs.Reader.{program}
-use Rattle.model.specs.Accept.{accept, memoryWords, answerOf}
+use Rattle.model.specs.Limits.{codeLimit}
 use Rattle.model.specs.Instruction.{Instruction}
-use Rattle.model.specs.Scheme.{scheme}
 use Rattle.model.specs.Code.{bytesIn, placeOf, encode}
-use Rattle.model.specs.declared.Facts.{Facts}
-use Rattle.model.specs.declared.Reading.the-variants.{Accepted}
 use Rattle.model.specs.declared.Compiled.{Compiled}
 use Rattle.model.specs.declared.Compiled.the-variants.{Code, Refused}
-use Rattle.assembler.specs.Entries.{entriesOf}
 use Rattle.assembler.specs.Listed.{Listed}
-
--- for every accepted table whose program has at most 4,096 words, with its facts: the list is the scheme's, and its length
-abbrev pub Lists : (table : List ℕ) → Facts → (before after : List ℕ) → (count : ℕ) → Type 0
-Lists s f before after n =
-    (p : Program) → accept s ≡ program p → answerOf (accept s) ≡ Accepted f → memoryWords p ≤ wordLimit
-    → (n ≡ length (scheme p)) × (after ≡ sets before 0 (entriesOf (scheme p)))
 
 -- the answer for a list: over 16,384 bytes 10 at place 0; the buffer too short 11 with the size needed; else the size
 abbrev pub assembled : (room : ℕ) → List Instruction → Compiled

@@ -5,7 +5,8 @@ ghost use lib.ListN.{length};
 ghost use Rattle.model.specs.Code.{compile as compilation, compiledAnswer, bufferAfter, givenBack, numberOf, returnedOf};
 ghost use Rattle.model.specs.Answers.{refusedCompiling};
 ghost use Rattle.model.specs.Refusals.{compileRefusal};
-ghost use Rattle.compiler.specs.Codes.{Lists, Assembles};
+ghost use Rattle.statements.specs.Tables.{Lists};
+ghost use Rattle.compiler.specs.Codes.{Assembles};
 
 // The list of an accepted table, and its length. The plan is needed for it alone.
 fn generate(table: &[u8], facts: model::Facts, list: &mut [u64; 16384]) -> u32

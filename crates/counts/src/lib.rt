@@ -22,6 +22,7 @@ pub enum Role {
     Guard,
 }
 
+// The larger of two.
 pub fn larger(a: u32, b: u32) -> u32
     ensures { λ r. ⌜ r ≡ max a b ⌝ }
 {

@@ -3,17 +3,17 @@ use Prim.Native.Nat.{ℕ, zero, suc, _+_, _-_, _*_, _<_, _≤_}
 use native.Mathlib.Omega.{arith}
 use native.Mathlib.Nat.{mod-eq-of-lt}
 use native.Mathlib.Decide.{decLt}
+use borrow.Author.Tests.{le-leb}
 use mathlib.Core.Path.{_≡_, refl, sym, _∙_}
 use mathlib.Core.List.{List, [], _∷_, _++_}
 use lib.ListN.{length, length-append, length-set, getD, set, List·getD-append}
 use lib.Seq.{sets, length-sets, getD-set-same, getD-set-other, getD-append-add}
 use Rattle.model.specs.Limits.{nameLimit}
 use Rattle.model.specs.Word.{low}
-use Rattle.numbers.specs.Kinds.{byDeclared}
 use Rattle.numbers.specs.declared.kinds.Declared.{Declared}
 use Rattle.numbers.specs.declared.kinds.Declared.the-variants.{Variables, Channels}
 use Rattle.expressions.specs.declared.words.Scope.{Scope}
-use Rattle.expressions.specs.Names.{Names, wordsFrom, declaring, entered, mostNames, Shown, Scoped}
+use Rattle.expressions.specs.Names.{Names, wordsFrom, declaring, entered, mostNames, fillInto, declareInto, Shown, Scoped}
 
 -- what stands before a run of numbers that was stored, in it, and behind it
 sets-before : (xs l : List ℕ) (i k : ℕ) → k < i → getD (sets l i xs) k 0 ≡ getD l k 0
@@ -33,7 +33,7 @@ sets-behind : (xs l : List ℕ) (i k : ℕ) → i + length xs ≤ k → getD (se
 sets-behind [] l i k h = refl
 sets-behind (x ∷ xs) l i k h = sets-behind xs (set l i x) (suc i) k (omega arith) ∙ getD-set-other l i k x 0 (omega arith)
 
-words-long : (n w : ℕ) → length (wordsFrom n w) ≡ n
+pub words-long : (n w : ℕ) → length (wordsFrom n w) ≡ n
 unfolding wordsFrom
 words-long zero w = refl
 words-long (suc n) w = rw (words-long n (low (w + 1)))
@@ -82,13 +82,13 @@ module _ {first count : ℕ} {ws vs : List ℕ} where
 
 -- the names of a declaration behind those in scope, once their words are stored
 pub enters : (x : Declared) (n w d : ℕ) (sc : Scope) (ws : List ℕ) (ns : Names) → n ≤ nameLimit → Scoped (d + 1) sc ws ns
-    → Scoped d (entered x n sc)
-    (sets ws (byDeclared x 0 mostNames + byDeclared x (sc .variables) (sc .channels)) (wordsFrom n w)) (declaring x n w ns)
+    → Scoped d (entered x n sc) (declareInto x n w sc ws) (declaring x n w ns)
+unfolding fillInto
 enters Variables n w d sc ws ns l h =
     let xs = wordsFrom n w in
     let e = words-long n w in
     let few : low (sc .variables + n) ≡ sc .variables + n = mod-eq-of-lt (omega (arith, h .variables)) in
-    rw few (record {
+    rw (few, le-leb (sc .variables + n) mostNames (omega (arith, h .variables))) (record {
       shows = record {
         variables =
             rw e at (shown-more xs (omega (arith, e, h .variables)) (omega (arith, e, h .variables, h .long)) (h .shows .variables));
@@ -102,7 +102,7 @@ enters Channels n w d sc ws ns l h =
     let xs = wordsFrom n w in
     let e = words-long n w in
     let few : low (sc .channels + n) ≡ sc .channels + n = mod-eq-of-lt (omega (arith, h .channels)) in
-    rw few (record {
+    rw (few, le-leb (sc .channels + n) mostNames (omega (arith, h .channels))) (record {
       shows = record {
         variables = shown-before (mostNames + sc .channels) xs (omega (arith, h .variables)) (h .shows .variables);
         channels =

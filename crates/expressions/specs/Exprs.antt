@@ -90,7 +90,7 @@ sidesInto inner p h at c =
     written (a .next) (behindInto (a .order) h (codeOf two))
 
 -- operator, left and right of the table: the sides, then the operation
-abbrev pub operatedInto : (inner : (held at : ℕ) → Code → Wrote) → (plan s : List ℕ) → (h at : ℕ) → Code → Wrote
+unfoldable pub operatedInto : (inner : (held at : ℕ) → Code → Wrote) → (plan s : List ℕ) → (h at : ℕ) → Code → Wrote
 operatedInto inner p s h at c =
     let o = valueAt s at in
     let r = sidesInto inner p h (o .next) c in
@@ -109,13 +109,9 @@ exprInto (suc d) w vs p s h at c =
     (notInto (exprInto d w vs p s h (k .next) c))
     (operatedInto (λ g i e. exprInto d w vs p s g i e) p s h (k .next) c)
 
--- two sides with expressions inside, which have `depth` left
-unfoldable pub sidesAt : (depth w : ℕ) → (vs plan s : List ℕ) → (h at : ℕ) → Code → Wrote
-sidesAt d w vs p s h at c = sidesInto (λ g i e. exprInto d w vs p s g i e) p h at c
-
--- an operator with expressions inside, which have `depth` left
-unfoldable pub binaryInto : (depth w : ℕ) → (vs plan s : List ℕ) → (h at : ℕ) → Code → Wrote
-binaryInto d w vs p s h at c = operatedInto (λ g i e. exprInto d w vs p s g i e) p s h at c
+-- the generator of the expressions inside, which have `depth` left
+abbrev pub innerAt : (depth w : ℕ) → (vs plan s : List ℕ) → (held at : ℕ) → Code → Wrote
+innerAt d w vs p s h i c = exprInto d w vs p s h i c
 
 -- by how many words t stored values lower W, with so many words more; without stored values by none
 unfoldable pub lowering : (t more : ℕ) → ℕ

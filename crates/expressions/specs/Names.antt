@@ -2,8 +2,11 @@
 -- them.
 use Prim.Native.Nat.{ℕ, zero, suc, _+_, _-_, _*_, _<_, _≤_}
 use mathlib.Core.Path.{_≡_}
+use mathlib.Core.Bool.{cond}
 use mathlib.Core.List.{List, [], _∷_, _++_}
 use lib.ListN.{length, getD}
+use lib.Seq.{sets}
+use lib.Dec.{leb}
 use Rattle.model.specs.Limits.{nameLimit}
 use Rattle.model.specs.Word.{low, less}
 use Rattle.numbers.specs.Kinds.{byDeclared}
@@ -47,6 +50,15 @@ entered x n sc =
 abbrev pub mostNames : ℕ
 mostNames = 1056
 
+-- the array with so many names more, behind so many whose words begin at an index: they stand in the words from w on. Of more names than
+-- there can be none
+unfoldable pub fillInto : (first names count w : ℕ) → (words : List ℕ) → List ℕ
+fillInto f k n w ws = cond (leb (k + n) mostNames) (sets ws (f + k) (wordsFrom n w)) ws
+
+-- the array with the names of a declaration of n behind those in scope
+abbrev pub declareInto : Declared → (n w : ℕ) → Scope → (words : List ℕ) → List ℕ
+declareInto x n w sc ws = byDeclared x (fillInto 0 (sc .variables) n w ws) (fillInto mostNames (sc .channels) n w ws)
+
 -- so many names stand in these words, which begin at an index of the array
 pub record Shown (first count : ℕ) (words vs : List ℕ) : Type 0 where
   pub counted : length vs ≡ count
@@ -74,6 +86,3 @@ WithChannels n ws P = (cs : List ℕ) → Shown mostNames n ws cs → P cs
 
 abbrev pub WithNames : Scope → (words : List ℕ) → (Names → Type 0) → Type 0
 WithNames sc ws P = (ns : Names) → Shows sc ws ns → P ns
-
-abbrev pub InScope : (depth : ℕ) → Scope → (words : List ℕ) → (Names → Type 0) → Type 0
-InScope d sc ws P = (ns : Names) → Scoped d sc ws ns → P ns

@@ -3,8 +3,8 @@ ghost use mathlib.Core.Path.{_≡_};
 ghost use Rattle.plan.specs.Entries.{storedIn, planAt};
 ghost use Rattle.expressions.specs.Emits.{at as standing};
 ghost use Rattle.expressions.specs.Names.{WithVariables};
-ghost use Rattle.expressions.specs.Exprs.{wrote, operatorInto, constantInto, variableInto, sidesAt, binaryInto, exprInto, lowering};
-ghost use Rattle.expressions.specs.Exprs.{adjustInto, wholeInto};
+ghost use Rattle.expressions.specs.Exprs.{wrote, operatorInto, constantInto, variableInto, sidesInto, operatedInto, innerAt};
+ghost use Rattle.expressions.specs.Exprs.{exprInto, lowering, adjustInto, wholeInto};
 use crate::emit::Cursor;
 use crate::words::Scope;
 use model::kinds::ExprKind;
@@ -82,7 +82,7 @@ fn gen_sides(
 ) -> Cursor
     ensures { λ r.
         ⌜ WithVariables (frame .variables) (now (words .entry)) (λ vs. wrote r (now (list .exit))
-        ≡ sidesAt depth (frame .w) vs (now (plan .entry)) (now (table .entry)) (frame .held) (cursor .at)
+        ≡ sidesInto (innerAt depth (frame .w) vs (now (plan .entry)) (now (table .entry))) (now (plan .entry)) (frame .held) (cursor .at)
         (standing (cursor .here) (now (list .entry)))) ⌝ }
 {
     let sides = crate::sides::arrange(plan, cursor.at, frame.held);
@@ -122,8 +122,8 @@ fn gen_binary(
 ) -> Cursor
     ensures { λ r.
         ⌜ WithVariables (frame .variables) (now (words .entry)) (λ vs. wrote r (now (list .exit))
-        ≡ binaryInto depth (frame .w) vs (now (plan .entry)) (now (table .entry)) (frame .held) (cursor .at)
-        (standing (cursor .here) (now (list .entry)))) ⌝ }
+        ≡ operatedInto (innerAt depth (frame .w) vs (now (plan .entry)) (now (table .entry))) (now (plan .entry)) (now (table .entry))
+        (frame .held) (cursor .at) (standing (cursor .here) (now (list .entry)))) ⌝ }
 {
     let operator = numbers::value_at(table, cursor.at);
     let left = Cursor {

@@ -4,9 +4,7 @@ ghost use mathlib.Core.Path.{_≡_};
 ghost use mathlib.Core.List.{List};
 ghost use Prim.Native.Nat.{ℕ, _+_, _-_, _≤_};
 ghost use lib.ListN.{getD};
-ghost use lib.Seq.{sets};
-ghost use Rattle.model.specs.Limits.{nameLimit};
-ghost use Rattle.expressions.specs.Names.{Shown, Scoped, WithVariables, WithChannels, InScope, localOf, wordsFrom, declaring};
+ghost use Rattle.expressions.specs.Names.{Shown, WithVariables, WithChannels, localOf, fillInto, declareInto};
 ghost use Rattle.expressions.specs.Names.{entered, mostNames};
 use numbers::kinds::Declared;
 
@@ -55,8 +53,7 @@ pub fn channel(words: &[u32; 2112], count: u32, name: u32, w: u32) -> u32
 // So many names behind so many stand in the words from w on. Of more names than there can be none.
 fn fill(words: &mut [u32; 2112], first: usize, names: u32, count: u32, w: u32)
     requires { ⌜ first ≤ mostNames ⌝ }
-    ensures { λ _.
-        ⌜ (names + count ≤ mostNames → now (words .exit) ≡ sets (now (words .entry)) (first + names) (wordsFrom count w)) ⌝ }
+    ensures { λ _. ⌜ now (words .exit) ≡ fillInto first names count w (now (words .entry)) ⌝ }
 {
     if MOST < names {
         return;
@@ -78,9 +75,8 @@ fn fill(words: &mut [u32; 2112], first: usize, names: u32, count: u32, w: u32)
 // The scope of a VAR or CHAN of so many names, which stand in the words from its workspace on.
 pub fn enter(words: &mut [u32; 2112], declared: Declared, count: u32, scope: Scope) -> Scope
     ensures scope { λ r. ⌜ r ≡ entered declared count scope ⌝ }
-    ensures names { λ r.
-        ⌜ InScope (scope .depth + 1) scope (now (words .entry)) (λ ns. count ≤ nameLimit
-        → Scoped (scope .depth) (entered declared count scope) (now (words .exit)) (declaring declared count (scope .w - count) ns)) ⌝ }
+    ensures names { λ _.
+        ⌜ now (words .exit) ≡ declareInto declared count (scope .w - count) scope (now (words .entry)) ⌝ }
 {
     let w = below(scope.w, count);
     match declared {

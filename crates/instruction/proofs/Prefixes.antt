@@ -1,24 +1,13 @@
--- The bytes of prefixes and of an instruction: how many, and the last of them stored first.
+-- The bytes of prefixes: how many, and the last of them stored first.
 use Prim.Native.Nat.{ℕ, zero, suc, _+_, _-_, _%_, _<_, _≤_}
 use native.Mathlib.Omega.{arith}
-use native.Mathlib.Numerals.{add-one}
-use mathlib.Core.Path.{_≡_, refl, sym}
+use mathlib.Core.Path.{_≡_, sym}
 use mathlib.Core.List.{List, [], _∷_, _++_}
-use lib.ListN.{length, set, length-append}
+use lib.ListN.{set}
 use lib.Seq.{sets}
 use Rattle.model.specs.Prefix.{shifted, firstPrefix, prefixes}
-use Rattle.instruction.specs.Coded.{coded}
+use Rattle.model.proofs.Coding.RoundTrip.{prefixes-length}
 use Rattle.instruction.proofs.Stores.{sets-join}
-
-pub prefixes-length : (k n : ℕ) → length (prefixes k n) ≡ k
-unfolding prefixes
-prefixes-length zero n = refl
-prefixes-length (suc zero) n = refl
-prefixes-length (suc (suc k)) n = rw (length-append, prefixes-length (suc k) (shifted n), add-one)
-
-pub coded-length : (k b n : ℕ) → length (coded k b n) ≡ suc k
-unfolding coded
-coded-length k b n = rw (length-append, prefixes-length, add-one)
 
 -- `prefixes` unrolled once
 pub none : (k n : ℕ) → k ≡ 0 → prefixes k n ≡ []

@@ -11,7 +11,7 @@ use processor::wake;
 ghost use mathlib.Core.Path.{_≡_};
 ghost use mathlib.Core.Bool.{false};
 ghost use Prim.Native.Nat.{_+_, _≤_, _<_};
-ghost use lib.ListN.{length, getD, set};
+ghost use lib.ListN.{length, getD};
 ghost use Rattle.model.specs.Word.{notProcess};
 ghost use Rattle.model.specs.Machine.{memorySize, machineWith};
 ghost use Rattle.model.specs.Answers.{refusedOffer};

@@ -53,9 +53,9 @@ pub record Entered : Type 0 where
 abbrev pub entered : ℕ → List ℕ → Entered
 entered x p = record { own = x; plan = p }
 
--- operator, left, right, by what measures an expression
-abbrev pub sidesBy : (ℕ → List ℕ → Entered) → List ℕ → (at : ℕ) → List ℕ → Entered
-sidesBy inner s at p =
+-- operator, left, right, by what measures an expression inside
+unfoldable pub sidesEntered : (ℕ → List ℕ → Entered) → List ℕ → (at : ℕ) → List ℕ → Entered
+sidesEntered inner s at p =
     let l = inner (nextOf s at) p in
     let r = inner (nextIn (l .own)) (l .plan) in
     entered (sidesEntry (l .own) (r .own)) (r .plan)
@@ -66,8 +66,10 @@ exprEntered zero s at p = entered (entry at 1 0) p
 exprEntered (suc d) s at p =
     let k = valueAt s at in
     let leaf = entered (entry (nextOf s (k .next)) 1 0) p in
-    let m = byExpr (exprKind (k .value)) leaf leaf (exprEntered d s (k .next) p) (sidesBy (λ i q. exprEntered d s i q) s (k .next) p) in
+    let m = byExpr (exprKind (k .value)) leaf leaf (exprEntered d s (k .next) p)
+    (sidesEntered (λ i q. exprEntered d s i q) s (k .next) p) in
     entered (m .own) (putAt at (m .own) (m .plan))
 
-unfoldable pub sidesEntered : (depth : ℕ) → List ℕ → (at : ℕ) → List ℕ → Entered
-sidesEntered d s at p = sidesBy (λ i q. exprEntered d s i q) s at p
+-- what measures the expressions inside, which have `depth` left
+abbrev pub innerEntered : (depth : ℕ) → List ℕ → (at : ℕ) → List ℕ → Entered
+innerEntered d s i q = exprEntered d s i q

@@ -81,8 +81,8 @@ partsMeasured (suc i) h b inner d s m =
 
 -- what follows a kind, by its shape, and by what measures a statement inside. 01: VAR or CHAN count + body; SEQ, IF, WHILE at least 2; ALT
 -- at least 4; PAR 2 + the sum of branches
-abbrev pub insideBy : StmtKind → (ℕ → List ℕ → Measured) → (depth : ℕ) → List ℕ → (at : ℕ) → List ℕ → Measured
-insideBy k inner d s at p =
+unfoldable pub insideMeasured : StmtKind → (ℕ → List ℕ → Measured) → (depth : ℕ) → List ℕ → (at : ℕ) → List ℕ → Measured
+insideMeasured k inner d s at p =
     byShape (shapeOf k) (λ x. simpleMeasured x d s at p)
     (λ x.
     let c = valueAt s at in
@@ -96,19 +96,17 @@ unfoldable pub stmtMeasured : (depth : ℕ) → List ℕ → (at : ℕ) → List
 stmtMeasured zero s at p = measured (extended at 2) p
 stmtMeasured (suc d) s at p =
     let k = valueAt s at in
-    let m = insideBy (stmtKind (k .value)) (λ i q. stmtMeasured d s i q) d s (k .next) p in
+    let m = insideMeasured (stmtKind (k .value)) (λ i q. stmtMeasured d s i q) d s (k .next) p in
     measured (m .extent) (putAt at (extentEntry (m .extent)) (m .plan))
 
--- the same by its parts, where the statements inside have `depth` left
-unfoldable pub partsAt : (left : ℕ) → Head → (beside : Bool) → (depth : ℕ) → List ℕ → Measured → Measured
-partsAt i h b d s m = partsMeasured i h b (λ j q. stmtMeasured d s j q) d s m
-
-unfoldable pub insideMeasured : StmtKind → (depth : ℕ) → List ℕ → (at : ℕ) → List ℕ → Measured
-insideMeasured k d s at p = insideBy k (λ i q. stmtMeasured d s i q) d s at p
+-- what measures the statements inside, which have `depth` left
+abbrev pub innerMeasured : (depth : ℕ) → List ℕ → (at : ℕ) → List ℕ → Measured
+innerMeasured d s i q = stmtMeasured d s i q
 
 -- the plan of a table: the entries of the statement behind the channel counts
 unfoldable pub tablePlan : List ℕ → (plan : List ℕ) → List ℕ
 tablePlan s p = stmtMeasured depthLimit s (nextOf s (nextOf s 0)) p .plan
 
+-- from an empty one
 abbrev pub planOf : List ℕ → List ℕ
 planOf s = tablePlan s (replicate tableLimit 0)

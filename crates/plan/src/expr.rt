@@ -1,7 +1,7 @@
 // What is known of expressions before their code is made (document 02, order 2): a plan has an entry at the first place of each.
 ghost use mathlib.Core.Path.{_≡_};
 ghost use Rattle.plan.specs.Entries.{entry as entryOf, nextIn, registersIn, storedIn, planAt, putAt, sidesEntry};
-ghost use Rattle.plan.specs.Entries.{entered, exprEntered, sidesEntered};
+ghost use Rattle.plan.specs.Entries.{entered, exprEntered, sidesEntered, innerEntered};
 use model::kinds::ExprKind;
 
 // An entry: the place after an expression, its registers and its stored values.
@@ -16,6 +16,7 @@ fn entry(next: usize, registers: u32, stored: u32) -> u32
     rest + 255
 }
 
+// The parts of an entry: the place after the expression, its registers, its stored values.
 pub fn next_in(entry: u32) -> usize
     ensures { λ r. ⌜ r ≡ nextIn entry ⌝ }
 {
@@ -65,7 +66,9 @@ pub fn put_entry(plan: &mut [u32; 16384], at: usize, entry: u32)
 
 // What follows an operator's kind: operator, left, right.
 fn measure_sides(table: &[u8], plan: &mut [u32; 16384], at: usize, depth: u64) -> u32
-    ensures { λ r. ⌜ entered r (now (plan .exit)) ≡ sidesEntered depth (now (table .entry)) at (now (plan .entry)) ⌝ }
+    ensures { λ r.
+        ⌜ entered r (now (plan .exit)) ≡ sidesEntered (innerEntered depth (now (table .entry))) (now (table .entry)) at
+        (now (plan .entry)) ⌝ }
 {
     let first = numbers::skip(table, at);
     let left = measure_expr(table, plan, first, depth);

@@ -1,7 +1,8 @@
-// The place after a part, and the words that a statement needs.
+// What is measured of statements and their parts.
 ghost use mathlib.Core.Path.{_≡_};
 ghost use Rattle.plan.specs.Extents.{extentEntry, extentIn, measured, wholeMeasured, simpleMeasured, guardMeasured};
-ghost use Rattle.plan.specs.Extents.{headMeasured, joined as needed, partsAt, insideMeasured, stmtMeasured};
+ghost use Rattle.plan.specs.Extents.{headMeasured, joined as needed, partsMeasured, insideMeasured, stmtMeasured};
+ghost use Rattle.plan.specs.Extents.{innerMeasured};
 use counts::Role;
 use model::kinds::GuardKind;
 use model::kinds::StmtKind;
@@ -9,6 +10,7 @@ use numbers::kinds::Head;
 use numbers::kinds::Shape;
 use numbers::kinds::Simple;
 
+// The place after a part, and the words that it needs.
 pub struct Extent {
     pub next: usize,
     pub need: u32,
@@ -120,7 +122,8 @@ fn measure_parts(
     depth: u64,
 ) -> Extent
     ensures { λ r.
-        ⌜ measured r (now (plan .exit)) ≡ partsAt count head beside depth (now (table .entry)) (measured first (now (plan .entry))) ⌝ }
+        ⌜ measured r (now (plan .exit)) ≡ partsMeasured count head beside (innerMeasured depth (now (table .entry))) depth
+        (now (table .entry)) (measured first (now (plan .entry))) ⌝ }
 {
     let mut so_far = first;
     let mut left = count;
@@ -145,7 +148,9 @@ fn measure_inside(
     kind: StmtKind,
     depth: u64,
 ) -> Extent
-    ensures { λ r. ⌜ measured r (now (plan .exit)) ≡ insideMeasured kind depth (now (table .entry)) at (now (plan .entry)) ⌝ }
+    ensures { λ r.
+        ⌜ measured r (now (plan .exit)) ≡ insideMeasured kind (innerMeasured depth (now (table .entry))) depth (now (table .entry)) at
+        (now (plan .entry)) ⌝ }
 {
     match numbers::kinds::shape_of(kind) {
         Shape::Simple(simple) => measure_simple(table, plan, at, simple, depth),

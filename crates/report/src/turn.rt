@@ -18,7 +18,7 @@ ghost use lib.ListN.{length};
 ghost use Rattle.model.specs.Answers.{instructionsOf};
 ghost use Rattle.model.specs.Bench.{decimal, newline, benchBudget, tookOne};
 ghost use Rattle.report.specs.declared.stage.Stage.the-variants.{Running, Taking, Code, Done};
-ghost use Rattle.report.specs.Texts.{textIn, at as standing, after, taking, Gives, says, stoodTurn, tookTurn, turnOf, nextOf, textOf};
+ghost use Rattle.report.specs.Texts.{textIn, at as standing, after, taking, Gives, says, stoodTurn, turnOf, nextOf, textOf};
 ghost use Rattle.report.specs.Texts.{turnsLeft, gave};
 
 // A piece of the text, the report after it, and whether there may be more.

@@ -24,6 +24,7 @@ use Rattle.assembler.specs.Entries.{entriesOf}
 use Rattle.expressions.specs.Emits.{Code, at, plainInto, operationInto}
 use Rattle.expressions.specs.Names.{Names, wordsFrom}
 use Rattle.expressions.specs.Exprs.{written, codeOf}
+use Rattle.expressions.proofs.Scopes.{words-long}
 use Rattle.model.specs.declared.kinds.StmtKind.the-variants.{Var, Chan}
 use Rattle.numbers.specs.Kinds.{stmtKind, countIn}
 use Rattle.numbers.specs.declared.kinds.Declared.{Declared}
@@ -38,11 +39,6 @@ use Rattle.statements.proofs.ExprCode.{Named}
 use Rattle.statements.proofs.Compiles.{Scoped, inner-names, Placed, Written, Compiles}
 
 -- so many words from w on
-pub from-long : (n w : ℕ) → length (wordsFrom n w) ≡ n
-unfolding wordsFrom
-from-long zero w = refl
-from-long (suc n) w = ap suc (from-long n (low (w + 1)))
-
 pub from-is : (n w j : ℕ) → j < n → w + n < 2 ^ 32 → getD (wordsFrom n w) j 0 ≡ w + j
 unfolding wordsFrom
 from-is zero w j l r = absurd (omega arith)
@@ -67,7 +63,7 @@ named-more {word} {d} {sites} {ws} p n w h at-p fits = record {
       ∙ sym (rw (q .0) (at-p (k - length sites))))
       (lookup-append sites (names p n) k x e);
   long = length-append ws (wordsFrom n w)
-      ∙ rw (h .long, from-long n w) (sym (length-append sites (names p n) ∙ rw (length-numbered (declared p) n) refl));
+      ∙ rw (h .long, words-long n w) (sym (length-append sites (names p n) ∙ rw (length-numbered (declared p) n) refl));
   deep = omega (arith, h .deep);
 }
 

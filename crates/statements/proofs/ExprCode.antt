@@ -24,7 +24,7 @@ use Rattle.assembler.specs.Entries.{entriesOf}
 use Rattle.expressions.specs.Emits.{Code, at, operationInto}
 use Rattle.expressions.specs.Names.{localOf}
 use Rattle.expressions.specs.Exprs.{Wrote, written, codeOf, operatorInto, constantInto, variableInto, inOrder, betweenInto, behindInto}
-use Rattle.expressions.specs.Exprs.{exprInto, lowering, adjustInto, wholeInto, sidesInto}
+use Rattle.expressions.specs.Exprs.{sidesInto, operatedInto, exprInto, lowering, adjustInto, wholeInto}
 use Rattle.statements.proofs.Spelled.{OneAt, ExprAt, constantAt, variableAt, notAt, binaryAt}
 use Rattle.statements.proofs.Planned.{PlannedExpr, holds-few}
 use Rattle.statements.proofs.Fills.{filled, fill-then, Room, room-left, room-right, emits-fills, emits-at}
@@ -131,7 +131,7 @@ module _ (word : Site → ℕ) (s : List ℕ) where
   module _ (plan : List ℕ) {k : ℕ} {vs : List Site} {ws : List ℕ} (names : Named word k vs ws) (w : ℕ) where
     expr-code : {d i n : ℕ} {e : Expr} (a : ExprAt s vs d i e n) → PlannedExpr s plan a → d ≤ 32 → (g : ℕ) → g + temporaries e ≤ wordLimit
         → Writes (λ c. exprInto d w ws plan s g i c) n (exprCode word w g e)
-    unfolding exprInto sidesInto exprCode constantInto variableInto functionCode temporaries
+    unfolding exprInto operatedInto sidesInto exprCode constantInto variableInto functionCode temporaries
     expr-code (constantAt v k t) told deep g few h o r =
         rw (k .value, k .is, t .value) (ap (written _) (emits-at (plain ldc v ∷ []) h o r))
     expr-code (variableAt {x = y} k x) told deep g few h o r =

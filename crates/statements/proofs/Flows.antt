@@ -62,7 +62,7 @@ module _ (word : Site → ℕ) (workspace : ℕ → ℕ) (s plan : List ℕ) whe
 
     pub seq-code : {i n m q k : ℕ} {ss : Stmts} (j : ℕ) → KindAt s stmtKind i Seq n → CountAt s 0 32 n k m → (a : StmtsAt s d sc k m ss q)
         → PlannedStmts s plan a → Placed word workspace s plan w j (SEQ ss) → Written word workspace s plan (suc d) ns w j i q (SEQ ss)
-    unfolding stmtInto insideInto partsInto ifInto whileInto countIn code need
+    unfolding stmtInto insideInto partsInto countIn code need
     seq-code j t c a told p o =
         rw (t .value, t .is, c .there .value, c .fits) (seq-parts j a told (p .laid) (omega (arith, p .few)) (p .room) o)
 
@@ -117,7 +117,7 @@ module _ (word : Site → ℕ) (workspace : ℕ → ℕ) (s plan : List ℕ) whe
     pub while-code : {i n m q : ℕ} {e : Expr} {b : Stmt} (j : ℕ) → KindAt s stmtKind i While n → (c : ExprAt s (sc .variables) d n e m)
         → PlannedExpr s plan c → (a : StmtAt s d sc m b q) → PlannedStmt s plan a → Placed word workspace s plan w j (WHILE e b)
         → Written word workspace s plan (suc d) ns w j i q (WHILE e b)
-    unfolding stmtInto insideInto partsInto ifInto whileInto countIn code need functionCode
+    unfolding stmtInto insideInto partsInto whileInto countIn code need functionCode
     while-code {q = q} {e = e} {b = b} j t c first a second p o =
         let T = tested j e b in
         let J = distance I.j j (leaves j e b) in
@@ -179,7 +179,7 @@ module _ (word : Site → ℕ) (workspace : ℕ → ℕ) (s plan : List ℕ) whe
 
     pub if-code : {i n m q k : ℕ} {ps : Pairs} (j : ℕ) → KindAt s stmtKind i If n → CountAt s 0 32 n k m → (a : PairsAt s d sc k m ps q)
         → PlannedPairs s plan a → Placed word workspace s plan w j (IF ps) → Written word workspace s plan (suc d) ns w j i q (IF ps)
-    unfolding stmtInto insideInto partsInto ifInto whileInto countIn code need
+    unfolding stmtInto insideInto partsInto ifInto countIn code need
     if-code {q = q} {k = k} {ps = ps} j t c a told p o =
         let over = j + sizePairs ps in
         let P = pairsCode j over ps in

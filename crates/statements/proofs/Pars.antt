@@ -21,7 +21,7 @@ use Rattle.assembler.specs.Entries.{entriesOf}
 use Rattle.expressions.specs.Emits.{at, plainInto, operationInto}
 use Rattle.expressions.specs.Names.{Names}
 use Rattle.expressions.specs.Exprs.{written}
-use Rattle.statements.specs.Stmts.{startInto, branchInto, branchesInto, headerInto, parInto}
+use Rattle.statements.specs.Stmts.{startInto, branchInto, branchesInto, forkInto, parInto}
 use Rattle.model.specs.declared.kinds.StmtKind.the-variants.{Par}
 use Rattle.numbers.specs.Kinds.{stmtKind, countIn}
 use Rattle.instruction.specs.Codes.{AJW}
@@ -98,7 +98,7 @@ module _ (word : Site → ℕ) (workspace : ℕ → ℕ) (s plan : List ℕ) whe
         → LaidBranches workspace (w - 2) (stmt b ss) → 2 + sumNeed (stmt b ss) ≤ wordLimit
         → Room j (codePar word w j (stmt b ss))
         → parInto (suc k) (innerAt d plan s) w ns plan i (at j o) ≡ written n (filled j (codePar word w j (stmt b ss)) o)
-    unfolding parInto branchInto codePar sumNeed headerInto functionCode operationCode operationInto
+    unfolding parInto branchInto codePar sumNeed forkInto functionCode operationCode operationInto
     branches-code {k} {i} {m} {n} {b} {ss} j o a one c others many small laid few r =
         let first = j + 6 + 3 * howMany ss in
         let over = first + size b + 2 + sizeEnds ss in

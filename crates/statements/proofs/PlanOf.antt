@@ -20,9 +20,9 @@ use Rattle.model.proofs.Tables.Needs.{sides-hold}
 use Rattle.counts.specs.Words.{asked}
 use Rattle.counts.specs.declared.Role.{Role}
 use Rattle.counts.specs.declared.Role.the-variants.{Value as ForValue, Output as ForOutput, Guard as ForGuard}
-use Rattle.plan.specs.Entries.{nextOf, nextIn, planAt, putAt, sidesEntry, Entered, entered, exprEntered, sidesEntered}
+use Rattle.plan.specs.Entries.{nextOf, nextIn, planAt, putAt, sidesEntry, Entered, entered, exprEntered, sidesEntered, innerEntered}
 use Rattle.plan.specs.Extents.{extended, extentEntry, extentIn, Measured, measured, wholeMeasured, simpleMeasured, guardMeasured}
-use Rattle.plan.specs.Extents.{headMeasured, joined, partsMeasured, insideMeasured, stmtMeasured}
+use Rattle.plan.specs.Extents.{headMeasured, joined, partsMeasured, insideMeasured, stmtMeasured, innerMeasured}
 use Rattle.numbers.specs.Items.{valueAt}
 use Rattle.numbers.specs.Kinds.{stmtKind, countIn}
 use Rattle.numbers.specs.declared.kinds.Head.{Head}
@@ -142,13 +142,13 @@ module _ (s : List ℕ) where
     sides-turn : (d n m j : ℕ) (p : List ℕ) → nextOf s n ≡ m → nextIn (exprEntered d s m p .own) ≡ j
         → let l = exprEntered d s m p in
         let r = exprEntered d s j (l .plan) in
-        sidesEntered d s n p ≡ entered (sidesEntry (l .own) (r .own)) (r .plan)
+        sidesEntered (innerEntered d s) s n p ≡ entered (sidesEntry (l .own) (r .own)) (r .plan)
     unfolding sidesEntered
     sides-turn d n m j p e f = rw (e, f)
 
     expr-planned : {vs : List Site} {d i n : ℕ} {e : Expr} (p : List ℕ) (a : ExprAt s vs d i e n) → d ≤ 32 → length p ≡ tableLimit
         → ExprMade p a (exprEntered d s i p)
-    unfolding exprEntered sidesEntered sidesEntry registers temporaries
+    unfolding exprEntered sidesEntry registers temporaries
     expr-planned {vs} p (constantAt {d = d} {at = i} {m = n} v k t) deep long =
         let a : ExprAt s vs (suc d) i (constant v) n = constantAt v k t in
         let ends = expr-ends s a in
@@ -213,9 +213,9 @@ module _ (s : List ℕ) where
     -- a statement by what is in it: its own entry is put at its first place
     stmt-own : {w : Scope} {d i n : ℕ} {b : Stmt} {p : List ℕ} (m : Measured) (a : StmtAt s (suc d) w i b n) → length p ≡ tableLimit
         → need b ≤ wordLimit → Made (suc i) n (need b) p (λ r. InsideStmt s r a) m
-        → (let k = valueAt s i in insideMeasured (stmtKind (k .value)) d s (k .next) p) ≡ m
+        → (let k = valueAt s i in insideMeasured (stmtKind (k .value)) (innerMeasured d s) d s (k .next) p) ≡ m
         → Made i n (need b) p (λ r. PlannedStmt s r a) (stmtMeasured (suc d) s i p)
-    unfolding stmtMeasured insideMeasured extentIn
+    unfolding stmtMeasured extentIn
     stmt-own {i = i} {n = n} {b = b} {p = p} m a long l (e, f) is =
         let ends = f .inside in
         subst (λ x. Made i n (need b) p (λ r. PlannedStmt s r a) (measured (x .extent) (putAt i (extentEntry (x .extent)) (x .plan))))
@@ -223,7 +223,7 @@ module _ (s : List ℕ) where
 
     -- so many parts, behind some that need x words
     abbrev partsBy : (k : ℕ) → Head → Bool → (d i x : ℕ) → List ℕ → Measured
-    partsBy k h b d i x p = partsMeasured k h b (λ j q. stmtMeasured d s j q) d s (measured (extended i x) p)
+    partsBy k h b d i x p = partsMeasured k h b (innerMeasured d s) d s (measured (extended i x) p)
 
     part-turn : (k : ℕ) (h : Head) (b : Bool) (d i j n x y z : ℕ) (p : List ℕ) → let q = headMeasured h d s i p in
         q .extent ≡ extended j y → let r = stmtMeasured d s j (q .plan) in

@@ -16,11 +16,11 @@ use Rattle.numbers.specs.declared.kinds.Count.the-variants.{UpTo, Fixed}
 use Rattle.numbers.specs.declared.kinds.Declared.{Declared}
 use Rattle.numbers.specs.declared.kinds.Head.{Head}
 use Rattle.numbers.specs.declared.kinds.Shape.the-variants.{Parts}
-use Rattle.expressions.specs.Names.{Names, Shows, Scoped, entered, declaring}
+use Rattle.expressions.specs.Names.{Names, Shows, Scoped, entered, declaring, declareInto}
 use Rattle.expressions.specs.Emits.{Code}
 use Rattle.expressions.specs.Exprs.{Wrote}
 use Rattle.expressions.specs.declared.words.Scope.{Scope}
-use Rattle.expressions.proofs.Scopes.{leaves}
+use Rattle.expressions.proofs.Scopes.{enters, leaves}
 use Rattle.statements.specs.Stmts.{Makes, under, branchInto, branchesInto}
 use Rattle.statements.specs.Kinds.{FewParts, stmtInto, innerAt}
 
@@ -55,11 +55,10 @@ within d sc inner v c m = relabel d (d + 1) sc inner (omega arith) v c m
 
 -- what is made in the scope of a declaration
 pub within-names : {A : Type 0} {between after : List ℕ} {f : Names → A} {a : A} (x : Declared) (n w d : ℕ) (sc : Scope) (ws : List ℕ)
-    → n ≤ nameLimit
-    → ((ns : Names) → Scoped (d + 1) sc ws ns → Scoped d (entered x n sc) between (declaring x n w ns))
+    → n ≤ nameLimit → between ≡ declareInto x n w sc ws
     → Makes d (entered x n sc) between after f a → Makes (d + 1) sc ws after (λ ns. f (declaring x n w ns)) a
-within-names {after = after} x n w d sc ws few enters m ns h =
-    let r = m (declaring x n w ns) (enters ns h) in
+within-names {after = after} x n w d sc ws few is m ns h =
+    let r = m (declaring x n w ns) (rw is (enters x n w d sc ws ns few h)) in
     (r .0, leaves x n w d sc after ns few (h .variables) (h .channels) (h .shows .variables .counted) (h .shows .channels .counted) (r .1))
 
 -- a count in a table that was read before is at most the largest

@@ -33,6 +33,7 @@ use Rattle.plan.specs.Extents.{stmtMeasured, tablePlan, planOf}
 use Rattle.expressions.specs.Emits.{at}
 use Rattle.expressions.specs.Names.{wordsFrom, declaring}
 use Rattle.expressions.specs.Exprs.{written}
+use Rattle.expressions.proofs.Scopes.{words-long}
 use Rattle.numbers.specs.declared.kinds.Declared.the-variants.{Channels}
 use Rattle.statements.specs.Kinds.{stmtInto}
 use Rattle.statements.specs.Tables.{noNames, tableInto}
@@ -41,7 +42,7 @@ use Rattle.statements.proofs.Fills.{filled, Room}
 use Rattle.statements.proofs.ExprCode.{Named}
 use Rattle.statements.proofs.Planned.{next-is, PlannedStmt}
 use Rattle.statements.proofs.PlanOf.{plan-of}
-use Rattle.statements.proofs.Declares.{from-is, from-long}
+use Rattle.statements.proofs.Declares.{from-is}
 use Rattle.statements.proofs.StmtCode.{compiles-all}
 use Rattle.statements.proofs.Bounds.{stmt-bound}
 
@@ -87,7 +88,7 @@ outside-named p hi ho hw =
           rw (numbered-at outputOf (p .outputs) (k - length ins) x (g .1) .0)
           (omega (arith, g .0, length-numbered inputOf (p .inputs))))
           (lookup-append ins outs k x e);
-      long = from-long (p .inputs + p .outputs) (base p) ∙ sym many;
+      long = words-long (p .inputs + p .outputs) (base p) ∙ sym many;
       deep = omega arith;
     }
 

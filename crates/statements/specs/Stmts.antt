@@ -15,6 +15,7 @@ use Rattle.expressions.specs.declared.words.Scope.{Scope}
 use Rattle.numbers.specs.Kinds.{byDeclared, countIn}
 use Rattle.numbers.specs.declared.kinds.Count.the-variants.{UpTo}
 use Rattle.numbers.specs.declared.kinds.Declared.{Declared}
+use Rattle.statements.specs.declared.stmt.Fork.{Fork}
 use Rattle.instruction.specs.Codes.{AJW, CJ, ENDP, J, LDC, LDLP, LDPI, MINT, STARTP, STL, STOPP}
 
 -- what is made whatever words the names in scope have: what f gives for them; and the array shows them afterwards
@@ -66,6 +67,7 @@ pub record Open : Type 0 where
   pub list : List ℕ
   pub ends : List ℕ
 
+-- the same from a place of the table, the code so far, and these indices
 abbrev pub opened : (next : ℕ) → Code → (ends : List ℕ) → Open
 opened n c e = record { next = n; here = c .here; list = c .list; ends = e }
 
@@ -116,18 +118,30 @@ branchesInto (suc n) inner w ns p i d start c =
     let b = branchInto d inner w ns i (at (c .here) (st .list)) in
     branchesInto n inner w ns p (b .next) (low (d + extentIn p i .need)) (st .here) (codeOf b)
 
--- what follows LDPI. 01: STL 0; LDC count, STL 1
-unfoldable pub headerInto : (count : ℕ) → Code → Code
-headerInto n c = plainInto STL 1 (plainInto LDC n (plainInto STL 0 c))
+-- what a PAR begins with, and the list
+pub record Forked : Type 0 where
+  pub fork : Fork
+  pub list : List ℕ
+
+-- the same from what a function answers, and the list
+abbrev pub forked : Fork → List ℕ → Forked
+forked f l = record { fork = f; list = l }
+
+-- 01: AJW -2; LDC end, which is left for later, LDPI, STL 0; LDC count, STL 1
+unfoldable pub forkInto : (count : ℕ) → Code → Forked
+forkInto n c =
+    let a = plainInto AJW (minus 2) c in
+    let user = low (a .here + 1) in
+    let h = plainInto STL 1 (plainInto LDC n (plainInto STL 0 (operationInto LDPI (at user (a .list))))) in
+    forked (record { gap = a .here; user = user; starts = h .here }) (h .list)
 
 -- 01, PAR with branches: AJW -2; LDC end, LDPI, STL 0; LDC count, STL 1; the starts; the branches; AJW 2. PAR of none: no code.
 -- A start has three instructions
 unfoldable pub parInto : (count : ℕ) → Inner → (w : ℕ) → Names → (plan : List ℕ) → (at : ℕ) → Code → Wrote
 parInto n inner w ns p i c =
-    let a = plainInto AJW (minus 2) c in
-    let user = low (a .here + 1) in
-    let h = headerInto n (operationInto LDPI (at user (a .list))) in
-    let one = branchInto 0 inner (w - 2) ns i (at (low (h .here + low (3 * (n - 1)))) (h .list)) in
-    let r = branchesInto (n - 1) inner (w - 2) ns p (one .next) (extentIn p i .need) (h .here) (codeOf one) in
-    let l = distanceInto LDC (r .here) user (at (a .here) (r .list)) in
+    let f = forkInto n c in
+    let k = f .fork in
+    let one = branchInto 0 inner (w - 2) ns i (at (low (k .starts + low (3 * (n - 1)))) (f .list)) in
+    let r = branchesInto (n - 1) inner (w - 2) ns p (one .next) (extentIn p i .need) (k .starts) (codeOf one) in
+    let l = distanceInto LDC (r .here) (k .user) (at (k .gap) (r .list)) in
     cond (eqb n 0) (written i c) (written (r .next) (plainInto AJW 2 (at (r .here) (l .list))))

@@ -32,8 +32,12 @@ tableInto p s f l =
     let w = f .words - outside in
     codeOf (stmtInto depthLimit w (declaring Channels outside w noNames) p s (nextOf s (nextOf s 0)) (at 0 l))
 
--- for every accepted table whose program has at most 4,096 words, with its facts and its plan: the list is the scheme's, and its length
-abbrev pub Generates : (s plan : List ℕ) → Facts → (before after : List ℕ) → (count : ℕ) → Type 0
-Generates s p f before after n =
-    (q : Program) → accept s ≡ program q → answerOf (accept s) ≡ Accepted f → p ≡ planOf s → memoryWords q ≤ wordLimit
-    → (n ≡ length (scheme q)) × (after ≡ sets before 0 (entriesOf (scheme q)))
+-- for every accepted table whose program has at most 4,096 words, with its facts: the list is the scheme's, and its length
+abbrev pub Lists : (table : List ℕ) → Facts → (before after : List ℕ) → (count : ℕ) → Type 0
+Lists s f before after n =
+    (p : Program) → accept s ≡ program p → answerOf (accept s) ≡ Accepted f → memoryWords p ≤ wordLimit
+    → (n ≡ length (scheme p)) × (after ≡ sets before 0 (entriesOf (scheme p)))
+
+-- so it is with the plan of the table
+abbrev pub Generates : (table plan : List ℕ) → Facts → (before after : List ℕ) → (count : ℕ) → Type 0
+Generates s p f before after n = p ≡ planOf s → Lists s f before after n

@@ -6,7 +6,7 @@ ghost use Rattle.expressions.specs.Emits.{at as standing};
 ghost use Rattle.expressions.specs.Exprs.{wrote};
 ghost use Rattle.expressions.specs.Names.{WithNames};
 ghost use Rattle.statements.specs.Stmts.{Makes, under, firstInto, initialInto, declarationInto, seqInto, pairInto, closeInto, ifInto};
-ghost use Rattle.statements.specs.Stmts.{whileInto, startInto, branchInto, branchesInto, headerInto, parInto};
+ghost use Rattle.statements.specs.Stmts.{whileInto, startInto, branchInto, branchesInto, forked, forkInto, parInto};
 ghost use Rattle.statements.specs.Alts.{chosen, branchInput, choiceInto, guardsInto, altInto};
 ghost use Rattle.statements.specs.Kinds.{FewParts, stmtInto, innerAt, partsInto, insideInto};
 use crate::alt::Guard;
@@ -27,6 +27,13 @@ struct Rest {
     start: u32,
     d: u32,
     left: u32,
+}
+
+// What a PAR begins with: the index left for LDC end, that of its user, and that of the starts.
+struct Fork {
+    gap: u32,
+    user: u32,
+    starts: u32,
 }
 
 // A guard of an ALT: its place, the index of its disabling, the index of its branch, and that of ALTEND.
@@ -315,13 +322,21 @@ fn branches(
     next
 }
 
-// STL 0, LDC count, STL 1.
-fn put_header(list: &mut [u64; 16384], here: u32, count: u32) -> u32
-    ensures { λ r. ⌜ standing r (now (list .exit)) ≡ headerInto count (standing here (now (list .entry))) ⌝ }
+// AJW -2; an index left for LDC end; LDPI, STL 0; LDC count, STL 1.
+fn put_fork(list: &mut [u64; 16384], here: u32, count: u32) -> Fork
+    ensures { λ r. ⌜ forked r (now (list .exit)) ≡ forkInto count (standing here (now (list .entry))) ⌝ }
 {
-    let second = expressions::plain(list, here, instruction::codes::STL, 0);
-    let third = expressions::plain(list, second, instruction::codes::LDC, count);
-    expressions::plain(list, third, instruction::codes::STL, 1)
+    let lower = expressions::minus(2);
+    let gap = expressions::plain(list, here, instruction::codes::AJW, lower);
+    let user = word::plus(gap, 1);
+    let second = expressions::operation(list, user, instruction::codes::LDPI);
+    let third = expressions::plain(list, second, instruction::codes::STL, 0);
+    let fourth = expressions::plain(list, third, instruction::codes::LDC, count);
+    Fork {
+        gap: gap,
+        user: user,
+        starts: expressions::plain(list, fourth, instruction::codes::STL, 1),
+    }
 }
 
 // PAR with branches: AJW -2; LDC end, LDPI, STL 0; LDC count, STL 1; the starts; the branches; AJW 2. PAR of none: no code.
@@ -342,18 +357,10 @@ fn par(
     if count == 0 {
         return cursor;
     }
-    let over = expressions::plain(
-        list,
-        cursor.here,
-        instruction::codes::AJW,
-        expressions::minus(2),
-    );
-    let user = word::plus(over, 1);
-    let header = expressions::operation(list, user, instruction::codes::LDPI);
-    let starts = put_header(list, header, count);
+    let fork = put_fork(list, cursor.here, count);
     let first = Cursor {
         at: cursor.at,
-        here: word::plus(starts, word::product(3, count - 1)),
+        here: word::plus(fork.starts, word::product(3, count - 1)),
     };
     let inner = lowered(scope, 2);
     let own = plan::extent_in(plan, cursor.at);
@@ -361,12 +368,12 @@ fn par(
     let rest = Rest {
         at: one.at,
         here: one.here,
-        start: starts,
+        start: fork.starts,
         d: own.need,
         left: count - 1,
     };
     let end = branches(table, plan, rest, inner, words, list);
-    expressions::distance(list, over, instruction::codes::LDC, end.here, user);
+    expressions::distance(list, fork.gap, instruction::codes::LDC, end.here, fork.user);
     Cursor {
         at: end.at,
         here: expressions::plain(list, end.here, instruction::codes::AJW, 2),

@@ -2,7 +2,7 @@
 use Prim.Native.Nat.{ℕ, zero, suc, _+_, _-_, _*_, _^_, _≤_, _<_}
 use native.Mathlib.Omega.{arith}
 use mathlib.Core.Path.{_≡_}
-use mathlib.Core.List.{List, [], _∷_, _++_}
+use mathlib.Core.List.{List, _∷_, _++_}
 use mathlib.Core.Option.{some}
 use lib.ListN.{length, getElem?}
 use Rattle.model.specs.Limits.{wordLimit, branchLimit}
@@ -17,7 +17,7 @@ use Rattle.model.specs.Counts.{order, sidesHold, temporaries, guardWords
 use Rattle.model.specs.declared.kinds.Order.{Order}
 use Rattle.model.specs.declared.kinds.Order.the-variants.{LeftFirst, RightFirst, RightStored}
 use Rattle.model.specs.Counts.{sumNeed, pairNeed, guardNeed}
-use Rattle.model.specs.Instruction.{operationCode, Instruction, plain, distance, operation, ldc, mint}
+use Rattle.model.specs.Instruction.{operationCode, Instruction, plain, operation, ldc, mint}
 use Rattle.model.specs.Layout.{base, wordOf}
 use Rattle.model.specs.Code.{Fits, AllFit, nil-fits, cons-fits}
 use Rattle.model.specs.Scheme.{operatorCode, initialise, sidesCode, wrapped, altWords, wholeSize, howMany, size, sizeAll, sizePar}

@@ -158,7 +158,7 @@ unfolding fewest
 fewest-fits n = fewestFrom-enough 7 0 n (magnitude-enough 7 n (omega arith) (omega arith))
 
 -- so many prefixes and the last byte
-prefixes-length : (k n : ℕ) → length (prefixes k n) ≡ k
+pub prefixes-length : (k n : ℕ) → length (prefixes k n) ≡ k
 unfolding prefixes
 prefixes-length zero n = refl
 prefixes-length (suc zero) n = refl

@@ -18,6 +18,7 @@ use Rattle.expressions.specs.Names.{Scoped, declaring}
 use Rattle.expressions.specs.Exprs.{codeOf}
 use Rattle.statements.specs.Kinds.{stmtInto}
 use Rattle.statements.specs.Tables.{noNames, tableInto}
+use Rattle.statements.proofs.Scoping.{within-names}
 use Rattle.statements.proofs.TableCode.{facts-are, outside-few, table-code}
 
 -- no name in scope: there is room for all
@@ -46,7 +47,7 @@ planned : (s p q : List ℕ) (f g : Facts) (o : List ℕ) {c : Code} → p ≡ q
 planned s p q f g o e h is = is ∙ rw (e, h)
 
 returns : tie.Need-returns
-returns c q is answer plan few =
+returns c plan q is answer few =
     let sk = c .before .before .before in
     let ski = sk .before in
     let en = ski .before in
@@ -59,18 +60,12 @@ returns c q is answer plan few =
     rw e (omega arith)) in
     let e = en .enter .ensures in
     let r = rw (e .0) at (c .statement .ensures) in
-    let m = r _ (e .1 noNames (no-names _) small) .0 in
+    let m = within-names Channels _ _ 32 _ _ small (e .1) r noNames (no-names _) .0 in
     let t = table-of _ _ _ _ _ _ _ o (sk .skip2 .ensures ∙ ap (nextOf _) (ski .skip .ensures)) m in
     let z = planned _ _ _ _ _ _ plan f t ∙ table-code _ q (λ y. ssk .shared-slice-known .given y .fits) is few _ in
     (ap (λ x. x .here) z, ap (λ x. x .list) z)
 
 pub generate-spec : {M : Type 1} → statement M
 generate-spec =
-    tie.close
-    (tie.spec
-    (λ c κs. search needs)
-    (λ c κs. search needs)
-    (λ c κs. search needs)
-    (λ c κs. search needs)
-    (λ c κs. search needs)
-    returns)
+    tie.close (tie.spec (λ c κs. search needs) (λ c κs. search needs) (λ c κs. search needs) (λ c κs. search needs)
+    (λ c κs. search needs) returns)

@@ -26,7 +26,7 @@ use Rattle.numbers.proofs.Cycles.{Member, At, Below}
 use borrow.Author.Needs.{needs}
 use native.Mathlib.Omega.{arith}
 use mathlib.Core.Path.{_≡_}
-use Rattle.expressions.specs.Exprs.{sidesInto, exprInto, sidesAt, binaryInto}
+use Rattle.expressions.specs.Exprs.{sidesInto, operatedInto, exprInto}
 
 abbrev gen-binary-member : Member gen-binary-kinds.ps
 gen-binary-member = record { measure = λ κs a. 3 * a .1 .1 .1 .0 + 2; required = gen-binary.Pre }
@@ -86,7 +86,7 @@ module _ (t : ℕ) where
       (omega (arith, p .0), p .1)
 
   gen-binary-returns : gen-binary-lts.Need-returns gen-binary-claims (At gen-binary-member t) gen-binary.Post
-  unfolding binaryInto sidesAt
+  unfolding operatedInto
   gen-binary-returns c vs h =
       let o = c .before .before in
       let r = o .before .before in
@@ -97,7 +97,7 @@ module _ (t : ℕ) where
   gen-expr-returns c vs h = rw (c .if1 .taken)
 
   gen-expr-returns-2 : gen-expr-lts.Need-returns-2 gen-expr-claims (At gen-expr-member t) gen-expr.Post
-  unfolding exprInto binaryInto
+  unfolding exprInto
   gen-expr-returns-2 c vs h =
       let k = c .before .before in
       let v = k .before .before .before .before in
@@ -106,7 +106,7 @@ module _ (t : ℕ) where
       rw one (rw (← v .value-at .ensures, ← k .before .before .expr-kind .ensures, k .enum-told .given .1, c .gen-constant .ensures))
 
   gen-expr-returns-3 : gen-expr-lts.Need-returns-3 gen-expr-claims (At gen-expr-member t) gen-expr.Post
-  unfolding exprInto binaryInto
+  unfolding exprInto
   gen-expr-returns-3 c vs h =
       let k = c .before .before in
       let v = k .before .before .before .before in
@@ -120,7 +120,7 @@ module _ (t : ℕ) where
       (omega (arith, p .0), p .1)
 
   gen-expr-returns-4 : gen-expr-lts.Need-returns-4 gen-expr-claims (At gen-expr-member t) gen-expr.Post
-  unfolding exprInto binaryInto
+  unfolding exprInto
   gen-expr-returns-4 c vs h =
       let e = c .before .before in
       let k = e .before .before in
@@ -136,7 +136,7 @@ module _ (t : ℕ) where
       (omega (arith, p .0), p .1)
 
   gen-expr-returns-5 : gen-expr-lts.Need-returns-5 gen-expr-claims (At gen-expr-member t) gen-expr.Post
-  unfolding exprInto binaryInto
+  unfolding exprInto
   gen-expr-returns-5 c vs h =
       let k = c .before .before in
       let v = k .before .before .before .before in
@@ -155,7 +155,7 @@ module _ (t : ℕ) where
       (omega (arith, p .0), p .1)
 
   gen-sides-returns : gen-sides-lts.Need-returns gen-sides-claims (At gen-sides-member t) gen-sides.Post
-  unfolding sidesAt sidesInto
+  unfolding sidesInto
   gen-sides-returns c vs h =
       let two = c .before .before in
       let b = two .before .before in

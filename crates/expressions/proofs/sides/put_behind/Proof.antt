@@ -18,13 +18,5 @@ returns-3 c = simp (c .before .before .enum-told3 .given .1) (c .plain .ensures)
 
 pub put-behind-spec : {M : Type 1} → statement M
 put-behind-spec =
-    tie.close
-    (tie.spec
-    (λ c. search needs)
-    (λ c. search needs)
-    (λ c κs. search needs)
-    (λ c. search needs)
-    (λ c κs. search needs)
-    returns
-    returns-2
-    returns-3)
+    tie.close (tie.spec (λ c. search needs) (λ c. search needs) (λ c κs. search needs) (λ c. search needs) (λ c κs. search needs)
+    returns returns-2 returns-3)

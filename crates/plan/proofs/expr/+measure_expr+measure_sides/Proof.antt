@@ -27,15 +27,15 @@ use Rattle.model.specs.declared.kinds.ExprKind.{ExprKind}
 use Rattle.numbers.specs.Items.{valueAt}
 use Rattle.numbers.specs.Kinds.{exprKind, byExpr}
 use Rattle.numbers.specs.declared.Value.{Value}
-use Rattle.plan.specs.Entries.{Entered, entered, nextOf, entry, putAt, exprEntered, sidesEntered}
+use Rattle.plan.specs.Entries.{Entered, entered, nextOf, entry, putAt, exprEntered, sidesEntered, innerEntered}
 
 -- an expression by what follows its kind where there is depth left
 turn : (d : ℕ) (s : List ℕ) (at : ℕ) (p : List ℕ) {v : Value} {k : ExprKind} {m : Entered} {r : List ℕ} → (d ≡ 0 → ⊥) → v ≡ valueAt s at
     → k ≡ exprKind (v .value)
     → (let leaf = entered (entry (nextOf s (v .next)) 1 0) p in
-    m ≡ byExpr k leaf leaf (exprEntered (d - 1) s (v .next) p) (sidesEntered (d - 1) s (v .next) p))
+    m ≡ byExpr k leaf leaf (exprEntered (d - 1) s (v .next) p) (sidesEntered (innerEntered (d - 1) s) s (v .next) p))
     → r ≡ putAt at (m .own) (m .plan) → entered (m .own) r ≡ exprEntered d s at p
-unfolding exprEntered sidesEntered
+unfolding exprEntered
 turn d s at p z e f g h = let i : d ≡ suc (d - 1) = omega (arith, z) in rw (i, h, g, f, e)
 
 abbrev measure-expr-member : Member measure-expr-kinds.ps

@@ -11,7 +11,4 @@ returns c = refl
 
 pub next-in-spec : {M : Type 1} → statement M
 next-in-spec =
-    tie.close
-    (tie.spec
-    (λ c. search needs)
-    returns)
+    tie.close (tie.spec (λ c. search needs) returns)

@@ -10,6 +10,4 @@ returns c = refl
 
 pub registers-in-spec : {M : Type 1} → statement M
 registers-in-spec =
-    tie.close
-    (tie.spec
-    returns)
+    tie.close (tie.spec returns)

@@ -25,15 +25,5 @@ returns c =
 
 pub sides-entry-spec : {M : Type 1} → statement M
 sides-entry-spec =
-    tie.close
-    (tie.spec
-    (λ c κs. search needs)
-    (λ c κs. search needs)
-    (λ c κs. search needs)
-    (λ c κs. search needs)
-    (λ c κs. search needs)
-    sides-hold-requires
-    (λ c κs. search needs)
-    (λ c κs. search needs)
-    (λ c κs. search needs)
-    returns)
+    tie.close (tie.spec (λ c κs. search needs) (λ c κs. search needs) (λ c κs. search needs) (λ c κs. search needs)
+    (λ c κs. search needs) sides-hold-requires (λ c κs. search needs) (λ c κs. search needs) (λ c κs. search needs) returns)

@@ -10,6 +10,4 @@ returns c = refl
 
 pub stored-in-spec : {M : Type 1} → statement M
 stored-in-spec =
-    tie.close
-    (tie.spec
-    returns)
+    tie.close (tie.spec returns)

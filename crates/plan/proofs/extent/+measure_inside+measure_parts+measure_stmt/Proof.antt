@@ -30,7 +30,7 @@ use Rattle.numbers.proofs.Cycles.{Member, At, Below}
 use borrow.Author.Needs.{needs}
 use native.Mathlib.Omega.{arith}
 use mathlib.Core.Path.{_≡_, refl, sym}
-use Rattle.plan.specs.Extents.{measured, partsMeasured, stmtMeasured, partsAt, insideMeasured}
+use Rattle.plan.specs.Extents.{measured, partsMeasured, stmtMeasured, insideMeasured, innerMeasured}
 
 abbrev measure-inside-member : Member measure-inside-kinds.ps
 measure-inside-member = record { measure = λ κs a. 3 * a .1 .1 .1 .1 .0 + 2; required = measure-inside.Pre }
@@ -43,7 +43,8 @@ measure-stmt-member = record { measure = λ κs a. 3 * a .1 .1 .1 .0; required =
 
 abbrev measure-parts-Inv-loop : measure-parts-lts.InvT-loop
 measure-parts-Inv-loop table plan₀ head beside count depth so-far₀ left₀ plan so-far left =
-    partsAt left₀ head beside depth table (measured so-far₀ plan₀) ≡ partsAt left head beside depth table (measured so-far plan)
+    partsMeasured left₀ head beside (innerMeasured depth table) depth table (measured so-far₀ plan₀)
+    ≡ partsMeasured left head beside (innerMeasured depth table) depth table (measured so-far plan)
 
 abbrev measure-parts-μ-loop : measure-parts-lts.MeasureT-loop
 measure-parts-μ-loop table plan₀ head beside count depth so-far₀ left₀ plan so-far left = left
@@ -111,14 +112,14 @@ module _ (t : ℕ) where
       rw (c .plus .ensures, ← k, d .declared .given .1, ← v .value-at .ensures, ← me .measure-stmt .ensures)
 
   measure-inside-returns-3 : measure-inside-lts.Need-returns-3 measure-inside-claims (At measure-inside-member t) measure-inside.Post
-  unfolding insideMeasured partsAt
+  unfolding insideMeasured
   measure-inside-returns-3 c =
       let ca = c .before .before in
       let co = ca .before .before in
       rw (c .measure-parts .ensures, ca .count-at .ensures, ← co .before .before .shape-of .ensures, co .count .given .1)
 
   measure-inside-returns-4 : measure-inside-lts.Need-returns-4 measure-inside-claims (At measure-inside-member t) measure-inside.Post
-  unfolding insideMeasured partsAt
+  unfolding insideMeasured
   measure-inside-returns-4 c =
       let lw = c .before .before in
       let ca = lw .before in
@@ -128,7 +129,7 @@ module _ (t : ℕ) where
 
   measure-parts-loop-again : measure-parts-lts.Need-loop-again measure-parts-claims (At measure-parts-member t) measure-parts.Post
       measure-parts-Inv-loop measure-parts-μ-loop
-  unfolding partsAt partsMeasured
+  unfolding partsMeasured
   measure-parts-loop-again c =
       let la = c .before in
       let me = la .before in
@@ -141,7 +142,7 @@ module _ (t : ℕ) where
 
   measure-parts-returns : measure-parts-lts.Need-returns measure-parts-claims (At measure-parts-member t) measure-parts.Post
       measure-parts-Inv-loop measure-parts-μ-loop
-  unfolding partsAt partsMeasured
+  unfolding partsMeasured
   measure-parts-returns c =
       let l = c .before .loop in
       let e : l .left ≡ 0 = omega (arith, c .loop-test .left) in
@@ -152,7 +153,7 @@ module _ (t : ℕ) where
   measure-stmt-returns c = rw (c .if1 .taken)
 
   measure-stmt-returns-2 : measure-stmt-lts.Need-returns-2 measure-stmt-claims (At measure-stmt-member t) measure-stmt.Post
-  unfolding stmtMeasured insideMeasured
+  unfolding stmtMeasured
   measure-stmt-returns-2 c =
       let ee = c .before in
       let mi = ee .before .before in

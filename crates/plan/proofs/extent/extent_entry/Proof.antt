@@ -10,9 +10,4 @@ returns c = search needs
 
 pub extent-entry-spec : {M : Type 1} → statement M
 extent-entry-spec =
-    tie.close
-    (tie.spec
-    (λ c. search needs)
-    (λ c. search needs)
-    (λ c. search needs)
-    returns)
+    tie.close (tie.spec (λ c. search needs) (λ c. search needs) (λ c. search needs) returns)

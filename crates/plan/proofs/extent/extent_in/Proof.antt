@@ -10,8 +10,4 @@ returns c = rw (← c .entry-at .ensures)
 
 pub extent-in-spec : {M : Type 1} → statement M
 extent-in-spec =
-    tie.close
-    (tie.spec
-    (λ c κs. search needs)
-    (λ c. search needs)
-    returns)
+    tie.close (tie.spec (λ c κs. search needs) (λ c. search needs) returns)

@@ -18,13 +18,5 @@ returns-3 c = rw (c .measure-guard .ensures, c .before .before .enum-told3 .give
 
 pub measure-head-spec : {M : Type 1} → statement M
 measure-head-spec =
-    tie.close
-    (tie.spec
-    (λ c. search needs)
-    (λ c. search needs)
-    (λ c κs. search needs)
-    (λ c. search needs)
-    (λ c κs. search needs)
-    returns
-    returns-2
-    returns-3)
+    tie.close (tie.spec (λ c. search needs) (λ c. search needs) (λ c κs. search needs) (λ c. search needs) (λ c κs. search needs)
+    returns returns-2 returns-3)

@@ -1,6 +1,5 @@
 -- `report::opening::begin` meets its contract. Assumes nothing.
 use borrow.Author.Needs.{needs}
-use native.Mathlib.Omega.{arith}
 use mathlib.Core.Path.{sym, ap}
 use mathlib.Core.List.{_++_}
 use lib.ListN.{drop}

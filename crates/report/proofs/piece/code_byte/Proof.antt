@@ -1,6 +1,5 @@
 -- `report::piece::code_byte` meets its contract. Assumes nothing.
 use borrow.Author.Needs.{needs}
-use mathlib.Core.Path.{ap}
 use Rattle.report.proofs.piece.code_byte.Statement.{statement}
 use Rattle.report.proofs.piece.code_byte.Tie as tie
 

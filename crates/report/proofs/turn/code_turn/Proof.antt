@@ -1,6 +1,5 @@
 -- `report::turn::code_turn` meets its contract. Assumes nothing.
 use borrow.Author.Needs.{needs}
-use native.Mathlib.Omega.{arith}
 use mathlib.Core.Path.{_∙_, ap}
 use mathlib.Core.List.{_++_, _∷_, []}
 use Rattle.model.specs.Bench.{hex}

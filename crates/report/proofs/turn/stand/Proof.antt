@@ -1,6 +1,5 @@
 -- `report::turn::stand` meets its contract. Assumes nothing.
 use borrow.Author.Needs.{needs}
-use native.Mathlib.Omega.{arith}
 use mathlib.Core.Path.{refl}
 use Rattle.model.specs.Bench.{ascii}
 use Rattle.report.proofs.turn.stand.Statement.{statement}

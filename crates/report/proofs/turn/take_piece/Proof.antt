@@ -1,6 +1,5 @@
 -- `report::turn::take_piece` meets its contract. Assumes nothing.
 use borrow.Author.Needs.{needs}
-use mathlib.Core.Path.{_∙_}
 use Rattle.report.proofs.turn.take_piece.Statement.{statement}
 use Rattle.report.proofs.turn.take_piece.Tie as tie
 

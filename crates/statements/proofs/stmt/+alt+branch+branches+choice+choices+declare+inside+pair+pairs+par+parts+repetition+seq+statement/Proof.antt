@@ -64,7 +64,7 @@ use Rattle.statements.proofs.alt.gen_guard.Reads as gen-guard-reads
 use Rattle.statements.proofs.alt.put_disable.Reads as put-disable-reads
 use Rattle.statements.proofs.stmt.close.Reads as close-reads
 use Rattle.statements.proofs.stmt.lowered.Reads as lowered-reads
-use Rattle.statements.proofs.stmt.put_header.Reads as put-header-reads
+use Rattle.statements.proofs.stmt.put_fork.Reads as put-fork-reads
 use Rattle.statements.proofs.stmt.put_initial.Reads as put-initial-reads
 use Rattle.statements.proofs.stmt.put_input.Reads as put-input-reads
 use Rattle.statements.proofs.stmt.put_start.Reads as put-start-reads
@@ -78,11 +78,11 @@ use Rattle.numbers.proofs.Cycles.{Member, At, Below}
 use borrow.Author.Needs.{needs}
 use mathlib.Core.Path.{_≡_, refl, sym, ap, _∙_}
 use Rattle.model.specs.Limits.{nameLimit}
-use Rattle.expressions.specs.Emits.{Code, at as standing, plainInto, distanceInto, operationInto}
+use Rattle.expressions.specs.Emits.{Code, at as standing, plainInto, distanceInto}
 use Rattle.expressions.specs.Names.{Names, Scoped}
 use Rattle.expressions.specs.declared.words.Scope.{Scope}
 use Rattle.model.specs.Word.{low, minus}
-use Rattle.instruction.specs.Codes.{AJW, LDC, LDPI}
+use Rattle.instruction.specs.Codes.{AJW, LDC}
 use Rattle.model.specs.declared.kinds.StmtKind.{StmtKind}
 use Rattle.numbers.specs.Kinds.{shapeOf, countIn}
 use Rattle.numbers.specs.declared.kinds.Count.{Count}
@@ -90,8 +90,8 @@ use Rattle.numbers.specs.declared.kinds.Shape.the-variants.{Branches}
 use Rattle.plan.specs.Extents.{extentIn}
 use Rattle.plan.specs.declared.extent.Extent.{Extent}
 use Rattle.expressions.specs.Exprs.{Wrote, written, codeOf}
-use Rattle.statements.specs.Stmts.{Open, noEnds, headerInto, declarationInto, seqInto, pairInto, pairsInto, ifInto, whileInto}
-use Rattle.statements.specs.Stmts.{branchInto, branchesInto, parInto}
+use Rattle.statements.specs.Stmts.{Open, noEnds, declarationInto, seqInto, pairInto, pairsInto, ifInto, whileInto}
+use Rattle.statements.specs.Stmts.{branchInto, branchesInto, Forked, forkInto, parInto}
 use Rattle.statements.specs.Alts.{choiceInto, choicesInto, guardsInto, altInto}
 use Rattle.statements.specs.Kinds.{stmtInto, innerAt, partsInto, insideInto}
 use Rattle.statements.proofs.Scoping.{within, within-names, count-most, parts-few, shape-few, relabel, shows-under, stmt-under}
@@ -147,16 +147,14 @@ abbrev choicesLeft : (d w : ℕ) → Names → (plan s : List ℕ) → (left k c
 choicesLeft d w ns plan s n k choice e i dis c = choicesInto n k d (innerAt d plan s) w ns plan s choice e i dis c
 
 -- a PAR by its parts: a law of its own, since rewriting all of them at once where they stand takes too long
-par-more : (d w : ℕ) (ns : Names) (plan s : List ℕ) (n i : ℕ) (c : Code) {m u t g : ℕ} {a p h l z : Code} {e : Extent} {b r : Wrote}
-    → (n ≡ 0 → ⊥) → m ≡ minus 2 → a ≡ plainInto AJW m c → u ≡ low (a .here + 1) → p ≡ operationInto LDPI (standing u (a .list))
-    → h ≡ headerInto n p → t ≡ low (3 * (n - 1)) → g ≡ low (h .here + t) → e ≡ extentIn plan i
-    → b ≡ branchInto 0 (innerAt d plan s) (w - 2) ns i (standing g (h .list))
-    → r ≡ branchesInto (n - 1) (innerAt d plan s) (w - 2) ns plan (b .next) (e .need) (h .here) (codeOf b)
-    → l ≡ distanceInto LDC (r .here) u (standing (a .here) (r .list)) → z ≡ plainInto AJW 2 (standing (r .here) (l .list))
-    → written (r .next) z ≡ parInto n (innerAt d plan s) w ns plan i c
+par-more : (d w : ℕ) (ns : Names) (plan s : List ℕ) (n i : ℕ) (c : Code) {t g : ℕ} {f : Forked} {l z : Code} {e : Extent} {b r : Wrote}
+    → (n ≡ 0 → ⊥) → f ≡ forkInto n c → t ≡ low (3 * (n - 1)) → g ≡ low (f .fork .starts + t) → e ≡ extentIn plan i
+    → b ≡ branchInto 0 (innerAt d plan s) (w - 2) ns i (standing g (f .list))
+    → r ≡ branchesInto (n - 1) (innerAt d plan s) (w - 2) ns plan (b .next) (e .need) (f .fork .starts) (codeOf b)
+    → l ≡ distanceInto LDC (r .here) (f .fork .user) (standing (f .fork .gap) (r .list))
+    → z ≡ plainInto AJW 2 (standing (r .here) (l .list)) → written (r .next) z ≡ parInto n (innerAt d plan s) w ns plan i c
 unfolding parInto
-par-more d w ns plan s n i c q pm pa pu pp ph pt pg pe pb pr pl pz =
-    rw (pz, pl, pr, pb, pe, pg, pt, ph, pp, pu, pa, pm, ne-eqb n 0 q)
+par-more d w ns plan s n i c q pf pt pg pe pb pr pl pz = rw (pz, pl, pr, pb, pe, pg, pt, pf, ne-eqb n 0 q)
 
 inside-par : (d w : ℕ) (ns : Names) (plan s : List ℕ) (k : StmtKind) (i : ℕ) (c : Code) {m : Count} → shapeOf k ≡ Branches m
     → (let n = countIn m s i in parInto (n .value) (innerAt d plan s) w ns plan (n .next) c)
@@ -339,18 +337,12 @@ module _ (t : ℕ) where
 
   abbrev par-claims : par-lts.Claims
   par-claims = (
-    minus-reads.Asked,
-    minus-reads.Learnt,
-    plain-reads.Asked,
-    plain-reads.Learnt,
-    plus-reads.Asked,
-    plus-reads.Learnt,
-    operation-reads.Asked,
-    operation-reads.Learnt,
-    put-header-reads.Asked,
-    put-header-reads.Learnt,
+    put-fork-reads.Asked,
+    put-fork-reads.Learnt,
     product-reads.Asked,
     product-reads.Learnt,
+    plus-reads.Asked,
+    plus-reads.Learnt,
     lowered-reads.Asked,
     lowered-reads.Learnt,
     extent-in-reads.Asked,
@@ -361,6 +353,8 @@ module _ (t : ℕ) where
     branches.Post,
     distance-reads.Asked,
     distance-reads.Learnt,
+    plain-reads.Asked,
+    plain-reads.Learnt,
   )
 
   abbrev parts-claims : parts-lts.Claims
@@ -552,7 +546,7 @@ module _ (t : ℕ) where
       let e = en .enter .ensures in
       let a = ar .args in
       let r = within-names (a .declared) _ (a .scope .w - ca .count-at .result .value) (a .scope .depth) (a .scope) _ few
-      (λ ms k. e .1 ms k few) (rw (e .0) at (st .statement .ensures)) ns h in (
+      (e .1) (rw (e .0) at (st .statement .ensures)) ns h in (
         rw (
           ← ca .count-at .ensures,
           ← mi .minus .ensures,
@@ -661,13 +655,13 @@ module _ (t : ℕ) where
   par-branch-requires : par-lts.Need-branch-requires par-claims (At par-member t) par.Post
   par-branch-requires c κs =
       let lo = c .before .before .before in
-      let p = lo .before .before .before .before .before .before .before .before .before .before .before .before .before in
+      let p = lo .before .before .before .before .before .before .before in
       let d = ap (λ (x : Scope). x .depth) (lo .lowered .ensures) in omega (arith, p .pre .0)
 
   par-branches-requires : par-lts.Need-branches-requires par-claims (At par-member t) par.Post
   par-branches-requires c κs =
       let lo = c .before .before .before .before .before .before in
-      let p = lo .before .before .before .before .before .before .before .before .before .before .before .before .before in
+      let p = lo .before .before .before .before .before .before .before in
       let d = ap (λ (x : Scope). x .depth) (lo .lowered .ensures) in omega (arith, p .pre .0)
 
   par-returns-2 : par-lts.Need-returns-2 par-claims (At par-member t) par.Post
@@ -679,18 +673,12 @@ module _ (t : ℕ) where
       let lo = ei .before in
       let p = lo .before in
       let pr = p .before in
-      let ph = pr .before in
-      let op = ph .before .before in
-      let pl = op .before .before in
-      let pla = pl .before in
-      let mi = pla .before in
-      let if = mi .before .before in
+      let pf = pr .before in
       let s = lo .lowered .ensures in
       let b = branch-under _ _ _ _ _ _ _ s _ (bra .branch .ensures) ns h in
       let r = branches-under _ _ _ _ _ _ _ s _ _ _ (br .branches .ensures) ns (b .1) in (
-        par-more _ _ ns _ _ _ _ _ (if .if1 .left) (mi .minus .ensures) (pla .plain .ensures) (pl .plus .ensures) (op .operation .ensures)
-            (ph .put-header .ensures) (pr .product .ensures) (p .plus2 .ensures) (ei .extent-in .ensures) (b .0) (r .0)
-            (d .distance .ensures) (c .plain2 .ensures),
+        par-more _ _ ns _ _ _ _ _ (pf .before .before .if1 .left) (pf .put-fork .ensures) (pr .product .ensures) (p .plus .ensures)
+            (ei .extent-in .ensures) (b .0) (r .0) (d .distance .ensures) (c .plain .ensures),
         r .1,
       )
 
@@ -813,10 +801,9 @@ pub +alt+branch+branches+choice+choices+declare+inside+pair+pairs+par+parts+repe
     (λ t. pairs-lts.spec (pairs-claims t) (At pairs-member t) pairs.Post pairs-Inv-loop pairs-μ-loop (pairs-loop-holds t)
     (λ c κs. search needs) (λ c. search needs) (λ c. search needs) (λ c. search needs) (λ c κs. search needs) (λ c. search needs)
     (λ c. search needs) (pairs-loop-again t) (λ c κs. search needs) (λ c κs. search needs) (pairs-returns t))
-    (λ t. par-lts.spec (par-claims t) (At par-member t) par.Post (par-returns t) (λ c κs. search needs) (λ c κs. search needs)
-    (λ c κs. search needs) (λ c κs. search needs) (λ c κs. search needs) (λ c. search needs) (λ c κs. search needs)
-    (λ c κs. search needs) (λ c κs. search needs) (λ c κs. search needs) (par-branch-requires t) (λ c. search needs)
-    (par-branches-requires t) (λ c κs. search needs) (λ c κs. search needs) (par-returns-2 t))
+    (λ t. par-lts.spec (par-claims t) (At par-member t) par.Post (par-returns t) (λ c κs. search needs) (λ c. search needs)
+    (λ c κs. search needs) (λ c κs. search needs) (λ c κs. search needs) (λ c κs. search needs) (par-branch-requires t)
+    (λ c. search needs) (par-branches-requires t) (λ c κs. search needs) (λ c κs. search needs) (par-returns-2 t))
     (λ t. parts-lts.spec (parts-claims t) (At parts-member t) parts.Post (λ c κs. search needs) (λ c. search needs)
     (λ c κs. search needs) (λ c. search needs) (λ c. search needs) (parts-pairs-requires t) (λ c. search needs)
     (λ c κs. search needs) (λ c. search needs) (parts-alt-requires t) (parts-returns t) (parts-returns-2 t) (parts-returns-3 t)
