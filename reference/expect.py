@@ -1,13 +1,13 @@
 #!/usr/bin/env python3
 """What the test programs and the bench program should print.
 
-    expect.py table_test|program_test|report_test|call_test < crates/NAME/stdin > crates/NAME/stdout
+    expect.py table_test|program_test|report_test|call_test|run_test < crates/NAME/stdin > crates/NAME/stdout
     expect.py bench < TABLE
 """
 import re
 import sys
 
-from occam import REGISTERS, Compiled, Machine, Refused, Short, read, signed, start
+from occam import REGISTERS, TIMER, WORD, Backwards, Compiled, Fault, Machine, Refused, Short, read, signed, start
 
 
 def lines(text, digits):
@@ -29,7 +29,7 @@ def bench(table):
     machine, _, _ = start(program.code, memory, program.base, program.inputs, program.outputs, 32)
     total = 0
     while True:
-        kind, done = machine.run(program.code, memory, 65536 - total)
+        kind, done = machine.run(program.code, memory, 65536 - total, 0)
         total += done
         taken = [(k, machine.take(memory, k)) for k in range(program.outputs)] if kind == "waiting" else []
         taken = [(k, v) for k, v in taken if v != "none"]
@@ -64,7 +64,7 @@ def program_line(table):
         return "refused %d at %d" % (r.number, r.place)
     memory = [7] * 4100
     machine, _, _ = start(p.code, memory, p.base, p.inputs, p.outputs, 32)
-    kind, count = machine.run(p.code, memory, 65536)
+    kind, count = machine.run(p.code, memory, 65536, 0)
     return "bytes %d words %d %s %d sum %08x" % (len(p.code), p.words, kind, count, total(memory))
 
 
@@ -112,8 +112,8 @@ class Calls:
         return self.start(program.code, program.base, program.inputs, program.outputs, q)
 
     def run(self):
-        budget = self.number()
-        kind, count = self.lent(lambda memory: self.machine.run(self.code[:self.bytes], memory, budget))
+        budget, clock = self.number(), self.number() % WORD
+        kind, count = self.lent(lambda memory: self.machine.run(self.code[:self.bytes], memory, budget, clock))
         return "%s %x%s" % (kind, count, " " + self.fault() if kind == "fault" else "")
 
     def offer(self):
@@ -144,14 +144,54 @@ class Calls:
                 self.answers.append(calls[kind]())
             except Short as short:
                 self.answers.append("11 %x" % short.size)
+            except Backwards:
+                self.answers.append("16")
 
     def line(self):
         while self.next < len(self.numbers):
             self.call()
         m = self.machine
-        registers = " ".join("%x" % getattr(m, name) for name in REGISTERS)
+        registers, timer = [" ".join("%x" % getattr(m, name) for name in names) for names in (REGISTERS, TIMER)]
         held = "".join(" %x=%x" % (k, m.held[k]) for k in range(8) if m.held.get(k) is not None)
-        return "%s / %s /%s / %s / %x" % (", ".join(self.answers), registers, held, self.fault() if m.fault else "none", total(self.memory))
+        fault = self.fault() if m.fault else "none"
+        return "%s / %s / %s /%s / %s / %x" % (", ".join(self.answers), registers, timer, held, fault, total(self.memory))
+
+
+def built(n):
+    """A machine that a caller built; crates/run_test/src/main.rt tells the format."""
+    m = Machine()
+    for name, value in zip(REGISTERS, n):
+        setattr(m, name, value)
+    m.running, m.queued = int(m.running != 0), int(m.queued != 0)
+    m.length, m.base, m.inputs, m.outputs, m.slice = n[11:16]
+    m.clock, m.given, m.timer = n[16], int(n[17] != 0), n[18]
+    m.held = {k: n[19 + k] for k in range(8) if n[27 + k]}
+    kinds = {1: "function", 2: "operation", 3: "count", 4: "word", 5: "place"}
+    m.fault = Fault(kinds[n[35]], n[36]) if n[35] in kinds else None
+    return m
+
+
+def run_line(n):
+    m, budget, clock, words, size = built(n), n[37], n[38] % (1 << 32), n[39], n[40]
+    code, named = n[41:41 + size], n[41 + size:]
+    memory = [0x7700 + i for i in range(words)]
+    for address, value in zip(named[::2], named[1::2]):
+        if address < words:
+            memory[address] = value
+    before = list(memory)
+    try:
+        kind, count = m.run(code, memory, budget, clock)
+        answer = "%s %x" % (kind, count) + (" %s %x" % (m.fault.kind, m.fault.number) if kind == "fault" else "")
+    except Short as short:
+        answer = "11 %x" % short.size
+    except Backwards:
+        answer = "16"
+    setup = [m.length, m.base, m.inputs, m.outputs, m.slice]
+    parts = [[getattr(m, name) for name in REGISTERS], setup, [getattr(m, name) for name in TIMER]]
+    held = "".join(" %x=%x" % (k, m.held[k]) for k in range(8) if m.held.get(k) is not None)
+    fault = "%s %x" % (m.fault.kind, m.fault.number) if m.fault else "none"
+    changes = "".join(" %x=%x" % (i, v) for i, v in enumerate(memory) if v != before[i])
+    return "%s / %s /%s / %s /%s" % (answer, " / ".join(" ".join("%x" % v for v in part) for part in parts), held, fault, changes)
 
 
 def main(name):
@@ -170,7 +210,7 @@ def main(name):
     else:
         for numbers, _ in lines(text, 16):
             if numbers:
-                print(Calls(numbers).line())
+                print(Calls(numbers).line() if name == "call_test" else run_line(numbers))
 
 
 if __name__ == "__main__":

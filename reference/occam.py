@@ -2,19 +2,29 @@
 common with the Rattle side, and gives the test programs' expected output (expect.py); docs/DECISIONS.md, 65, says how far that goes. Names
 in brackets are places in the documents."""
 
+# The largest kind of a statement and of a guard that the reader takes. Order 4 of document 02 brings 13 and 2.
+LAST_STATEMENT, LAST_GUARD = 11, 1
+
 WORD = 1 << 32
 NOT_PROCESS = 0x80000000
 ENABLING, WAITING, READY = 0x80000001, 0x80000002, 0x80000003
+TIME_SET, TIME_NOT_SET = 0x80000001, 0x80000002
 NONE_SELECTED = WORD - 1
 
 J, LDLP, PFIX, LDC, NFIX, LDL, CJ, AJW, EQC, STL, OPR = 0, 1, 2, 4, 6, 7, 10, 11, 12, 13, 15
 REV, ENDP, DIFF, IN, PROD, GT, STARTP, OUTWORD, STOPP, LDPI = 0x00, 0x03, 0x04, 0x07, 0x08, 0x09, 0x0D, 0x0F, 0x15, 0x1B
 DISC, DISS, XOR, MINT, ALT, ALTWT, ALTEND, AND, ENBC, ENBS, OR, SUM = (
     0x2F, 0x30, 0x33, 0x42, 0x43, 0x44, 0x45, 0x46, 0x48, 0x49, 0x4B, 0x52)
+LDTIMER, TIN, DIST, ENBT, TALT, TALTWT = 0x22, 0x2B, 0x2E, 0x47, 0x4E, 0x51  # [02, order 4]
 
 
 def signed(v):
     return v - WORD if v >> 31 else v
+
+
+def after(x, y):
+    """[02, order 4] One time is after another."""
+    return signed((x - y) % WORD) > 0
 
 
 class Refused(Exception):
@@ -87,15 +97,19 @@ class Reader:
         return "binary", operator, left, self.expression(depth + 1, vs)
 
     def guard(self, depth, vs, cs):
-        if self.ranged(0, 1) == 1:
-            return "skip", self.expression(depth, vs), self.statement(depth, vs, cs)
+        kind = self.ranged(0, LAST_GUARD)
         condition = self.expression(depth, vs)
+        if kind == 1:
+            return "skip", condition, self.statement(depth, vs, cs)
+        if kind == 2:  # [02, order 4] time and condition as the sides of an operator that is not there
+            sides = "sides", None, self.expression(depth, vs), condition
+            return "time", sides, self.statement(depth, vs, cs)
         channel = self.name(cs, "out")
         variable = self.name(vs)
         return "input", condition, channel, variable, self.statement(depth, vs, cs)
 
     def statement(self, depth, vs, cs):
-        kind, place = self.part(depth, 11)
+        kind, place = self.part(depth, LAST_STATEMENT)
         inner = depth + 1
         if kind == 0:
             return ("SKIP",)
@@ -121,7 +135,11 @@ class Reader:
         if kind == 10:
             condition = self.expression(inner, vs)
             return "WHILE", condition, self.statement(inner, vs, cs)
-        return "ALT", [self.guard(inner, vs, cs) for _ in range(self.ranged(0, 32))]
+        if kind == 11:
+            return "ALT", [self.guard(inner, vs, cs) for _ in range(self.ranged(0, 32))]
+        if kind == 12:
+            return "TIME", self.name(vs)
+        return "delay", self.expression(inner, vs)
 
     def program(self):
         inputs = self.ranged(0, 8)
@@ -152,7 +170,7 @@ def wholes(s):
         return [s[2]]
     if s[0] == "IF":
         return [condition for condition, _ in s[1]]
-    if s[0] == "WHILE":
+    if s[0] in ("WHILE", "delay"):
         return [s[1]]
     if s[0] == "ALT":
         return [g[1] for g in s[1]]
@@ -180,7 +198,7 @@ def usage(s):
     for p in inside(s):
         for e in wholes(p):
             uses.update(variables(e))
-        if p[0] == "assign":
+        if p[0] in ("assign", "TIME"):
             changes.add(p[1])
         if p[0] == "output":
             outputs.add(p[1])
@@ -225,6 +243,11 @@ def processes(s):
     return max(1, sum(inner) if s[0] == "PAR" else max(inner, default=1))
 
 
+def timed(guards):
+    """[02, order 4] An ALT with a time guard."""
+    return any(g[0] == "time" for g in guards)
+
+
 def need(s):
     """[Workspace and code] Words a statement needs."""
     inner = [need(p) for p in parts(s)]
@@ -232,7 +255,9 @@ def need(s):
         return len(s[1]) + inner[0]
     if s[0] == "PAR":
         return 2 + sum(inner)
-    least = {"input": 3, "output": 4, "ALT": 4}.get(s[0], 2)
+    least = {"input": 3, "output": 4, "ALT": 4, "delay": 5}.get(s[0], 2)
+    if s[0] == "ALT" and timed(s[1]):  # [02, order 4]
+        least = 6
     held = max([stored(e) for e in wholes(s)], default=0)
     if held:  # [02, order 2]
         least = max(least, held + {"output": 3, "ALT": 8}.get(s[0], 2))
@@ -289,6 +314,8 @@ class Generator:
             self.put(EQC, 0)
         else:
             self.sides(e[2], e[3], w, held)
+            if e[0] == "sides":
+                return
             self.op((SUM, DIFF, PROD, GT, DIFF, AND, OR, XOR)[e[1]])
             if e[1] == 4:
                 self.put(EQC, 0)
@@ -389,22 +416,21 @@ class Generator:
         end, choice = Label(), Label()
         branches = [Label() for _ in guards]
         self.put(AJW, -1)
-        self.op(ALT)
+        self.op(TALT if timed(guards) else ALT)
         for g in guards:
             self.whole(g[1], w - 1, 5)
             if g[0] == "input":
                 self.put(LDLP, g[2].word - (w - 1))
-                self.op(REV, ENBC)
-            else:
-                self.op(ENBS)
-        self.op(ALTWT)
+                self.op(REV)
+            self.op({"input": ENBC, "skip": ENBS, "time": ENBT}[g[0]])
+        self.op(TALTWT if timed(guards) else ALTWT)
         for g, branch in zip(guards, branches):
             self.whole(g[1], w - 1, 5)
             if g[0] == "input":
                 self.put(LDLP, g[2].word - (w - 1))
                 self.op(REV)
             self.distance(LDC, branch, choice)
-            self.op(DISC if g[0] == "input" else DISS)
+            self.op({"input": DISC, "skip": DISS, "time": DIST}[g[0]])
         self.op(ALTEND)
         self.mark(choice)
         for g, branch in zip(guards, branches):
@@ -448,6 +474,12 @@ class Generator:
             self.loop(s, w)
         elif kind == "ALT":
             self.alternative(s[1], w)
+        elif kind == "TIME":
+            self.op(LDTIMER)
+            self.put(STL, s[1].word - w)
+        elif kind == "delay":
+            self.whole(s[1], w)
+            self.op(TIN)
 
     def code(self):
         place = 0
@@ -519,7 +551,12 @@ class Short(Exception):
         self.size = size
 
 
+class Backwards(Exception):
+    """[02, order 4] Refusal 16: the last clock given is after this one."""
+
+
 REGISTERS = "front back operand a b c workspace count place running queued".split()
+TIMER = "clock given timer".split()  # [02, order 4] the last clock given, whether one was, and the front of the timer queue
 FUNCTIONS = (J, LDLP, PFIX, LDC, NFIX, LDL, CJ, AJW, EQC, STL, OPR)
 
 
@@ -527,20 +564,24 @@ class Machine:
     def __init__(self):
         for name in REGISTERS:
             setattr(self, name, 0)
+        self.clock, self.given, self.timer = 0, 0, NOT_PROCESS
         self.length = self.base = self.inputs = self.outputs = self.slice = 0
         self.held, self.fault = {}, None
         self.memory, self.writes = [], {}
 
+    def words(self):
+        return self.base + self.inputs + self.outputs
+
     # words, each tested when it is touched; writes count once nothing has failed
     def load(self, at):
         at %= WORD
-        if at >= self.base + self.inputs + self.outputs:
+        if at >= self.words():
             raise Fault("word", at)
         return self.writes[at] if at in self.writes else self.memory[at]
 
     def store(self, at, value):
         at %= WORD
-        if at >= self.base + self.inputs + self.outputs:
+        if at >= self.words():
             raise Fault("word", at)
         self.writes[at] = value
 
@@ -672,6 +713,110 @@ class Machine:
         self.a = self.select() if self.b else 0
         self.b = self.c
 
+    # [02, order 4] The timer queue goes from its front by the words W-4; W-5 is a time. A walk along it keeps whom it came to.
+    def come(self, p, seen):
+        """The walk comes to a process. Where it was there before, the queue comes back on itself: a fault, its front's."""
+        if p in seen:
+            raise Fault("word", seen[0])
+        seen.append(p)
+
+    def link(self, before, p):
+        """The link of one process, or the front where there is none before."""
+        if before is None:
+            self.timer = p
+        else:
+            self.store(before - 4, p)
+
+    def sleep(self, time):
+        """Into the timer queue, behind all whose time is not after this one; the processor is free."""
+        before, p, seen = None, self.timer, []
+        while p != NOT_PROCESS:
+            self.come(p, seen)
+            if after(self.load(p - 5), time):
+                break
+            before, p = p, self.load(p - 4)
+        self.store(self.workspace - 4, p)
+        self.link(before, self.workspace)
+        self.free()
+
+    def leave(self, link):
+        """Out of the timer queue; one that is not in it only gets its word."""
+        before, p, seen = None, self.timer, []
+        while p not in (self.workspace, NOT_PROCESS):
+            self.come(p, seen)
+            before, p = p, self.load(p - 4)
+        if p == self.workspace:
+            self.link(before, link)
+        self.store(self.workspace - 4, TIME_NOT_SET)
+
+    def wake(self):
+        """Those whose time has come leave the timer queue and join the other one, but for ALTs that are there already."""
+        p, seen = self.timer, []
+        while p != NOT_PROCESS:
+            self.come(p, seen)
+            if not after(self.clock, self.load(p - 5)):
+                break
+            if self.words() > 4096:  # no start makes such a machine: the fault of a queue that comes back on itself
+                raise Fault("word", p)
+            link = self.load(p - 4)
+            self.store(p - 4, TIME_SET)
+            self.store(p - 5, self.clock)
+            if self.load(p - 3) == WAITING:
+                self.store(p - 3, READY)
+                self.join(p)
+            p = link
+        self.timer = p
+
+    def tin(self):
+        if not after(self.clock, self.a):
+            self.store(self.workspace - 1, self.place)
+            self.store(self.workspace - 3, WAITING)
+            self.store(self.workspace - 5, self.a)
+            self.sleep(self.a)
+
+    def talt(self):
+        self.store(self.workspace - 3, ENABLING)
+        self.store(self.workspace - 4, TIME_NOT_SET)
+
+    def enbt(self):
+        w = self.workspace
+        if self.a:
+            if self.load(w - 4) == TIME_NOT_SET:
+                self.store(w - 4, TIME_SET)
+                self.store(w - 5, self.b)
+            elif after(self.load(w - 5), self.b):
+                self.store(w - 5, self.b)
+        self.b = self.c
+
+    def taltwt(self):
+        w = self.workspace
+        self.store(w, NONE_SELECTED)
+        if self.load(w - 3) == READY:
+            self.store(w - 5, self.clock)
+            return
+        time = self.load(w - 5) if self.load(w - 4) == TIME_SET else None
+        if time is not None and after(self.clock, time):
+            self.store(w - 3, READY)
+            self.store(w - 5, self.clock)
+            return
+        self.store(w - 3, WAITING)
+        self.store(w - 1, self.place)
+        if time is None:
+            self.free()
+        else:
+            self.sleep(time)
+
+    def dist(self):
+        chosen = 0
+        if self.b:
+            link = self.load(self.workspace - 4)
+            if link == TIME_SET:
+                if after(self.load(self.workspace - 5), self.c):
+                    chosen = self.select()
+            elif link != TIME_NOT_SET:
+                self.leave(link)
+        self.a = chosen
+
     def operation(self, code):
         a, b = self.a, self.b
         if code == REV:
@@ -684,6 +829,8 @@ class Machine:
             self.binary(b & a if code == AND else b | a if code == OR else b ^ a)
         elif code == MINT:
             self.push(NOT_PROCESS)
+        elif code == LDTIMER:
+            self.push(self.clock)
         elif code == LDPI:
             self.a = (self.place + a) % WORD
         elif code == STARTP:
@@ -701,7 +848,7 @@ class Machine:
             self.place = (self.place + self.load(self.workspace)) % WORD
         else:
             others = {ENDP: self.endp, IN: self.input, OUTWORD: self.outword, ENBC: self.enbc, ALTWT: self.altwt, DISC: self.disc,
-                      DISS: self.diss}
+                      DISS: self.diss, TIN: self.tin, TALT: self.talt, ENBT: self.enbt, TALTWT: self.taltwt, DIST: self.dist}
             if code not in others:
                 raise Fault("operation", code)
             others[code]()
@@ -765,12 +912,12 @@ class Machine:
 
     def attempt(self, act):
         """Does something, or, where it would fault, leaves all as before and keeps the fault."""
-        before = [getattr(self, name) for name in REGISTERS], dict(self.held)
+        before = [getattr(self, name) for name in REGISTERS + TIMER], dict(self.held)
         self.writes = {}
         try:
             answer = act()
         except Fault as fault:
-            for name, value in zip(REGISTERS, before[0]):
+            for name, value in zip(REGISTERS + TIMER, before[0]):
                 setattr(self, name, value)
             self.held, self.fault = before[1], fault
             return None
@@ -782,14 +929,30 @@ class Machine:
     def lent(self, memory, code=None):
         if code is not None and len(code) < self.length:
             raise Short(self.length)
-        words = self.base + self.inputs + self.outputs
-        if len(memory) < words:
-            raise Short(words)
+        if len(memory) < self.words():
+            raise Short(self.words())
         self.memory = memory
 
-    def run(self, code, memory, budget):
+    def begin(self, clock):
+        """[02, order 4] A run's beginning: the clock, waking, and a free processor takes the front of the queue."""
+        self.clock, self.given = clock, 1
+        self.wake()
+        if not self.running:
+            self.free()
+            if self.running:
+                self.test_place(self.place)
+
+    def next_byte(self, code):
+        self.test_place(self.place)  # of machines that no start makes; all others are where a place was tested
+        self.byte(code[self.place])
+
+    def run(self, code, memory, budget, clock):
         """How it stood, and the instructions."""
+        if self.given and after(self.clock, clock):
+            raise Backwards()
         self.lent(memory, code)
+        if not self.fault:
+            self.attempt(lambda: self.begin(clock))
         if self.fault:
             return "fault", 0
         done = 0
@@ -800,7 +963,7 @@ class Machine:
                 return "waiting", done
             if done == budget:
                 return "spent", done
-            self.attempt(lambda: self.byte(code[self.place]))
+            self.attempt(lambda: self.next_byte(code))
             if self.fault:
                 return "fault", done
             done += 1

@@ -8,9 +8,9 @@ use lib.ListN.{getD, set}
 use lib.Dec.{ltb, eqb}
 use Rattle.model.specs.Word.{notProcess}
 use Rattle.model.specs.Machine.{World, Act, Result, done, faults, next, _>>=_, _>>_, return, withCpu, withMemory, registers, nameOf}
-use Rattle.model.specs.Machine.{memorySize, stack, peek, poke, stateWord, release}
-use Rattle.model.specs.Execute.{changing, setReady, ready, select, noneSelected, waitAlt}
-use Rattle.model.specs.Run.{land}
+use Rattle.model.specs.Machine.{memorySize, stack, peek, poke, stateWord, release, changing}
+use Rattle.model.specs.Alternative.{setReady, ready, select, noneSelected, waitAlt}
+use Rattle.model.specs.Run.{land, noTimer}
 use Rattle.model.specs.declared.Cpu.{Cpu}
 use Rattle.model.specs.declared.Setup.{Setup}
 use Rattle.model.specs.declared.Kept.the-variants.{Nothing}
@@ -195,7 +195,7 @@ poke-later c b s = later c notProcess (select b s)
 
 -- a rest of the world
 nothing : Rest
-nothing = record { offers = []; held = []; fault = Nothing; talk = [] }
+nothing = record { timer = noTimer; offers = []; held = []; fault = Nothing; talk = [] }
 
 -- a word inside the memory is written without a fault
 pub poke-inside :

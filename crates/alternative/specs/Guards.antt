@@ -3,8 +3,8 @@ use Prim.Native.Nat.{ℕ}
 use mathlib.Core.Bool.{cond}
 use lib.Dec.{eqb}
 use Rattle.model.specs.Word.{notProcess}
-use Rattle.model.specs.Machine.{Act, _>>=_, _>>_, return, registers, stack, peek, poke, stateWord, resumeWord, nameOf, release}
-use Rattle.model.specs.Execute.{changing, enableUnheld, ready, waiting, select}
+use Rattle.model.specs.Machine.{Act, _>>=_, _>>_, return, registers, stack, peek, poke, stateWord, resumeWord, nameOf, release, changing}
+use Rattle.model.specs.Alternative.{enableUnheld, ready, waiting, select}
 use Rattle.processor.specs.Pieces.{landing}
 
 -- ENBC with a true condition, where no offer is held

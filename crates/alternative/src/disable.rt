@@ -13,14 +13,14 @@ ghost use mathlib.Core.Bool.{true};
 ghost use Prim.Native.Nat.{_≤_, _<_};
 ghost use lib.ListN.{length};
 ghost use Rattle.model.specs.Machine.{memorySize};
-ghost use Rattle.model.specs.Execute.{disableChannel, disableSkip, endAlt};
+ghost use Rattle.model.specs.Alternative.{disableChannel, disableSkip, endAlt};
 ghost use Rattle.processor.specs.Seen.{Works, Goes};
 ghost use Rattle.processor.specs.Pieces.{landing};
 ghost use Rattle.processor.specs.Quiet.{Stays, Sees};
 ghost use Rattle.alternative.specs.Guards.{selecting, disableHeld, disableInside};
 
 // A ready guard's branch is chosen if none is yet; A says whether it was.
-fn select(memory: &mut [u32], size: u64, cpu: model::Cpu, branch: u32) -> Step
+pub fn select(memory: &mut [u32], size: u64, cpu: model::Cpu, branch: u32) -> Step
     requires { ⌜ size ≤ length (now memory) ⌝ }
     ensures { λ r. ⌜ Works size (selecting branch) cpu (now (memory .entry)) r (now (memory .exit)) ⌝ }
 {

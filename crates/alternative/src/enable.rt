@@ -15,7 +15,7 @@ ghost use mathlib.Core.Bool.{true};
 ghost use Prim.Native.Nat.{_≤_};
 ghost use lib.ListN.{length};
 ghost use Rattle.model.specs.Machine.{memorySize, stateWord, poke as pokeOf};
-ghost use Rattle.model.specs.Execute.{beginAlt, enableChannel, enableSkip, waitAlt};
+ghost use Rattle.model.specs.Alternative.{beginAlt, enableChannel, enableSkip, waitAlt};
 ghost use Rattle.processor.specs.Seen.{Works, Goes};
 ghost use Rattle.processor.specs.Pieces.{landing};
 ghost use Rattle.processor.specs.Quiet.{Stays, Sees};

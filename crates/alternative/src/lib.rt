@@ -5,6 +5,7 @@ mod enable;
 pub use disable::disable_channel;
 pub use disable::disable_skip;
 pub use disable::end_alt;
+pub use disable::select;
 pub use enable::begin_alt;
 pub use enable::enable_channel;
 pub use enable::enable_skip;

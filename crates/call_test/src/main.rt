@@ -6,15 +6,15 @@
 //   1 c w              from here on the first c bytes of the code and the first w words of the memory are lent
 //   2 w i o q          start: W, outside inputs and outputs, slice
 //   3 q n and n bytes  the table of these bytes is compiled into the front of the code, which is lent from here on, and started
-//   4 b                run with a budget
+//   4 b c              run with a budget and a clock
 //   5 k v              offer
 //   6 k                take
 // A list begins with 4,200 words lent, which hold 7700 and their address, no code, and the machine that a refused start gives.
 //
 // A line of the output has the answers. A table that is refused is `refused N at P`; a call's refusal is its number, 3 and 10 with the
 // place, 11 with the size needed; 12 is `fault` and what was at fault, in a run behind the instructions executed. Then come the registers
-// in the order of model::Cpu, the held offers as input=value, the kept fault, and a sum over the memory's 4,200 words. Numbers are
-// hexadecimal, but for those of refusals.
+// in the order of model::Cpu; the last clock given, whether one was given, and the timer queue's front; the held offers as input=value;
+// the kept fault; and a sum over the memory's 4,200 words. Numbers are hexadecimal, but for those of refusals.
 
 // The code's room: longer than any code and than a start takes.
 const BYTES: usize = model::limits::CODE + 256;
@@ -102,8 +102,14 @@ fn call_start(numbers: &[u64], list: List, code: &[u8], memory: &mut [u32]) -> L
 // Call 4: a run.
 fn call_run(numbers: &[u64], list: List, code: &[u8], memory: &mut [u32]) -> List {
     let before = list.machine;
-    let machine = show::run(before, code, memory, lines::at(numbers, 1));
-    answered(list, machine, 2)
+    let machine = show::run(
+        before,
+        code,
+        memory,
+        lines::at(numbers, 1),
+        lines::word(numbers, 2),
+    );
+    answered(list, machine, 3)
 }
 
 // Call 5: an offer.

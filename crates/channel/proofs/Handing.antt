@@ -8,7 +8,8 @@ use lib.Dec.{ltb, eqb}
 use Rattle.model.specs.Word.{notProcess}
 use Rattle.model.specs.Machine.{World, Act, done, faults, _>>_, return, memorySize, poke, release, join, communicate, nameOf, spaceOf}
 use Rattle.model.specs.Machine.{linkWord, resumeWord, stateWord, queueing}
-use Rattle.model.specs.Execute.{waitAt, outputWord, received, notify, waiting, ready}
+use Rattle.model.specs.Alternative.{notify, waiting, ready}
+use Rattle.model.specs.Execute.{waitAt, outputWord, received}
 use Rattle.model.specs.Run.{land}
 use Rattle.model.specs.declared.Cpu.{Cpu}
 use Rattle.model.specs.declared.Setup.{Setup}
@@ -94,7 +95,9 @@ module _ (u : Setup) (r : Cpu) {size : ℕ} (a v : ℕ) (l : List ℕ) {m : List
   undid-hears {old} {n} act s g d i =
       let k : m ≡ set l a v = rw g at (e .1) in
       let other : Act (Unit {0}) =
-      λ w. told (record { offers = w .machine .offers; held = w .machine .held; fault = w .machine .fault; talk = w .talk }) u s n in
+      λ w.
+      let m = w .machine in
+      told (record { timer = m .timer; offers = m .offers; held = m .held; fault = m .fault; talk = w .talk }) u s n in
       hears (undid a v other h s e g (record { said = λ x. refl; keeps = d .keeps }) i)
       (λ x. after-set quiet x u act other a v r l (rw (← k) (d .said x)))
 

@@ -4,7 +4,8 @@ use mathlib.Core.Bool.{cond}
 use lib.Dec.{eqb}
 use Rattle.model.specs.Word.{notProcess}
 use Rattle.model.specs.Machine.{Act, _>>=_, _>>_, registers, peek, poke, resumeWord, stateWord, nameOf, spaceOf, release}
-use Rattle.model.specs.Execute.{waitAt, inputUnheld, notify, deliver, isAltState}
+use Rattle.model.specs.Alternative.{notify, isAltState}
+use Rattle.model.specs.Execute.{waitAt, inputUnheld, deliver}
 use Rattle.model.specs.declared.Cpu.{Cpu}
 use Rattle.processor.specs.Pieces.{landing, pokeJoin, poke2Tell}
 

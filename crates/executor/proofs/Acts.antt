@@ -14,20 +14,27 @@ use Rattle.model.specs.declared.Setup.{Setup}
 use Rattle.instruction.specs.Coded.{isPrefix, movedUp}
 use Rattle.processor.specs.Seen.{Rest, world}
 use Rattle.processor.specs.Pieces.{landing}
-use Rattle.processor.specs.Quiet.{quiet, offering, Takes}
+use Rattle.processor.specs.Quiet.{quiet, offering, timing, Acts}
 use Rattle.processor.specs.declared.memory.Step.{Step}
 use Rattle.processor.specs.declared.memory.Step.the-variants.{Done}
 use Rattle.processor.proofs.Laws.{ends}
-use Rattle.processor.proofs.Talking.{lands, takes-none, silent}
+use Rattle.processor.proofs.Talking.{lands, takes-none, silent, untimed}
 use Rattle.executor.specs.Steps.{executing, advancedTo}
 
 -- an action that comes to another, with other registers
-pub takes-as :
-    {u : Setup} {act other : Act (Unit {0})} {q r : Cpu} {o : List ℕ} {b d : List Bool} {l m : List ℕ} {s : Step}
-    → Takes u other q o b l s d m
-    → ((x : Rest) → act (world (offering o b x) u r l) ≡ other (world (offering o b x) u q l))
-    → Takes u act r o b l s d m
-takes-as t e = record { said = λ x. ap quiet (e x) ∙ t .said x; keeps = t .keeps; keepsHeld = t .keepsHeld; long = t .long }
+pub acts-as :
+    {u : Setup} {act other : Act (Unit {0})} {q r : Cpu} {o : List ℕ} {b d : List Bool} {k f g : ℕ} {l m : List ℕ} {s : Step}
+    → Acts u other q o b k f l s d g m
+    → ((x : Rest) → act (world (offering o b (timing k f x)) u r l) ≡ other (world (offering o b (timing k f x)) u q l))
+    → Acts u act r o b k f l s d g m
+acts-as t e =
+    record {
+      said = λ x. ap quiet (e x) ∙ t .said x;
+      keeps = t .keeps;
+      keepsHeld = t .keepsHeld;
+      keepsFront = t .keepsFront;
+      long = t .long;
+    }
 
 module _ (x : Rest) (u : Setup) (r : Cpu) (l : List ℕ) (b : ℕ) where
   -- a prefix gathers
@@ -60,11 +67,12 @@ module _ (x : Rest) (u : Setup) (r : Cpu) (l : List ℕ) (b : ℕ) where
 
 -- a prefix, and the process goes on behind it
 pub prefix-takes :
-    {u : Setup} {r q : Cpu} {l : List ℕ} (o : List ℕ) (d : List Bool) (b : ℕ) → isPrefix (b / 16) ≡ true
+    {u : Setup} {r q : Cpu} {l : List ℕ} (o : List ℕ) (d : List Bool) (k f b : ℕ) → isPrefix (b / 16) ≡ true
     → q ≡ advancedTo (movedUp (gathered (r .operand) b) (b / 16)) r → r .running ≡ true → r .place < u .code
-    → Takes u (landing (act b)) r o d l (Done q) d l
-prefix-takes {u} {r} {q} {l} o d b e g t p =
-    takes-none o d
+    → Acts u (landing (act b)) r o d k f l (Done q) d f l
+prefix-takes {u} {r} {q} {l} o d k f b e g t p =
+    untimed k f
+    (takes-none o d
     (silent
     (rw g
-    (ends (λ x. ap (λ s. next s (λ n. land)) (prefix-acts x u r l b e) ∙ lands (world x u _ l) t (omega arith)))))
+    (ends (λ x. ap (λ s. next s (λ n. land)) (prefix-acts x u r l b e) ∙ lands (world x u _ l) t (omega arith))))))

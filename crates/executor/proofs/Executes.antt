@@ -6,22 +6,24 @@ use mathlib.Core.List.{List, [], _∷_}
 use mathlib.Core.Option.{none}
 use borrow.Author.Tests.{ne-eqb}
 use Rattle.model.specs.Instruction.{Function, j, ldlp, ldc, ldl, cj, ajw, eqc, stl, opr, Operation, rev, endp, diff, «in», prod, gt, startp}
-use Rattle.model.specs.Instruction.{outword, stopp, ldpi, disc, diss, xor, mint, alt, altwt, altend, and, enbc, enbs, or, sum, functionCode}
+use Rattle.model.specs.Instruction.{outword, stopp, ldpi, disc, diss, xor, mint, alt, altwt, altend, and, enbc, enbs, or, sum, ldtimer}
+use Rattle.model.specs.Instruction.{tin, dist, enbt, talt, taltwt, functionCode}
 use Rattle.model.specs.Instruction.{functionOf, operationCode, operationOf, operations, coded}
-use Rattle.model.specs.Machine.{Act, fault}
-use Rattle.model.specs.Execute.{reduce, changing, operate, execute}
+use Rattle.model.specs.Machine.{Act, fault, push, reduce, changing}
+use Rattle.model.specs.Timer.{loadTimer}
+use Rattle.model.specs.Execute.{operate, execute}
 use Rattle.model.specs.declared.Cpu.{Cpu}
 use Rattle.model.specs.declared.Setup.{Setup}
 use Rattle.model.specs.declared.FaultKind.{FaultKind}
 use Rattle.model.specs.declared.FaultKind.the-variants.{Operation as BadOperation}
 use Rattle.processor.specs.Seen.{world, Does}
 use Rattle.processor.specs.Pieces.{landing}
-use Rattle.processor.specs.Quiet.{Takes}
+use Rattle.processor.specs.Quiet.{quiet, Times, Acts}
 use Rattle.processor.specs.declared.memory.Step.{Step}
 use Rattle.processor.specs.declared.memory.Step.the-variants.{Done, Fault}
 use Rattle.processor.proofs.Laws.{ends}
-use Rattle.processor.proofs.Talking.{lands, takes-none, silent}
-use Rattle.executor.specs.Steps.{executing, Other, onRegisters, onProcesses, onAlts}
+use Rattle.processor.proofs.Talking.{lands, takes-none, silent, untimed, unoffered}
+use Rattle.executor.specs.Steps.{executing, Other, onRegisters, onProcesses, onAlts, onTimers}
 
 -- an operation by its code
 pub operates : (o : Operation) {n : ℕ} → n ≡ operationCode o → execute opr n ≡ operate o
@@ -51,6 +53,12 @@ operates o e = ap (execute opr) e ∙ known o
     known enbs = refl
     known or = refl
     known sum = refl
+    known ldtimer = refl
+    known tin = refl
+    known dist = refl
+    known enbt = refl
+    known talt = refl
+    known taltwt = refl
 
 -- a direct function by its code
 pub executes : (f : Function) (n : ℕ) {k : ℕ} → k ≡ functionCode f → executing k n ≡ execute f n
@@ -85,33 +93,50 @@ module _ {u : Setup} {act : Act (Unit {0})} {r q : Cpu} {l : List ℕ} (f : Cpu 
   pub settles : Does u (landing act) r l (Done q) l
   settles = rw (e, g) (ends (λ x. lands (world x u (f r) l) t p))
 
-  -- and no offer is taken
-  pub settled : (o : List ℕ) (b : List Bool) → Takes u (landing act) r o b l (Done q) b l
-  settled o b = takes-none o b (silent settles)
+  -- no offer is taken, and the timer queue stays
+  pub settled : (o : List ℕ) (b : List Bool) (k c : ℕ) → Acts u (landing act) r o b k c l (Done q) b c l
+  settled o b k c = untimed k c (takes-none o b (silent settles))
 
 -- two values give one
 pub reduces :
     {u : Setup} {act : Act (Unit {0})} {r q : Cpu} {l : List ℕ} {v : ℕ} (g : ℕ → ℕ → ℕ) → act ≡ changing (λ r. reduce (g (r .b) (r .a)) r)
-    → q ≡ reduce v r → v ≡ g (r .b) (r .a) → r .running ≡ true → r .place ≤ u .code → (o : List ℕ) (b : List Bool)
-    → Takes u (landing act) r o b l (Done q) b l
+    → q ≡ reduce v r → v ≡ g (r .b) (r .a) → r .running ≡ true → r .place ≤ u .code → (o : List ℕ) (b : List Bool) (k f : ℕ)
+    → Acts u (landing act) r o b k f l (Done q) b f l
 reduces {r} g e h k = settled (λ r. reduce (g (r .b) (r .a)) r) e (h ∙ ap (λ v. reduce v r) k)
+
+-- LDTIMER, whose reading is heard
+pub loads :
+    {u : Setup} {r q : Cpu} {l : List ℕ} (o : List ℕ) (b : List Bool) (k f : ℕ) → r .running ≡ true → r .place ≤ u .code → q ≡ push k r
+    → Acts u (landing loadTimer) r o b k f l (Done q) b f l
+unfolding loadTimer
+loads o b k f t p e =
+    rw e (record { said = λ x. ap quiet (lands _ t p); keeps = tt; keepsHeld = tt; keepsFront = tt; long = refl })
 
 -- an action that comes to another and takes no offer
 pub done-as :
-    {u : Setup} {act other : Act (Unit {0})} {r : Cpu} {l m : List ℕ} {s : Step} (o : List ℕ) (b : List Bool) → act ≡ other
-    → Does u (landing other) r l s m → Takes u (landing act) r o b l s b m
-done-as o b e d = rw e (takes-none o b (silent d))
+    {u : Setup} {act other : Act (Unit {0})} {r : Cpu} {l m : List ℕ} {s : Step} (o : List ℕ) (b : List Bool) (k f : ℕ) → act ≡ other
+    → Does u (landing other) r l s m → Acts u (landing act) r o b k f l s b f m
+done-as o b k f e d = rw e (untimed k f (takes-none o b (silent d)))
+
+-- one on the timer queue
+pub timed-as :
+    {u : Setup} {act other : Act (Unit {0})} {r : Cpu} {k f g : ℕ} {l m : List ℕ} {s : Step} (o : List ℕ) (b : List Bool) → act ≡ other
+    → Times u (landing other) r k f l s g m → Acts u (landing act) r o b k f l s b g m
+timed-as o b e t = rw e (unoffered o b t)
 
 -- a fault before anything is done
 pub faulted :
-    {u : Setup} {act : Act (Unit {0})} {r : Cpu} {l : List ℕ} {k : FaultKind} (o : List ℕ) (b : List Bool) → act ≡ fault k
-    → Takes u (landing act) r o b l (Fault k) b l
-faulted o b e = rw e (record { said = λ x. refl; keeps = refl; keepsHeld = refl; long = refl })
+    {u : Setup} {act : Act (Unit {0})} {r : Cpu} {l : List ℕ} {j : FaultKind} (o : List ℕ) (b : List Bool) (k f : ℕ) → act ≡ fault j
+    → Acts u (landing act) r o b k f l (Fault j) b f l
+faulted o b k f e = rw e (record { said = λ x. refl; keeps = refl; keepsHeld = refl; keepsFront = refl; long = refl })
 
 -- a number that is no operation's
-pub unused : (n : ℕ) → Other onRegisters n → Other onProcesses n → Other onAlts n → execute opr n ≡ fault (BadOperation n)
+pub unused : (n : ℕ) → Other onRegisters n → Other onProcesses n → Other onAlts n → Other onTimers n
+    → execute opr n ≡ fault (BadOperation n)
 unfolding execute operationOf operationCode
-unused n ((((((((((x, a), b), c), d), e), f), g), h), i), k) (((((y, l), m), o), p), q) (((((((z, r), s), t), u), v), w), α) =
+unused n ((((((((((x, a), b), c), d), e), f), g), h), i), k) (((((y, l), m), o), p), q) (((((((z, r), s), t), u), v), w), α)
+    ((((((ω, β), γ), δ), ε), ζ), η) =
+    let timers : Uncoded operationCode n (ldtimer ∷ tin ∷ dist ∷ enbt ∷ talt ∷ taltwt ∷ []) = (β, (γ, (δ, (ε, (ζ, (η, tt)))))) in
     let no = uncoded operationCode n operations
-    (a, (l, (b, (m, (c, (d, (o, (p, (q, (e, (r, (s, (f, (g, (t, (u, (v, (h, (w, (α, (i, (k, tt)))))))))))))))))))))) in
+    (a, (l, (b, (m, (c, (d, (o, (p, (q, (e, (r, (s, (f, (g, (t, (u, (v, (h, (w, (α, (i, (k, timers)))))))))))))))))))))) in
     rw no

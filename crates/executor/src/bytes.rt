@@ -10,7 +10,7 @@ ghost use Rattle.model.specs.Limits.{sliceLimit};
 ghost use Rattle.model.specs.Machine.{memorySize};
 ghost use Rattle.model.specs.Run.{act as actOf, byte as byteOf};
 ghost use Rattle.processor.specs.Pieces.{landing};
-ghost use Rattle.processor.specs.Quiet.{Takes};
+ghost use Rattle.processor.specs.Quiet.{Acts};
 ghost use Rattle.executor.specs.Steps.{advancedTo};
 
 // One more instruction towards the slice; the count stays at its largest.
@@ -50,13 +50,15 @@ fn act(
     setup: model::Setup,
     offers: &[u32; 8],
     held: &mut [bool; 8],
+    clock: u32,
+    front: &mut u32,
     byte: u8,
 ) -> Step
     requires { ⌜ (size ≤ length (now memory)) × (cpu .running ≡ true) × (memorySize setup ≡ size) × (cpu .place < setup .code) ⌝ }
     requires { ⌜ length (now held) ≡ 8 ⌝ }
     ensures { λ r.
-        ⌜ Takes setup (landing (actOf byte)) cpu (now (offers .entry)) (now (held .entry)) (now (memory .entry)) r
-        (now (held .exit)) (now (memory .exit)) ⌝ }
+        ⌜ Acts setup (landing (actOf byte)) cpu (now (offers .entry)) (now (held .entry)) clock (now (front .entry))
+        (now (memory .entry)) r (now (held .exit)) (now (front .exit)) (now (memory .exit)) ⌝ }
 {
     let function = byte / 16;
     let operand = instruction::gather(cpu.operand, byte);
@@ -71,6 +73,8 @@ fn act(
         setup,
         offers,
         held,
+        clock,
+        front,
         function as u32,
         operand,
     )
@@ -85,16 +89,28 @@ pub fn step(
     setup: model::Setup,
     offers: &[u32; 8],
     held: &mut [bool; 8],
+    clock: u32,
+    front: &mut u32,
 ) -> Step
     requires { ⌜ (size ≤ length (now memory)) × (cpu .running ≡ true) × (memorySize setup ≡ size) × (setup .code ≤ length (now code)) ⌝ }
     requires { ⌜ length (now held) ≡ 8 ⌝ }
     ensures { λ r.
-        ⌜ Takes setup (byteOf (now (code .entry))) cpu (now (offers .entry)) (now (held .entry)) (now (memory .entry)) r
-        (now (held .exit)) (now (memory .exit)) ⌝ }
+        ⌜ Acts setup (byteOf (now (code .entry))) cpu (now (offers .entry)) (now (held .entry)) clock (now (front .entry))
+        (now (memory .entry)) r (now (held .exit)) (now (front .exit)) (now (memory .exit)) ⌝ }
 {
     if setup.code <= cpu.place {
         return Step::Fault(model::FaultKind::Place(cpu.place));
     }
     let at = cpu.place as usize;
-    act(memory, size, cpu, setup, offers, held, code[at])
+    act(
+        memory,
+        size,
+        cpu,
+        setup,
+        offers,
+        held,
+        clock,
+        front,
+        code[at],
+    )
 }

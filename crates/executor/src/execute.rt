@@ -20,13 +20,12 @@ ghost use lib.ListN.{length};
 ghost use lib.Dec.{eqb};
 ghost use Rattle.model.specs.Word.{truth};
 ghost use Rattle.model.specs.Instruction.{opr};
-ghost use Rattle.model.specs.Machine.{memorySize};
-ghost use Rattle.model.specs.Execute.{push as pushed, pop as popped, reduce as reduced, loadLocal, storeLocal, conditionalJump};
-ghost use Rattle.model.specs.Execute.{execute as executed};
+ghost use Rattle.model.specs.Machine.{memorySize, push as pushed, pop as popped, reduce as reduced};
+ghost use Rattle.model.specs.Execute.{loadLocal, storeLocal, conditionalJump, execute as executed};
 ghost use Rattle.processor.specs.Seen.{Lands};
 ghost use Rattle.processor.specs.Pieces.{landing};
-ghost use Rattle.processor.specs.Quiet.{Stays, Sees, Takes};
-ghost use Rattle.executor.specs.Steps.{executing, Other, onRegisters, onProcesses};
+ghost use Rattle.processor.specs.Quiet.{Stays, Acts};
+ghost use Rattle.executor.specs.Steps.{executing, Other, onRegisters, onProcesses, onAlts, Ticks, Looks};
 
 // A value comes onto the stack.
 fn push(r: model::Cpu, v: u32) -> model::Cpu
@@ -89,19 +88,49 @@ fn conditional_jump(cpu: model::Cpu, code: u32, n: u32) -> Step
     Step::Done(pop(cpu))
 }
 
-// The operations of an ALT. Any other number is a fault (refusal 12).
+// The operations of the clock (document 02, order 4). Any other number is a fault (refusal 12).
+fn operate_timer(
+    memory: &mut [u32],
+    size: u64,
+    cpu: model::Cpu,
+    code: u32,
+    clock: u32,
+    front: &mut u32,
+    n: u32,
+) -> Step
+    requires { ⌜ (size ≤ length (now memory)) × (cpu .running ≡ true) × (cpu .place ≤ code) ⌝ }
+    requires { ⌜ Other onRegisters n × Other onProcesses n × Other onAlts n ⌝ }
+    ensures { λ r.
+        ⌜ Ticks size code (landing (executed opr n)) cpu clock (now (front .entry)) (now (memory .entry)) r (now (front .exit))
+        (now (memory .exit)) ⌝ }
+{
+    match n {
+        codes::LDTIMER => Step::Done(push(cpu, clock)),
+        codes::TIN => timer::timer_input(memory, size, cpu, code, clock, front),
+        codes::DIST => timer::disable_time(memory, size, cpu, front),
+        codes::ENBT => timer::enable_time(memory, size, cpu),
+        codes::TALT => timer::begin_timed_alt(memory, size, cpu),
+        codes::TALTWT => timer::wait_timed_alt(memory, size, cpu, code, clock, front),
+        _ => Step::Fault(model::FaultKind::Operation(n)),
+    }
+}
+
+// The operations of an ALT.
 fn operate_alt(
     memory: &mut [u32],
     size: u64,
     cpu: model::Cpu,
     setup: model::Setup,
     held: &[bool; 8],
+    clock: u32,
+    front: &mut u32,
     n: u32,
 ) -> Step
     requires { ⌜ (size ≤ length (now memory)) × (cpu .running ≡ true) × (memorySize setup ≡ size) × (cpu .place ≤ setup .code) ⌝ }
     requires { ⌜ (length (now held) ≡ 8) × Other onRegisters n × Other onProcesses n ⌝ }
     ensures { λ r.
-        ⌜ Sees setup (landing (executed opr n)) cpu (now (held .entry)) (now (memory .entry)) r (now (memory .exit)) ⌝ }
+        ⌜ Looks setup (landing (executed opr n)) cpu (now (held .entry)) clock (now (front .entry)) (now (memory .entry)) r
+        (now (front .exit)) (now (memory .exit)) ⌝ }
 {
     match n {
         codes::DISC => alternative::disable_channel(memory, size, cpu, setup, held),
@@ -111,7 +140,7 @@ fn operate_alt(
         codes::ALTEND => alternative::end_alt(memory, size, cpu, setup.code),
         codes::ENBC => alternative::enable_channel(memory, size, cpu, setup, held),
         codes::ENBS => alternative::enable_skip(memory, size, cpu),
-        _ => Step::Fault(model::FaultKind::Operation(n)),
+        _ => operate_timer(memory, size, cpu, setup.code, clock, front, n),
     }
 }
 
@@ -123,13 +152,15 @@ fn operate_process(
     setup: model::Setup,
     offers: &[u32; 8],
     held: &mut [bool; 8],
+    clock: u32,
+    front: &mut u32,
     n: u32,
 ) -> Step
     requires { ⌜ (size ≤ length (now memory)) × (cpu .running ≡ true) × (memorySize setup ≡ size) × (cpu .place ≤ setup .code) ⌝ }
     requires { ⌜ (length (now held) ≡ 8) × Other onRegisters n ⌝ }
     ensures { λ r.
-        ⌜ Takes setup (landing (executed opr n)) cpu (now (offers .entry)) (now (held .entry)) (now (memory .entry)) r
-        (now (held .exit)) (now (memory .exit)) ⌝ }
+        ⌜ Acts setup (landing (executed opr n)) cpu (now (offers .entry)) (now (held .entry)) clock (now (front .entry))
+        (now (memory .entry)) r (now (held .exit)) (now (front .exit)) (now (memory .exit)) ⌝ }
 {
     match n {
         codes::ENDP => processor::end_process(memory, size, cpu, setup.code),
@@ -137,7 +168,7 @@ fn operate_process(
         codes::STARTP => processor::start_process(memory, size, cpu),
         codes::OUTWORD => channel::output(memory, size, cpu, setup.code),
         codes::STOPP => processor::stop_process(memory, size, cpu, setup.code),
-        _ => operate_alt(memory, size, cpu, setup, held, n),
+        _ => operate_alt(memory, size, cpu, setup, held, clock, front, n),
     }
 }
 
@@ -149,13 +180,15 @@ fn operate(
     setup: model::Setup,
     offers: &[u32; 8],
     held: &mut [bool; 8],
+    clock: u32,
+    front: &mut u32,
     n: u32,
 ) -> Step
     requires { ⌜ (size ≤ length (now memory)) × (cpu .running ≡ true) × (memorySize setup ≡ size) × (cpu .place ≤ setup .code) ⌝ }
     requires { ⌜ length (now held) ≡ 8 ⌝ }
     ensures { λ r.
-        ⌜ Takes setup (landing (executed opr n)) cpu (now (offers .entry)) (now (held .entry)) (now (memory .entry)) r
-        (now (held .exit)) (now (memory .exit)) ⌝ }
+        ⌜ Acts setup (landing (executed opr n)) cpu (now (offers .entry)) (now (held .entry)) clock (now (front .entry))
+        (now (memory .entry)) r (now (held .exit)) (now (front .exit)) (now (memory .exit)) ⌝ }
 {
     match n {
         codes::REV => Step::Done(stack(cpu, cpu.b, cpu.a, cpu.c)),
@@ -168,7 +201,7 @@ fn operate(
         codes::AND => Step::Done(reduce(cpu, cpu.b & cpu.a)),
         codes::OR => Step::Done(reduce(cpu, cpu.b | cpu.a)),
         codes::SUM => Step::Done(reduce(cpu, plus(cpu.b, cpu.a))),
-        _ => operate_process(memory, size, cpu, setup, offers, held, n),
+        _ => operate_process(memory, size, cpu, setup, offers, held, clock, front, n),
     }
 }
 
@@ -180,14 +213,16 @@ pub fn execute(
     setup: model::Setup,
     offers: &[u32; 8],
     held: &mut [bool; 8],
+    clock: u32,
+    front: &mut u32,
     function: u32,
     n: u32,
 ) -> Step
     requires { ⌜ (size ≤ length (now memory)) × (cpu .running ≡ true) × (memorySize setup ≡ size) × (cpu .place ≤ setup .code) ⌝ }
     requires { ⌜ length (now held) ≡ 8 ⌝ }
     ensures { λ r.
-        ⌜ Takes setup (landing (executing function n)) cpu (now (offers .entry)) (now (held .entry)) (now (memory .entry)) r
-        (now (held .exit)) (now (memory .exit)) ⌝ }
+        ⌜ Acts setup (landing (executing function n)) cpu (now (offers .entry)) (now (held .entry)) clock (now (front .entry))
+        (now (memory .entry)) r (now (held .exit)) (now (front .exit)) (now (memory .exit)) ⌝ }
 {
     match function {
         functions::J => processor::jump(memory, size, cpu, setup, n),
@@ -198,7 +233,7 @@ pub fn execute(
         functions::AJW => Step::Done(work(cpu, plus(cpu.workspace, n))),
         functions::EQC => Step::Done(stack(cpu, same(cpu.a, n), cpu.b, cpu.c)),
         functions::STL => store_local(memory, size, cpu, n),
-        functions::OPR => operate(memory, size, cpu, setup, offers, held, n),
+        functions::OPR => operate(memory, size, cpu, setup, offers, held, clock, front, n),
         _ => Step::Fault(model::FaultKind::Function(function)),
     }
 }

@@ -63,3 +63,16 @@ pub const ENBS: u32 = 0x49;
 pub const OR: u32 = 0x4b;
 
 pub const SUM: u32 = 0x52;
+
+// Of the clock (document 02, order 4).
+pub const LDTIMER: u32 = 0x22;
+
+pub const TIN: u32 = 0x2b;
+
+pub const DIST: u32 = 0x2e;
+
+pub const ENBT: u32 = 0x47;
+
+pub const TALT: u32 = 0x4e;
+
+pub const TALTWT: u32 = 0x51;

@@ -9,28 +9,25 @@ use lib.Dec.{ltb}
 use borrow.Author.Tests.{lt-ltb, le-ltb, ltb-true, eq-eqb, ne-eqb}
 use Rattle.model.specs.Word.{notProcess}
 use Rattle.model.specs.Machine.{done, faults, memorySize, peek, stateWord, spaceOf}
-use Rattle.model.specs.Execute.{isAltState, deliver, notify, received}
-use Rattle.model.specs.Run.{unchanged, worldOf}
-use Rattle.model.specs.Outside.{waking, offering, offered, offerUnless, offer}
+use Rattle.model.specs.Alternative.{isAltState, notify}
+use Rattle.model.specs.Execute.{deliver, received}
+use Rattle.model.specs.Run.{unchanged, worldOf, waking}
+use Rattle.model.specs.Outside.{offering, offered, offerUnless, offer}
 use Rattle.model.specs.declared.Machine.{Machine}
 use Rattle.model.specs.declared.FaultKind.{FaultKind}
 use Rattle.model.specs.declared.Kept.the-variants.{Nothing, Fault as KeptFault}
 use Rattle.model.specs.declared.OfferAnswer.the-variants.{Offered, Short, Fault as OfferFault, NoChannel, Held}
-use Rattle.processor.specs.Seen.{Rest, world, told, Keeps, Does}
+use Rattle.processor.specs.Seen.{world, told, Keeps, Does}
 use Rattle.processor.specs.Pieces.{notifyWake}
 use Rattle.processor.specs.Quiet.{quiet}
 use Rattle.processor.specs.declared.memory.Step.{Step}
 use Rattle.processor.specs.declared.memory.Step.the-variants.{Done, Fault}
 use Rattle.processor.proofs.Talking.{after-poke}
-use Rattle.machine.specs.Runs.{Answers}
+use Rattle.machine.specs.Runs.{restOf, Answers}
 use Rattle.machine.specs.Outsides.{emptyWake, handWake, holding, offeredBy}
 use Rattle.machine.proofs.Refusals.{one-false}
 use Rattle.machine.proofs.Runs.{heard, heard-fault}
 use Rattle.machine.proofs.Woken.{wakes-poke, wakes-done, wakes-notify, wakes-received}
-
--- what functions of registers and memory do not see of a machine
-abbrev pub restOf : Machine → Rest
-restOf m = record { offers = m .offers; held = m .held; fault = m .fault; talk = [] }
 
 module _ (m : Machine) (memory : List ℕ) (k v : ℕ) {p : ℕ} (i : k < m .setup .inputs) (a : getD memory (m .setup .base + k) 0 ≡ p) where
   -- the process at the channel's word

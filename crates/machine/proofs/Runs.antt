@@ -14,7 +14,7 @@ use Rattle.model.specs.declared.Machine.{Machine}
 use Rattle.model.specs.declared.FaultKind.{FaultKind}
 use Rattle.model.specs.declared.Outcome.the-variants.{Ended, Waiting, Spent, Fault as RunFault}
 use Rattle.processor.specs.Seen.{Rest, world}
-use Rattle.processor.specs.Quiet.{quiet, offering, Takes}
+use Rattle.processor.specs.Quiet.{quiet, offering, timing, Acts}
 use Rattle.processor.specs.declared.memory.Step.the-variants.{Done, Fault}
 use Rattle.model.proofs.Laws.RunSteps.{run-waits, run-ends, run-spent, run-on, run-faults}
 use Rattle.processor.proofs.Laws.{ends}
@@ -54,21 +54,23 @@ of-not false false e = cc
 
 -- before any byte
 pub reaches-start :
-    (u : Setup) (code : List ℕ) (budget : ℕ) (o : List ℕ) (r : Cpu) (b : List Bool) (l : List ℕ) → Reaches u code budget o r b l 0 r b l
-reaches-start u code budget o r b l =
+    (u : Setup) (code : List ℕ) (budget : ℕ) (o : List ℕ) (r : Cpu) (b : List Bool) (k f : ℕ) (l : List ℕ)
+    → Reaches u code budget o r b k f l 0 r b f l
+reaches-start u code budget o r b k f l =
     let z : budget - 0 ≡ budget = omega arith in
     record { goes = λ x. (x .talk, rw z) }
 
-module _ {u : Setup} {code : List ℕ} {budget : ℕ} {o : List ℕ} {r : Cpu} {b : List Bool} {l : List ℕ} {n : ℕ} {q : Cpu} {d : List Bool}
-    {m : List ℕ} (g : Reaches u code budget o r b l n q d m) where
+module _ {u : Setup} {code : List ℕ} {budget : ℕ} {o : List ℕ} {r : Cpu} {b : List Bool} {clock from : ℕ} {l : List ℕ} {n : ℕ} {q : Cpu}
+    {d : List Bool} {at : ℕ} {m : List ℕ} (g : Reaches u code budget o r b clock from l n q d at m) where
   -- no process has the processor
   pub finishes-waiting :
-      not (q .running) ≡ true → Finishes u code budget o r b l (record { cpu = q; held = d; outcome = Waiting n }) m
+      not (q .running) ≡ true → Finishes u code budget o r b clock from l (record { cpu = q; front = at; held = d; outcome = Waiting n }) m
   finishes-waiting e =
       record {
         ends = λ x.
             let t = g .goes x in
-            (t .0, t .1 ∙ run-waits code n (world (saying (t .0) (offering o d x)) u q m) (budget - n) (of-not (q .running) true e));
+            let s = world (saying (t .0) (offering o d (timing clock at x))) u q m in
+            (t .0, t .1 ∙ run-waits code n s (budget - n) (of-not (q .running) true e));
       }
 
   module _ (f : not (q .running) ≡ false) where
@@ -78,13 +80,13 @@ module _ {u : Setup} {code : List ℕ} {budget : ℕ} {o : List ℕ} {r : Cpu} {
 
     -- the process stands at the code's end
     pub finishes-ended :
-        q .place ≡ u .code → Finishes u code budget o r b l (record { cpu = q; held = d; outcome = Ended n }) m
+        q .place ≡ u .code → Finishes u code budget o r b clock from l (record { cpu = q; front = at; held = d; outcome = Ended n }) m
     finishes-ended p =
         let h = ap (λ t. t && eqb (q .place) (u .code)) e ∙ eq-eqb _ _ p in
         record {
           ends = λ x.
               let t = g .goes x in
-              (t .0, t .1 ∙ run-ends code n (world (saying (t .0) (offering o d x)) u q m) (budget - n) h);
+              (t .0, t .1 ∙ run-ends code n (world (saying (t .0) (offering o d (timing clock at x))) u q m) (budget - n) h);
         }
 
     module _ (p : q .place ≡ u .code → ⊥) where
@@ -93,40 +95,41 @@ module _ {u : Setup} {code : List ℕ} {budget : ℕ} {o : List ℕ} {r : Cpu} {
       goes-on = ap (λ t. t && eqb (q .place) (u .code)) e ∙ ne-eqb _ _ p
 
       -- the budget is spent
-      pub finishes-spent : n ≡ budget → Finishes u code budget o r b l (record { cpu = q; held = d; outcome = Spent n }) m
+      pub finishes-spent : n ≡ budget
+          → Finishes u code budget o r b clock from l (record { cpu = q; front = at; held = d; outcome = Spent n }) m
       finishes-spent h =
           let z : budget - n ≡ 0 = omega arith in
           record {
             ends = λ x.
                 let t = g .goes x in
-                (t .0, t .1 ∙ rw z (run-spent code n (world (saying (t .0) (offering o d x)) u q m) goes-on f));
+                (t .0, t .1 ∙ rw z (run-spent code n (world (saying (t .0) (offering o d (timing clock at x))) u q m) goes-on f));
           }
 
-      module _ (h : n < budget) {c : List Bool} {k : List ℕ} where
+      module _ (h : n < budget) {c : List Bool} {to : ℕ} {k : List ℕ} where
         -- a byte is done
         pub reaches-on :
-            {i : Cpu} → Takes u (byte code) q o d m (Done i) c k → Reaches u code budget o r b l (suc n) i c k
+            {i : Cpu} → Acts u (byte code) q o d clock at m (Done i) c to k → Reaches u code budget o r b clock from l (suc n) i c to k
         reaches-on {i} w =
             let z : budget - n ≡ suc (budget - suc n) = omega arith in
             record {
               goes = λ x.
                   let t = g .goes x in
-                  let s = world (saying (t .0) (offering o d x)) u q m in
-                  let v = heard (byte code s) (saying (t .0) (offering o c x)) u i k (w .said (saying (t .0) x)) in
+                  let s = world (saying (t .0) (offering o d (timing clock at x))) u q m in
+                  let v = heard (byte code s) (saying (t .0) (offering o c (timing clock to x))) u i k (w .said (saying (t .0) x)) in
                   (v .0, t .1 ∙ rw z (run-on code n s goes-on f (budget - suc n) _ (v .1)));
             }
 
         -- a byte would fault
         pub finishes-fault :
-            {j : FaultKind} → Takes u (byte code) q o d m (Fault j) c k
-            → Finishes u code budget o r b l (record { cpu = q; held = c; outcome = RunFault n j }) k
+            {j : FaultKind} → Acts u (byte code) q o d clock at m (Fault j) c to k
+            → Finishes u code budget o r b clock from l (record { cpu = q; front = to; held = c; outcome = RunFault n j }) k
         finishes-fault {j} w =
             let z : budget - n ≡ suc (budget - suc n) = omega arith in
-            rw (w .keeps, w .keepsHeld)
+            rw (w .keeps, w .keepsHeld, w .keepsFront)
             (record {
               ends = λ x.
                   let t = g .goes x in
-                  let s = world (saying (t .0) (offering o d x)) u q m in
+                  let s = world (saying (t .0) (offering o d (timing clock at x))) u q m in
                   let v = heard-fault (byte code s) j (w .said (saying (t .0) x)) in
                   (t .0, t .1 ∙ rw z (run-faults code n s goes-on f (budget - suc n) j v));
             })

@@ -9,8 +9,8 @@ use borrow.Author.Tests.{lt-ltb, le-ltb, eq-eqb, ne-eqb}
 use Rattle.model.specs.Word.{notProcess}
 use Rattle.model.specs.Machine.{done, faults, next, return, memorySize, peek}
 use Rattle.model.specs.Execute.{receive, received}
-use Rattle.model.specs.Run.{unchanged, worldOf}
-use Rattle.model.specs.Outside.{waking, looking, taking, took, takeUnless, take}
+use Rattle.model.specs.Run.{unchanged, worldOf, waking}
+use Rattle.model.specs.Outside.{looking, taking, took, takeUnless, take}
 use Rattle.model.specs.declared.Machine.{Machine}
 use Rattle.model.specs.declared.FaultKind.{FaultKind}
 use Rattle.model.specs.declared.Kept.the-variants.{Nothing as NoFault, Fault as KeptFault}
@@ -19,11 +19,10 @@ use Rattle.processor.specs.Seen.{Does}
 use Rattle.processor.specs.Quiet.{quiet}
 use Rattle.processor.specs.declared.memory.Step.{Step}
 use Rattle.processor.specs.declared.memory.Step.the-variants.{Done, Fault}
-use Rattle.machine.specs.Runs.{Answers}
+use Rattle.machine.specs.Runs.{restOf, Answers}
 use Rattle.machine.specs.Outsides.{emptyWake, takenBy}
 use Rattle.machine.proofs.Runs.{heard, heard-fault}
 use Rattle.machine.proofs.Woken.{wakes-received}
-use Rattle.machine.proofs.Offers.{restOf}
 
 -- the word of an outside output
 abbrev outputAt : Machine → ℕ → ℕ

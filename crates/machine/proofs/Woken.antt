@@ -9,9 +9,9 @@ use borrow.Author.Tests.{lt-ltb}
 use Rattle.model.specs.Word.{notProcess}
 use Rattle.model.specs.Machine.{World, Act, Result, done, faults, next, _>>_, return, memorySize, poke, testPlace, join, communicate}
 use Rattle.model.specs.Machine.{spaceOf, stateWord}
-use Rattle.model.specs.Execute.{received, notify, waiting, ready}
-use Rattle.model.specs.Run.{land}
-use Rattle.model.specs.Outside.{waking}
+use Rattle.model.specs.Alternative.{notify, waiting, ready}
+use Rattle.model.specs.Execute.{received}
+use Rattle.model.specs.Run.{land, waking}
 use Rattle.model.specs.declared.Cpu.{Cpu}
 use Rattle.model.specs.declared.Setup.{Setup}
 use Rattle.model.specs.declared.FaultKind.the-variants.{Word}

@@ -5,7 +5,7 @@ ghost use Prim.Native.Nat.{_-_, _≤_};
 ghost use lib.ListN.{length, take, drop, replicate};
 ghost use Rattle.model.specs.Word.{notProcess};
 ghost use Rattle.model.specs.declared.StartAnswer.the-variants.{Started};
-ghost use Rattle.model.specs.Run.{registersAt, fresh as freshFor, blank as blankMachine, start as starting};
+ghost use Rattle.model.specs.Run.{registersAt, noTimer, fresh as freshFor, blank as blankMachine, start as starting};
 ghost use Rattle.model.specs.Answers.{refusedStart};
 ghost use Rattle.model.specs.Refusals.{startRefusal};
 
@@ -34,6 +34,17 @@ fn registers(w: u32, runs: bool) -> model::Cpu
     }
 }
 
+// No clock was given, and nobody is in the timer queue.
+fn no_timer() -> model::Timer
+    ensures { λ r. ⌜ r ≡ noTimer ⌝ }
+{
+    model::Timer {
+        clock: 0,
+        given: false,
+        front: model::constants::NOT_PROCESS,
+    }
+}
+
 // A machine that was started: the process at W has the processor.
 fn fresh(setup: model::Setup) -> model::Machine
     ensures { λ r. ⌜ r ≡ freshFor setup ⌝ }
@@ -41,6 +52,7 @@ fn fresh(setup: model::Setup) -> model::Machine
     model::Machine {
         cpu: registers(setup.base, true),
         setup: setup,
+        timer: no_timer(),
         offers: [0; 8],
         held: [false; 8],
         fault: model::Kept::Nothing,
@@ -61,6 +73,7 @@ pub fn blank() -> model::Machine
     model::Machine {
         cpu: registers(0, false),
         setup: setup,
+        timer: no_timer(),
         offers: [0; 8],
         held: [false; 8],
         fault: model::Kept::Nothing,

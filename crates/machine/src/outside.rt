@@ -84,12 +84,14 @@ pub fn with_registers(machine: model::Machine, cpu: model::Cpu) -> model::Machin
     ensures { λ r. ⌜ r ≡ machineWith cpu (machine .offers) (machine .held) (machine .fault) machine ⌝ }
 {
     let setup = machine.setup;
+    let timer = machine.timer;
     let offers = machine.offers;
     let held = machine.held;
     let fault = machine.fault;
     model::Machine {
         cpu: cpu,
         setup: setup,
+        timer: timer,
         offers: offers,
         held: held,
         fault: fault,
@@ -102,11 +104,13 @@ pub fn keep_fault(machine: model::Machine, k: model::FaultKind) -> model::Machin
 {
     let cpu = machine.cpu;
     let setup = machine.setup;
+    let timer = machine.timer;
     let offers = machine.offers;
     let held = machine.held;
     model::Machine {
         cpu: cpu,
         setup: setup,
+        timer: timer,
         offers: offers,
         held: held,
         fault: model::Kept::Fault(k),
@@ -136,6 +140,7 @@ fn hold(machine: model::Machine, k: u32, value: u32) -> model::Machine
 {
     let cpu = machine.cpu;
     let setup = machine.setup;
+    let timer = machine.timer;
     let mut offers = machine.offers;
     let mut held = machine.held;
     let fault = machine.fault;
@@ -144,6 +149,7 @@ fn hold(machine: model::Machine, k: u32, value: u32) -> model::Machine
     model::Machine {
         cpu: cpu,
         setup: setup,
+        timer: timer,
         offers: offers,
         held: held,
         fault: fault,

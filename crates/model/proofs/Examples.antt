@@ -13,6 +13,7 @@ use Rattle.model.specs.Layout as Layout
 use Rattle.model.specs.Scheme as Scheme
 use Rattle.model.specs.Code as Code
 use Rattle.model.specs.Machine as Machine
+use Rattle.model.specs.Timer as Timer
 use Rattle.model.specs.Execute as Execute
 use Rattle.model.specs.Run as Run
 use Rattle.model.specs.Outside as Outside
@@ -34,8 +35,9 @@ unfolding Word.signed Number.groups Number.number Reader.readNumber Reader.oneOf
     Code.prefixesOf Code.bytesIn Code.placeOf Code.functionIn Code.operandIn Code.encode Code.codeOf Code.fitting Code.compile
     Machine.nameOf Machine.spaceOf Machine.peek Machine.poke Machine.testPlace Machine.resume Machine.release Machine.join
     Execute.loadLocal Execute.storeLocal Execute.stopProcess Execute.waitAt Execute.receive Execute.received Execute.outputWord
-    Execute.operate Execute.execute Run.fetch Run.act Run.land Run.byte Run.runFrom Run.run Run.fresh Run.cleared Run.start
-    Outside.looking Outside.waking Outside.taking Outside.take
+    Timer.wakeFrom Timer.wakeSleepers Word.after Execute.operate Execute.execute
+    Run.fetch Run.act Run.land Run.byte Run.waking Run.beginning Run.runFrom Run.begunRun Run.run Run.fresh Run.cleared Run.start
+    Outside.looking Outside.taking Outside.take
     Bench.digits
     Bench.hex Bench.takes Bench.rounds Bench.bench Occam.operate Occam.deny Occam.eval Bench.ascii
     Examples.inSeqs Examples.inNots Examples.copies Examples.inVars

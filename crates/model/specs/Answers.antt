@@ -7,7 +7,7 @@ use Rattle.model.specs.declared.FaultKind.the-variants.{Function, Operat
 use Rattle.model.specs.declared.Outcome.{Outcome}
 use Rattle.model.specs.declared.Outcome.the-variants.{Ended, Waiting, Spent, Fault as RunFault}
 use Rattle.model.specs.declared.RunAnswer.{RunAnswer}
-use Rattle.model.specs.declared.RunAnswer.the-variants.{Ran, Short as RunShort}
+use Rattle.model.specs.declared.RunAnswer.the-variants.{Ran, EarlierClock, Short as RunShort}
 use Rattle.model.specs.declared.StartAnswer.{StartAnswer}
 use Rattle.model.specs.declared.StartAnswer.the-variants.{Started, BadSlice, BadCount, TooLarge, Short as StartShort}
 use Rattle.model.specs.declared.OfferAnswer.{OfferAnswer}
@@ -64,9 +64,10 @@ refusedOutcome (Waiting n) = none
 refusedOutcome (Spent n) = none
 refusedOutcome (RunFault n k) = refusedFault k
 
--- a run: rows 11 and 12
+-- a run: rows 11 and 12, and 16, which returns nothing more (02, order 4)
 abbrev pub refusedRun : RunAnswer → Option Refusal
 refusedRun (Ran o) = refusedOutcome o
+refusedRun EarlierClock = refusal 16 []
 refusedRun (RunShort n) = refusal 11 (n ∷ [])
 
 -- a start: rows 15, 3 and 10 at place 0, and 11

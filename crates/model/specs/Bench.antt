@@ -19,7 +19,7 @@ use Rattle.model.specs.Outside.{take}
 use Rattle.model.specs.declared.Machine.{Machine}
 use Rattle.model.specs.declared.Outcome.the-variants.{Ended, Waiting, Spent, Fault}
 use Rattle.model.specs.declared.RunAnswer.{RunAnswer}
-use Rattle.model.specs.declared.RunAnswer.the-variants.{Ran, Short}
+use Rattle.model.specs.declared.RunAnswer.the-variants.{Ran, EarlierClock, Short}
 use Rattle.model.specs.declared.TakeAnswer.{TakeAnswer}
 use Rattle.model.specs.declared.TakeAnswer.the-variants.{Taken, Nothing, Short as TakeShort, Fault as TakeFault, NoChannel}
 
@@ -104,6 +104,10 @@ benchBudget = 65536
 abbrev pub benchSlice : ℕ
 benchSlice = 32
 
+-- 02, order 4: "the bench program's is always 0"
+abbrev pub benchClock : ℕ
+benchClock = 0
+
 -- where none has a sender the bench program stops; else it goes on
 abbrev pub onTakes : Takes → ℕ → (Machine → List ℕ → List ℕ) → List ℕ
 onTakes t total more =
@@ -120,6 +124,7 @@ onRun r outs total more =
         | Spent n ↦ line "spent " (total + n)
         | Fault n k ↦ line "fault " (total + n)
       ]
+      | EarlierClock ↦ []
       | Short n ↦ []
     ]
 
@@ -129,7 +134,7 @@ onRun r outs total more =
 unfoldable pub rounds : (fuel : ℕ) (program : List ℕ) (outputs total : ℕ) → Machine → List ℕ → List ℕ
 rounds zero prog outs total m memory = []
 rounds (suc f) prog outs total m memory =
-    onRun (run m prog memory (benchBudget - total)) outs total (λ n m2 memory2. rounds f prog outs n m2 memory2)
+    onRun (run m prog memory (benchBudget - total) benchClock) outs total (λ n m2 memory2. rounds f prog outs n m2 memory2)
 
 -- code length, memory words with channels, the code, then the outputs and how it stood
 abbrev pub ofStart : Program → List ℕ → List ℕ

@@ -9,9 +9,10 @@ use Rattle.model.specs.Syntax.{Site, Program}
 use Rattle.model.specs.Accept.{limit}
 use Rattle.model.specs.Layout.{base, wordOf}
 use Rattle.model.specs.Code.{compiled, compile}
-use Rattle.model.specs.Machine.{Talk}
+use Rattle.model.specs.Machine.{Talk, talks as heard}
 use Rattle.model.specs.Run.{After, start, ended, waits}
-use Rattle.model.specs.Occam.{Frame, inSeq, inVar, inWhile, Process, finished, framesOf, look, State, Communication, Step, Event}
+use Rattle.model.specs.Occam.{Frame, inSeq, inVar, inWhile, Process, finished, framesOf, look, State, Communication, talks, Step}
+use Rattle.model.specs.Occam.{Event}
 use Rattle.model.specs.Occam.{Outside, initial, Stuck}
 use Rattle.model.specs.History.{Call, Moment, quietly, history}
 use Rattle.model.specs.declared.Machine.{Machine}
@@ -80,7 +81,7 @@ Live p x = (path : List ℕ) × (q : Process) × (look path p ≡ some q) × Lis
 module _ (p : Program) where
   -- a communication is compared by its channel's word and its value
   abbrev pub talkOf : Communication → Talk
-  talkOf c = record { channel = wordOf p (c .channel); value = c .value }
+  talkOf (talks c v) = heard (wordOf p c) v
 
   -- what is found in the machine is no fault but what the run leaves by then: the same live variables, ended if the machine ended,
   -- unable to go on though not ended exactly if the machine waits

@@ -25,10 +25,11 @@ use Rattle.model.specs.Prefix.{withPrefixes, fewest, distancePrefixes, d
 use Rattle.model.specs.Scheme.{exprCode, codeEnable, codeDisable}
 use Rattle.model.specs.Code.{Compilation, compiled, refused as uncompiled, compile, numberOf, returnedOf}
 use Rattle.model.specs.Answers.{Refusal, refusal, refusedReading}
-use Rattle.model.specs.Execute.{enabling, waiting, ready, noneSelected}
+use Rattle.model.specs.Alternative.{enabling, waiting, ready, noneSelected}
+use Rattle.model.specs.Timer.{timeSet, timeNotSet}
 use Rattle.model.specs.Run.{start}
 use Rattle.model.specs.Occam.{operate, Store, eval}
-use Rattle.model.specs.Bench.{ascii, benchBudget, benchSlice, bench}
+use Rattle.model.specs.Bench.{ascii, benchBudget, benchSlice, benchClock, bench}
 use Rattle.model.specs.declared.Cpu.{Cpu}
 
 -- an instruction with so many prefixes is these bytes, and they decode to it again
@@ -337,16 +338,19 @@ pub record Examples : Type 0 where
       ⧺ wrapped (exprCode word 94 0 storesOne) (operation enbs ∷ [])
       ⧺ wrapped (exprCode word 94 0 storesOne) (plain ldlp (less (word c) 100) ∷ operation rev ∷ distance ldc 71 70 ∷ operation disc ∷ [])
       ⧺ wrapped (exprCode word 94 0 storesOne) (distance ldc 77 70 ∷ operation diss ∷ [])
-  -- the guide's values: NotProcess, the ALT states Enabling, Waiting and Ready, NoneSelected; the codes of functions and of operations
-  pub values : (notProcess ∷ enabling ∷ waiting ∷ ready ∷ noneSelected ∷ []) ⧺ map functionCode functions ⧺ map operationCode operations
-      ≡ 0x80000000 ∷ 0x80000001 ∷ 0x80000002 ∷ 0x80000003 ∷ 0xffffffff
+  -- the guide's values: NotProcess, the ALT states Enabling, Waiting and Ready, NoneSelected, TimeSet and TimeNotSet; the codes of
+  -- functions and of operations
+  pub values : (notProcess ∷ enabling ∷ waiting ∷ ready ∷ noneSelected ∷ timeSet ∷ timeNotSet ∷ [])
+      ⧺ map functionCode functions ⧺ map operationCode operations
+      ≡ 0x80000000 ∷ 0x80000001 ∷ 0x80000002 ∷ 0x80000003 ∷ 0xffffffff ∷ 0x80000001 ∷ 0x80000002
       ∷ 0x0 ∷ 0x1 ∷ 0x4 ∷ 0x7 ∷ 0xa ∷ 0xb ∷ 0xc ∷ 0xd ∷ 0xf
       ∷ 0x00 ∷ 0x03 ∷ 0x04 ∷ 0x07 ∷ 0x08 ∷ 0x09 ∷ 0x0d ∷ 0x0f ∷ 0x15 ∷ 0x1b ∷ 0x2f
-      ∷ 0x30 ∷ 0x33 ∷ 0x42 ∷ 0x43 ∷ 0x44 ∷ 0x45 ∷ 0x46 ∷ 0x48 ∷ 0x49 ∷ 0x4b ∷ 0x52 ∷ []
-  -- 01's limits in the order of Limits.antt, the live processes, and the bench program's slice and budget
+      ∷ 0x30 ∷ 0x33 ∷ 0x42 ∷ 0x43 ∷ 0x44 ∷ 0x45 ∷ 0x46 ∷ 0x48 ∷ 0x49 ∷ 0x4b ∷ 0x52
+      ∷ 0x22 ∷ 0x2b ∷ 0x2e ∷ 0x47 ∷ 0x4e ∷ 0x51 ∷ []
+  -- 01's limits in the order of Limits.antt, the live processes, and the bench program's slice, budget and clock
   pub limits : tableLimit ∷ codeLimit ∷ wordLimit ∷ depthLimit ∷ registerLimit ∷ channelLimit ∷ nameLimit ∷ partLimit ∷ branchLimit
-      ∷ sliceLimit ∷ limit ∷ benchSlice ∷ benchBudget ∷ []
-      ≡ 16384 ∷ 16384 ∷ 4096 ∷ 32 ∷ 3 ∷ 8 ∷ 32 ∷ 32 ∷ 16 ∷ 65535 ∷ 64 ∷ 32 ∷ 65536 ∷ []
+      ∷ sliceLimit ∷ limit ∷ benchSlice ∷ benchBudget ∷ benchClock ∷ []
+      ≡ 16384 ∷ 16384 ∷ 4096 ∷ 32 ∷ 3 ∷ 8 ∷ 32 ∷ 32 ∷ 16 ∷ 65535 ∷ 64 ∷ 32 ∷ 65536 ∷ 0 ∷ []
   -- registers start as 0, with W as the start has it; needed words as 0 and channels as NotProcess
   pub begins : numbersOf (start [] (7 ∷ 7 ∷ 7 ∷ 7 ∷ []) 2 1 0 1 .machine .cpu) ⧺ start [] (7 ∷ 7 ∷ 7 ∷ 7 ∷ []) 2 1 0 1 .memory
       ≡ 0 ∷ 0 ∷ 0 ∷ 0 ∷ 0 ∷ 2 ∷ 0 ∷ 0 ∷ 0 ∷ 0 ∷ 0 ∷ 0x80000000 ∷ 7 ∷ []

@@ -1,7 +1,7 @@
 -- What each instruction does, as INMOS's guide says (01, "The machine"; for held offers 01's own rules).
 -- Words are touched in the order written, and each touch sees those before it.
 use Prim.Native.Nat.{ℕ, _+_, _-_, _*_, _^_}
-use mathlib.Core.Bool.{Bool, false, cond, _||_}
+use mathlib.Core.Bool.{Bool, false, cond}
 use mathlib.Core.Option.{Option, none, some}
 use lib.ListN.{getD, set}
 use lib.Bits.{bitAnd, bitOr, bitXor}
@@ -9,23 +9,15 @@ use lib.Dec.{ltb, eqb}
 use Rattle.model.specs.Word.{low, less, truth, notProcess}
 use Rattle.model.specs.Instruction.{Function, j, ldlp, ldc, ldl, cj, ajw, eqc, stl, opr, Operation, rev, endp, diff, «in», prod, gt}
 use Rattle.model.specs.Instruction.{startp, outword, stopp, ldpi, disc, diss, xor, mint, alt, altwt, altend, and, enbc, enbs, or, sum}
-use Rattle.model.specs.Instruction.{operationOf}
-use Rattle.model.specs.Machine.{Act, return, fault, withOffers, registers, setRegisters, setup, communicate, _>>=_, _>>_, stack, goto}
-use Rattle.model.specs.Machine.{work, peek, poke, testPlace, resumeWord, stateWord, nameOf, spaceOf, release, join, isHeld, done}
+use Rattle.model.specs.Instruction.{ldtimer, tin, dist, enbt, talt, taltwt, operationOf}
+use Rattle.model.specs.Machine.{Act, fault, withOffers, registers, setRegisters, setup, communicate, _>>=_, _>>_, stack, goto, push}
+use Rattle.model.specs.Machine.{pop, reduce, changing, work, peek, poke, testPlace, resumeWord, stateWord, nameOf, spaceOf, release}
+use Rattle.model.specs.Machine.{join, heldAt, done}
+use Rattle.model.specs.Alternative.{isAltState, notify, beginAlt, enableChannel, enableSkip, waitAlt, disableChannel, disableSkip}
+use Rattle.model.specs.Alternative.{endAlt}
+use Rattle.model.specs.Timer.{loadTimer, timerInput, beginTimedAlt, enableTime, waitTimedAlt, disableTime}
 use Rattle.model.specs.declared.Cpu.{Cpu}
 use Rattle.model.specs.declared.FaultKind.the-variants.{Operation as BadOperation, Count}
-
--- a value comes onto the stack: LDLP, LDC, LDL, MINT
-abbrev pub push : ℕ → Cpu → Cpu
-push v r = stack v (r .a) (r .b) r
-
--- the top of the stack goes, C keeps: STL, CJ
-abbrev pub pop : Cpu → Cpu
-pop r = stack (r .b) (r .c) (r .c) r
-
--- a result in place of the two topmost values: B' = C, C keeps
-abbrev pub reduce : ℕ → Cpu → Cpu
-reduce v r = stack v (r .c) (r .c) r
 
 -- word operands count from W as adjusted at that place
 abbrev local : Cpu → ℕ → ℕ
@@ -65,12 +57,6 @@ unfoldable pub conditionalJump : ℕ → Act (Unit {0})
 conditionalJump n = do
   r ← registers
   cond (eqb (r .a) 0) (setRegisters (goto (low (r .place + n)) r)) (setRegisters (pop r))
-
--- the registers alone
-abbrev pub changing : (Cpu → Cpu) → Act (Unit {0})
-changing f = do
-  r ← registers
-  setRegisters (f r)
 
 -- GT compares signed words: with 2 ^ 31 added to both they compare unsigned
 abbrev pub above : ℕ → ℕ → Bool
@@ -126,10 +112,6 @@ received c p v = do
   join p
   communicate c v
 
--- whether an offer is held on a channel
-abbrev pub heldAt : ℕ → Act Bool
-heldAt c s = done (isHeld c (s .machine)) s
-
 -- where no offer is held: the value of a sender, else the process waits
 abbrev pub inputUnheld : Cpu → Act (Unit {0})
 inputUnheld r = do
@@ -153,32 +135,6 @@ inputMessage = do
   r ← registers
   cond (eqb (r .a) 4) inputWord (fault (Count (r .a)))
 
--- ALT states in W - 3: Enabling
-abbrev pub enabling : ℕ
-enabling = 2 ^ 31 + 1
-
--- Waiting
-abbrev pub waiting : ℕ
-waiting = 2 ^ 31 + 2
-
--- Ready
-abbrev pub ready : ℕ
-ready = 2 ^ 31 + 3
-
--- W - 3 holds an ALT state and not a message place
-abbrev pub isAltState : ℕ → Bool
-isAltState s = eqb s enabling || eqb s waiting || eqb s ready
-
--- NoneSelected, in W + 0 while no branch is chosen
-abbrev pub noneSelected : ℕ
-noneSelected = 2 ^ 32 - 1
-
--- a sender or an offer acts on an ALT's state: it becomes Ready, and a process that is Waiting is woken
-unfoldable pub notify : (process state : ℕ) → Act (Unit {0})
-notify p s = do
-  poke (stateWord (spaceOf p)) ready
-  cond (eqb s waiting) (join p) (return tt)
-
 -- a process that waits in IN gets the value at its message place
 unfoldable pub deliver : (channel process place value : ℕ) → Act (Unit {0})
 deliver c p m v = do
@@ -198,95 +154,6 @@ outputWord = do
         cond (isAltState s)
             (do waitAt (r .b) (r .workspace); notify p s; release)
             (deliver (r .b) p s (r .a)))
-
--- ALT: the state is Enabling
-unfoldable pub beginAlt : Act (Unit {0})
-beginAlt = do
-  r ← registers
-  poke (stateWord (r .workspace)) enabling
-
--- ENBC and ENBS: the state becomes Ready
-unfoldable pub setReady : Act (Unit {0})
-setReady = do
-  r ← registers
-  poke (stateWord (r .workspace)) ready
-
--- where no offer is held: an empty channel gets the process's name as a mark, which it may have already; a sender makes the ALT ready
-abbrev pub enableUnheld : Cpu → (channel : ℕ) → Act (Unit {0})
-enableUnheld r c = do
-  p ← peek c
-  cond (eqb p notProcess) (poke c (nameOf (r .workspace)))
-      (cond (eqb p (nameOf (r .workspace))) (return tt) setReady)
-
--- ENBC with a true condition: an empty channel gets a mark; a held offer or a sender makes the ALT ready
-unfoldable pub enableReady : (channel : ℕ) → Act (Unit {0})
-enableReady c = do
-  r ← registers
-  h ← heldAt c
-  cond h setReady (enableUnheld r c)
-
--- ENBC: A is the condition, true when not 0, B the channel. B' = C; A and C keep
-unfoldable pub enableChannel : Act (Unit {0})
-enableChannel = do
-  r ← registers
-  cond (eqb (r .a) 0) (return tt) (enableReady (r .b))
-  changing (λ q. stack (q .a) (q .c) (q .c) q)
-
--- ENBS: A is the condition, true when not 0. Registers keep
-unfoldable pub enableSkip : Act (Unit {0})
-enableSkip = do
-  r ← registers
-  cond (eqb (r .a) 0) (return tt) setReady
-
--- ALTWT: no branch is chosen yet; the process waits unless it is Ready
-unfoldable pub waitAlt : Act (Unit {0})
-waitAlt = do
-  r ← registers
-  poke (r .workspace) noneSelected
-  s ← peek (stateWord (r .workspace))
-  cond (eqb s ready) (return tt)
-      (do
-        poke (stateWord (r .workspace)) waiting
-        poke (resumeWord (r .workspace)) (r .place)
-        release)
-
--- DISC and DISS of a ready guard: its branch is chosen if none is yet. Gives 1 if it was, else 0
-unfoldable pub select : (branch : ℕ) → Act ℕ
-select b = do
-  r ← registers
-  t ← peek (r .workspace)
-  cond (eqb t noneSelected) (do poke (r .workspace) b; return 1) (return 0)
-
--- DISC with a true condition: a held offer or a sender is ready; the ALT's own mark goes, and with a held offer the word is NotProcess
-unfoldable pub disableReady : (channel branch : ℕ) → Act ℕ
-disableReady c b = do
-  r ← registers
-  h ← heldAt c
-  p ← peek c
-  cond h
-      (do t ← select b; poke c notProcess; return t)
-      (cond (eqb p notProcess) (return 0) (cond (eqb p (nameOf (r .workspace))) (do poke c notProcess; return 0) (select b)))
-
--- DISC: A is the branch's distance, B the condition, C the channel. A' says whether it was chosen; B and C keep
-unfoldable pub disableChannel : Act (Unit {0})
-disableChannel = do
-  r ← registers
-  t ← cond (eqb (r .b) 0) (return 0) (disableReady (r .c) (r .a))
-  changing (λ q. stack t (q .b) (q .c) q)
-
--- DISS: A is the branch's distance, B the condition. A' says whether it was chosen; B' = C, C keeps
-unfoldable pub disableSkip : Act (Unit {0})
-disableSkip = do
-  r ← registers
-  t ← cond (eqb (r .b) 0) (return 0) (select (r .a))
-  changing (λ q. stack t (q .c) (q .c) q)
-
--- ALTEND: to the chosen branch, at the distance in W + 0
-unfoldable pub endAlt : Act (Unit {0})
-endAlt = do
-  r ← registers
-  d ← peek (r .workspace)
-  setRegisters (goto (low (r .place + d)) r)
 
 -- the operations. SUM, DIFF and PROD keep the low 32 bits; REV swaps A and B; MINT pushes NotProcess; LDPI makes a distance a place
 unfoldable pub operate : Operation → Act (Unit {0})
@@ -312,6 +179,12 @@ operate altwt = waitAlt
 operate disc = disableChannel
 operate diss = disableSkip
 operate altend = endAlt
+operate ldtimer = loadTimer
+operate tin = timerInput
+operate talt = beginTimedAlt
+operate enbt = enableTime
+operate taltwt = waitTimedAlt
+operate dist = disableTime
 
 -- refusal 12: an operation that is not used is a fault with the operand as its number
 abbrev operateOr12 : Option Operation → ℕ → Act (Unit {0})

@@ -1,4 +1,4 @@
--- What is found in the machine over a list of calls (demand 3): a moment at each run's beginning, after each byte executed and after
+-- What is found in the machine over a list of calls (demand 3): a moment after each run's beginning, after each byte executed and after
 -- each call. The moment after the start is put in front of them in Demand.antt. Each call has the state, code and memory as the one
 -- before left them.
 use Prim.Native.Nat.{ℕ, zero, suc}
@@ -9,9 +9,9 @@ use lib.ListN.{length, drop}
 use lib.Dec.{ltb}
 use Rattle.model.specs.Word.{low}
 use Rattle.model.specs.Machine.{Talk, World, Result, done, faults}
-use Rattle.model.specs.Run.{After, worldOf, shortMemory, byte, ended, waits, run}
+use Rattle.model.specs.Run.{After, worldOf, shortMemory, byte, ended, waits, beginning, earlierClock, run}
 use Rattle.model.specs.Outside.{offer, take}
-use Rattle.model.specs.Occam.{Event, offers, takes}
+use Rattle.model.specs.Occam.{Event, offers, takes, ticks}
 use Rattle.model.specs.declared.Machine.{Machine}
 use Rattle.model.specs.declared.Kept.{Kept}
 use Rattle.model.specs.declared.Kept.the-variants.{Nothing as NoFault, Fault as KeptFault}
@@ -23,13 +23,13 @@ use Rattle.model.specs.declared.TakeAnswer.the-variants.{Taken, Nothing,
 use Rattle.model.specs.declared.TakeAnswer.the-variants.{NoChannel as TakeNoChannel}
 
 -- a call, with how many bytes of the code and words of the memory it lends. A run may be lent more code than the start had, with
--- anything behind (01: "Later runs use as much code as the start had"). An offer's value is a word
+-- anything behind (01: "Later runs use as much code as the start had"). An offer's value is a word, and so is a run's clock
 pub data Call : Type 0 where
-  callRun : (behind : List ℕ) (codeLent memoryLent budget : ℕ) → Call
+  callRun : (behind : List ℕ) (codeLent memoryLent budget clock : ℕ) → Call
   callOffer : (memoryLent k value : ℕ) → Call
   callTake : (memoryLent k : ℕ) → Call
 
--- what is found at a moment, with the communications, and the offer or take with its answer, since the moment before.
+-- what is found at a moment, with the communications, and the offer or take with its answer or the clock word, since the moment before.
 -- `instruction` says whether the moment is after a byte executed
 pub record Moment : Type 0 where
   pub instruction : Bool
@@ -38,7 +38,7 @@ pub record Moment : Type 0 where
   pub talk : List Talk
   pub events : List Event
 
--- a moment without communication, offer or take
+-- a moment without communication, offer, take or clock word
 abbrev pub quietly : Machine → List ℕ → Moment
 quietly m memory = record { instruction = false; machine = m; memory = memory; talk = []; events = [] }
 
@@ -58,10 +58,21 @@ bytes (suc n) code rest s =
     let more = onward (byte code s) (λ t. executed t rest ∷ bytes n code rest (worldOf (t .machine) (t .memory))) in
     cond (ended (s .machine) || waits (s .machine)) [] more
 
--- a run of a machine that keeps a fault executes nothing
-abbrev unlessKept : Kept → List Moment → List Moment
-unlessKept NoFault l = l
-unlessKept (KeptFault k) l = []
+-- a run that is refused, keeps a fault or cannot begin executes nothing, and its clock is not in force
+abbrev pub idle : Machine → (memory rest : List ℕ) → List Moment
+idle m memory rest = quietly m (memory ++ rest) ∷ []
+
+-- the moment after a run's beginning, with its clock word, and those of its bytes
+abbrev pub begun : Result (Unit {0}) → (clock budget : ℕ) → Machine → (code memory rest : List ℕ) → List Moment
+begun (faults k) c budget m code memory rest = idle m memory rest
+begun (done u t) c budget m code memory rest =
+    record { instruction = false; machine = t .machine; memory = t .memory ++ rest; talk = t .talk; events = ticks c ∷ [] }
+    ∷ bytes budget code rest (worldOf (t .machine) (t .memory))
+
+-- a kept fault
+abbrev pub unlessKept : Kept → (kept goes : List Moment) → List Moment
+unlessKept NoFault l k = k
+unlessKept (KeptFault f) l k = l
 
 -- an offer as the Occam run has it, with its answer. 01: what 11 or 13 refuses stays out; so does 12, which demand 3 rules out
 abbrev pub offerEvent : (k value : ℕ) → OfferAnswer → List Event
@@ -79,11 +90,12 @@ takeEvent k (TakeShort n) = []
 takeEvent k (TakeFault f) = []
 takeEvent k TakeNoChannel = []
 
--- a run's moments after its beginning and before its answer
-unfoldable pub during : Machine → (code memory rest : List ℕ) → (budget : ℕ) → List Moment
-during m code memory rest budget =
-    let all = unlessKept (m .fault) (bytes budget code rest (worldOf m memory)) in
-    cond (ltb (length code) (m .setup .code) || shortMemory m memory) [] all
+-- a run's moments before its answer
+unfoldable pub during : Machine → (code memory rest : List ℕ) → (budget clock : ℕ) → List Moment
+during m code memory rest budget c =
+    let none = idle m memory rest in
+    let all = unlessKept (m .fault) none (begun (beginning c (worldOf m memory)) c budget m code memory rest) in
+    cond (earlierClock m c || ltb (length code) (m .setup .code) || shortMemory m memory) none all
 
 -- the moments of a call, and the machine and memory that it leaves
 pub record Called : Type 0 where
@@ -103,12 +115,12 @@ answered r rest said =
 
 -- a call over the code and memory that it is lent. A run's communications are found at its bytes' moments
 unfoldable pub call : (code : List ℕ) → Call → Machine → (memory : List ℕ) → Called
-call code (callRun behind codeLent lent budget) m memory =
+call code (callRun behind codeLent lent budget clock) m memory =
     let lentCode = L.take codeLent (code ++ behind) in
-    let r = run m lentCode (L.take lent memory) budget in
+    let r = run m lentCode (L.take lent memory) budget (low clock) in
     let left = r .memory ++ drop lent memory in
     record {
-      moments = quietly m memory ∷ during m lentCode (L.take lent memory) (drop lent memory) budget ++ quietly (r .machine) left ∷ [];
+      moments = during m lentCode (L.take lent memory) (drop lent memory) budget (low clock) ++ quietly (r .machine) left ∷ [];
       machine = r .machine;
       memory = left;
     }

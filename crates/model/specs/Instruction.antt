@@ -29,9 +29,10 @@ pfixCode = 0x2
 abbrev pub nfixCode : ℕ
 nfixCode = 0x6
 
--- the operations that 01 uses
+-- the operations that 01 uses, and those of 02, order 4
 pub data Operation : Type 0 where
   rev endp diff «in» prod gt startp outword stopp ldpi disc diss xor mint alt altwt altend and enbc enbs or sum : Operation
+  ldtimer tin dist enbt talt taltwt : Operation
 
 -- the operand of OPR, as the guide codes the operation
 unfoldable pub operationCode : Operation → ℕ
@@ -57,6 +58,12 @@ operationCode enbc = 0x48
 operationCode enbs = 0x49
 operationCode or = 0x4b
 operationCode sum = 0x52
+operationCode ldtimer = 0x22
+operationCode tin = 0x2b
+operationCode dist = 0x2e
+operationCode enbt = 0x47
+operationCode talt = 0x4e
+operationCode taltwt = 0x51
 
 -- all direct functions other than the prefixes
 abbrev pub functions : List Function
@@ -66,7 +73,7 @@ functions = j ∷ ldlp ∷ ldc ∷ ldl ∷ cj ∷ ajw ∷ eqc ∷ stl ∷ opr �
 abbrev pub operations : List Operation
 operations =
     rev ∷ endp ∷ diff ∷ «in» ∷ prod ∷ gt ∷ startp ∷ outword ∷ stopp ∷ ldpi ∷ disc ∷ diss ∷ xor ∷ mint ∷ alt ∷ altwt ∷ altend ∷ and ∷ enbc
-    ∷ enbs ∷ or ∷ sum ∷ []
+    ∷ enbs ∷ or ∷ sum ∷ ldtimer ∷ tin ∷ dist ∷ enbt ∷ talt ∷ taltwt ∷ []
 
 -- the first of a list that has a code
 unfoldable pub coded : {A : Type 0} → (A → ℕ) → ℕ → List A → Option A

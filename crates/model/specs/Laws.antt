@@ -9,6 +9,7 @@ use mathlib.Core.List.{List, [], _∷_, _++_, List·Memᴰ}
 use mathlib.Core.Option.{some}
 use lib.ListN as L
 use lib.ListN.{length, drop}
+use Rattle.model.specs.Word.{low}
 use Rattle.model.specs.Limits.{codeLimit}
 use Rattle.model.specs.Syntax.{Program}
 use Rattle.model.specs.Accept.{memoryWords}
@@ -17,16 +18,17 @@ use Rattle.model.specs.Prefix.{withPrefixes, fewest, decode}
 use Rattle.model.specs.Code.{Compilation, compiled, refused, compile}
 use Rattle.model.specs.Machine.{Talk, World, done, faults, Act, _>>_, return, memorySize}
 use Rattle.model.specs.Answers.{instructionsOf}
-use Rattle.model.specs.Run.{byte, waits, keep, After, worldOf, start, run}
+use Rattle.model.specs.Run.{byte, waits, beginning, keep, After, worldOf, start, run}
 use Rattle.model.specs.Outside.{offer, take}
 use Rattle.model.specs.Bench.{line, codeLine, refusedLine, outLine, benchBudget, bench}
 use Rattle.model.specs.History.{Call, callRun, Moment, quietly, call, history}
 use Rattle.model.specs.declared.Machine.{Machine}
+use Rattle.model.specs.declared.FaultKind.{FaultKind}
 use Rattle.model.specs.declared.Kept.the-variants.{Nothing}
 use Rattle.model.specs.declared.Outcome.{Outcome}
 use Rattle.model.specs.declared.Outcome.the-variants.{Ended, Waiting, Spent, Fault as RunFault}
 use Rattle.model.specs.declared.RunAnswer.{RunAnswer}
-use Rattle.model.specs.declared.RunAnswer.the-variants.{Ran, Short as RunShort}
+use Rattle.model.specs.declared.RunAnswer.the-variants.{Ran, EarlierClock, Short as RunShort}
 
 -- an outcome that also counts the n instructions before it
 abbrev pub counted : ℕ → Outcome → Outcome
@@ -38,6 +40,7 @@ counted n (RunFault k e) = RunFault (n + k) e
 -- an answer, likewise
 abbrev pub later : ℕ → RunAnswer → RunAnswer
 later n (Ran o) = Ran (counted n o)
+later n EarlierClock = EarlierClock
 later n (RunShort k) = RunShort k
 
 -- f with its answer, and then g: only a spent run goes on; its count and its communications come before those of g
@@ -47,17 +50,24 @@ followed (Ran (Spent n)) f g =
 followed (Ran (Ended n)) f g = f
 followed (Ran (Waiting n)) f g = f
 followed (Ran (RunFault n k)) f g = f
+followed EarlierClock f g = f
 followed (RunShort k) f g = f
 
 -- a run f, and then g unless f ended, waits, faults or was refused
 abbrev pub andThen : (f g : After RunAnswer) → After RunAnswer
 andThen f g = followed (f .answer) f g
 
--- law 1: a run of a + b is a run of a and then one of b, from what the first left
+-- a run under this clock would wake nobody: its beginning changes nothing. So it is where no process is in the timer queue and one has the
+-- processor, and in each program's own runs. Arbitrary code can change a sleeper's time so that it has come
+abbrev pub WakesNobody : (clock : ℕ) → Machine → (memory : List ℕ) → Type 0
+WakesNobody c m memory = beginning c (worldOf m memory) ≡ done tt (worldOf m memory)
+
+-- law 1: a run of a + b is a run of a and then one of b under the same clock, from what the first left, where that one wakes nobody
 abbrev pub Splits : Type 0
-Splits = (m : Machine) (code memory : List ℕ) (a b : ℕ)
-    → let f = run m code memory a in
-    run m code memory (a + b) ≡ andThen f (run (f .machine) code (f .memory) b)
+Splits = (m : Machine) (code memory : List ℕ) (a b clock : ℕ)
+    → let f = run m code memory a clock in
+    WakesNobody clock (f .machine) (f .memory)
+    → run m code memory (a + b) clock ≡ andThen f (run (f .machine) code (f .memory) b clock)
 
 -- the words at and beyond the machine's memory are as they were, and no word came or went
 abbrev pub Beyond : {Answer : Type 0} → Machine → List ℕ → After Answer → Type 0
@@ -66,7 +76,7 @@ Beyond m memory f =
 
 -- law 2: a run never touches them, an offer does not, and a take does not
 abbrev pub KeepsBeyond : Type 0
-KeepsBeyond = (m : Machine) (code memory : List ℕ) (budget : ℕ) → Beyond m memory (run m code memory budget)
+KeepsBeyond = (m : Machine) (code memory : List ℕ) (budget clock : ℕ) → Beyond m memory (run m code memory budget clock)
 
 abbrev pub OfferKeepsBeyond : Type 0
 OfferKeepsBeyond = (m : Machine) (memory : List ℕ) (k value : ℕ) → Beyond m memory (offer m memory k value)
@@ -90,15 +100,20 @@ Took code budget s t (Spent n) = (bytes n code s ≡ done tt t) × (n ≡ budget
 Took code budget s t (RunFault n k) =
     (u : World) × (bytes n code s ≡ done tt u) × (byte code u ≡ faults k) × (t ≡ keep k u) × (n < budget)
 
+-- a run's beginning and then its bytes; or a fault in the beginning, whatever the budget, which is kept before any byte
+pub data Began (code : List ℕ) (budget clock : ℕ) (s t : World) : Outcome → Type 0 where
+  begun : {o : Outcome} (u : World) → beginning clock s ≡ done tt u → Took code budget u t o → Began code budget clock s t o
+  not-begun : (k : FaultKind) → beginning clock s ≡ faults k → t ≡ keep k s → Began code budget clock s t (RunFault 0 k)
+
 -- the world that a call leaves
 abbrev pub worldAfter : After RunAnswer → World
 worldAfter f = record { machine = f .machine; memory = f .memory; talk = f .talk }
 
 -- law 3: the count that a run answers is the steps that it took, where no fault was kept before
 abbrev pub CountsSteps : Type 0
-CountsSteps = (m : Machine) (code memory : List ℕ) (budget : ℕ) (o : Outcome) → m .fault ≡ Nothing
-    → let f = run m code memory budget in
-    f .answer ≡ Ran o → Took code budget (worldOf m memory) (worldAfter f) o
+CountsSteps = (m : Machine) (code memory : List ℕ) (budget clock : ℕ) (o : Outcome) → m .fault ≡ Nothing
+    → let f = run m code memory budget clock in
+    f .answer ≡ Ran o → Began code budget clock (worldOf m memory) (worldAfter f) o
 
 -- the moments after a byte executed
 abbrev pub afterBytes : List Moment → List Moment
@@ -110,7 +125,12 @@ abbrev pub talkIn : List Moment → List Talk
 talkIn [] = []
 talkIn (a ∷ l) = a .talk ++ talkIn l
 
--- what is found at the last of some moments; where there is none, what was there before
+-- what is found at the first of some moments; where there is none, what was there before
+abbrev pub firstOf : Moment → List Moment → Moment
+firstOf before [] = before
+firstOf before (a ∷ l) = a
+
+-- at the last of them, likewise
 abbrev pub lastOf : Moment → List Moment → Moment
 lastOf before [] = before
 lastOf before (a ∷ l) = lastOf a l
@@ -118,6 +138,7 @@ lastOf before (a ∷ l) = lastOf a l
 -- the instructions that an answer counts; a run that was refused executed none
 abbrev pub executedIn : RunAnswer → ℕ
 executedIn (Ran o) = instructionsOf o
+executedIn EarlierClock = 0
 executedIn (RunShort k) = 0
 
 -- the machine that a run leaves is its last byte's; a fault that it came to is kept
@@ -126,27 +147,29 @@ leaving (Ran (RunFault n k)) m = keep k (worldOf m []) .machine
 leaving (Ran (Ended n)) m = m
 leaving (Ran (Waiting n)) m = m
 leaving (Ran (Spent n)) m = m
+leaving EarlierClock m = m
 leaving (RunShort k) m = m
 
 -- a run is found in the history as it was: as many moments after bytes as instructions, its communications at these moments and at no
--- other, one behind the other, and at the last of them the machine and memory that it leaves. `rest` is the memory that it is not lent
+-- other, one behind the other, and at the last of them, or at the beginning's where there is none, the machine and memory that it leaves.
+-- `rest` is the memory that it is not lent
 pub record Recorded (moments : List Moment) (before : Moment) (rest : List ℕ) (f : After RunAnswer) : Type 0 where
   pub as-many : length (afterBytes moments) ≡ executedIn (f .answer)
   pub same-talk : talkIn (afterBytes moments) ≡ f .talk
   pub no-other-talk : talkIn moments ≡ f .talk
-  pub same-machine : leaving (f .answer) (lastOf before (afterBytes moments) .machine) ≡ f .machine
-  pub same-memory : lastOf before (afterBytes moments) .memory ≡ f .memory ++ rest
+  pub same-machine : leaving (f .answer) (lastOf (firstOf before moments) (afterBytes moments) .machine) ≡ f .machine
+  pub same-memory : lastOf (firstOf before moments) (afterBytes moments) .memory ≡ f .memory ++ rest
 
 -- law 4: the history's moments of a run are the run's, whatever it is lent
 abbrev pub Records : Type 0
-Records = (m : Machine) (code behind memory : List ℕ) (codeLent lent budget : ℕ)
-    → Recorded (call code (callRun behind codeLent lent budget) m memory .moments) (quietly m memory) (drop lent memory)
-    (run m (L.take codeLent (code ++ behind)) (L.take lent memory) budget)
+Records = (m : Machine) (code behind memory : List ℕ) (codeLent lent budget clock : ℕ)
+    → Recorded (call code (callRun behind codeLent lent budget clock) m memory .moments) (quietly m memory) (drop lent memory)
+    (run m (L.take codeLent (code ++ behind)) (L.take lent memory) budget (low clock))
 
 -- law 5: with more to spend a run's moments go on from those that it had, so each of them is the last one of a run
 abbrev pub Continues : Type 0
-Continues = (m : Machine) (code behind memory : List ℕ) (codeLent lent a b : ℕ)
-    → let found : ℕ → List Moment = λ budget. afterBytes (call code (callRun behind codeLent lent budget) m memory .moments) in
+Continues = (m : Machine) (code behind memory : List ℕ) (codeLent lent a b clock : ℕ)
+    → let found : ℕ → List Moment = λ budget. afterBytes (call code (callRun behind codeLent lent budget clock) m memory .moments) in
     (more : List Moment) × (found (a + b) ≡ found a ++ more)
 
 -- law 6, 01: "Waiting: no process has the processor and none is queued". `waits` looks at the first alone; no machine that a list of calls

@@ -7,15 +7,16 @@ use lib.Dec.{ltb, leb, eqb}
 use Rattle.model.specs.Word.{less}
 use Rattle.model.specs.declared.Cpu.{Cpu}
 use Rattle.model.specs.declared.Setup.{Setup}
+use Rattle.model.specs.declared.Timer.{Timer}
 use Rattle.model.specs.declared.Machine.{Machine}
 use Rattle.model.specs.declared.Kept.{Kept}
 use Rattle.model.specs.declared.FaultKind.{FaultKind}
 use Rattle.model.specs.declared.FaultKind.the-variants.{Word, Place}
 
--- a communication: the channel's word and the value
-pub record Talk : Type 0 where
-  pub channel : ℕ
-  pub value : ℕ
+-- what is heard from a machine: a communication, with the channel's word and the value; or LDTIMER, with the clock word that it read
+pub data Talk : Type 0 where
+  talks : (channel value : ℕ) → Talk
+  reads : (clock : ℕ) → Talk
 
 -- the machine, the lent memory, and the communications so far
 pub record World : Type 0 where
@@ -55,7 +56,8 @@ fault k s = faults k
 
 -- a machine with the parts that calls change replaced
 abbrev pub machineWith : Cpu → List ℕ → List Bool → Kept → Machine → Machine
-machineWith r offers held fault m = record { cpu = r; setup = m .setup; offers = offers; held = held; fault = fault }
+machineWith r offers held fault m =
+    record { cpu = r; setup = m .setup; timer = m .timer; offers = offers; held = held; fault = fault }
 
 -- with other registers
 abbrev pub withCpu : Cpu → World → World
@@ -73,6 +75,13 @@ withOffers o h s =
     let m = s .machine in
     record { machine = machineWith (m .cpu) o h (m .fault) m; memory = s .memory; talk = s .talk }
 
+-- with another clock and timer queue
+abbrev pub withTimer : Timer → World → World
+withTimer t s =
+    let m = s .machine in
+    let n : Machine = record { cpu = m .cpu; setup = m .setup; timer = t; offers = m .offers; held = m .held; fault = m .fault } in
+    record { machine = n; memory = s .memory; talk = s .talk }
+
 -- the registers as they are
 abbrev pub registers : Act Cpu
 registers s = done (s .machine .cpu) s
@@ -85,9 +94,31 @@ setRegisters r s = done tt (withCpu r s)
 abbrev pub setup : Act Setup
 setup s = done (s .machine .setup) s
 
+-- the clock and the timer queue as they are
+abbrev pub timer : Act Timer
+timer s = done (s .machine .timer) s
+
+-- a new clock
+abbrev pub setClock : (clock : ℕ) → Act (Unit {0})
+setClock c s = done tt (withTimer (record { clock = c; given = true; front = s .machine .timer .front }) s)
+
+-- another front of the timer queue
+abbrev pub setFront : (front : ℕ) → Act (Unit {0})
+setFront f s =
+    let t = s .machine .timer in
+    done tt (withTimer (record { clock = t .clock; given = t .given; front = f }) s)
+
+-- something is heard
+abbrev say : Talk → Act (Unit {0})
+say t s = done tt (record { machine = s .machine; memory = s .memory; talk = s .talk ++ t ∷ [] })
+
 -- 01, "Agreement": a communication comes where IN, OUTWORD, offer or take finds the other side
 abbrev pub communicate : ℕ → ℕ → Act (Unit {0})
-communicate c v s = done tt (record { machine = s .machine; memory = s .memory; talk = s .talk ++ record { channel = c; value = v } ∷ [] })
+communicate c v = say (talks c v)
+
+-- 02, order 4: LDTIMER's reading, which Occam's run gets too
+abbrev pub readClock : ℕ → Act (Unit {0})
+readClock c = say (reads c)
 
 -- the processor's registers in parts. The queue: its front and back, and whether it is not empty
 pub record Queue : Type 0 where
@@ -138,6 +169,18 @@ process a b c o p w n r =
 abbrev pub stack : (a b c : ℕ) → Cpu → Cpu
 stack a b c r = process a b c (r .operand) (r .place) (r .workspace) (r .count) r
 
+-- a value comes onto the stack: LDLP, LDC, LDL, MINT
+abbrev pub push : ℕ → Cpu → Cpu
+push v r = stack v (r .a) (r .b) r
+
+-- the top of the stack goes, C keeps: STL, CJ
+abbrev pub pop : Cpu → Cpu
+pop r = stack (r .b) (r .c) (r .c) r
+
+-- a result in place of the two topmost values: B' = C, C keeps
+abbrev pub reduce : ℕ → Cpu → Cpu
+reduce v r = stack v (r .c) (r .c) r
+
 -- the gathered operand
 abbrev pub gathering : (operand : ℕ) → Cpu → Cpu
 gathering o r = process (r .a) (r .b) (r .c) o (r .place) (r .workspace) (r .count) r
@@ -161,6 +204,12 @@ queueing f k q r = cpu (registersOf r) (record { front = f; back = k; queued = q
 -- whether a process has the processor
 abbrev pub running : Bool → Cpu → Cpu
 running t r = cpu (registersOf r) (queueOf r) t
+
+-- the registers alone
+abbrev pub changing : (Cpu → Cpu) → Act (Unit {0})
+changing f = do
+  r ← registers
+  setRegisters (f r)
 
 -- the machine's memory is the first W + channels words; later words are never touched
 abbrev pub memorySize : Setup → ℕ
@@ -189,6 +238,14 @@ linkWord w = less w 2
 -- W - 3 message place or ALT state
 abbrev pub stateWord : ℕ → ℕ
 stateWord w = less w 3
+
+-- 02, order 4: W - 4 link of the timer queue, or whether an ALT has a time
+abbrev pub timeLinkWord : ℕ → ℕ
+timeLinkWord w = less w 4
+
+-- W - 5 time that is waited for
+abbrev pub timeWord : ℕ → ℕ
+timeWord w = less w 5
 
 -- a process as the words of queues and channels hold it: its name, which is its workspace
 unfoldable pub nameOf : (workspace : ℕ) → ℕ
@@ -220,16 +277,23 @@ release = do
   r ← registers
   cond (r .queued) takeFront (setRegisters (running false r))
 
+-- a process joins the back of the queue
+abbrev pub enqueue : (name : ℕ) → Cpu → Act (Unit {0})
+enqueue p r =
+    cond (r .queued)
+    (do poke (linkWord (spaceOf (r .back))) p; setRegisters (queueing (r .front) p true r))
+    (setRegisters (queueing p p true r))
+
 -- a woken or started process joins the back of the queue; a free processor takes it at once
 unfoldable pub join : (name : ℕ) → Act (Unit {0})
 join p = do
   r ← registers
-  cond (r .running)
-      (cond (r .queued)
-      (do poke (linkWord (spaceOf (r .back))) p; setRegisters (queueing (r .front) p true r))
-      (setRegisters (queueing p p true r)))
-      (do setRegisters (queueing p p false r); resume p)
+  cond (r .running) (enqueue p r) (do setRegisters (queueing p p false r); resume p)
 
 -- whether an offer is held on a channel word: by address, the start's W + k
 abbrev pub isHeld : ℕ → Machine → Bool
 isHeld a m = leb (m .setup .base) a && ltb (a - m .setup .base) (m .setup .inputs) && getD (m .held) (a - m .setup .base) false
+
+-- whether an offer is held on a channel
+abbrev pub heldAt : ℕ → Act Bool
+heldAt c s = done (isHeld c (s .machine)) s

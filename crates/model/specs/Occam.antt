@@ -7,7 +7,7 @@ use mathlib.Core.Option.{Option, none, some}
 use lib.Bits.{bitAnd, bitOr, bitXor}
 use lib.Dec.{eqb}
 use lib.Signed.{ltZ}
-use Rattle.model.specs.Word.{low, less, signed, truth}
+use Rattle.model.specs.Word.{low, less, signed, after, truth}
 use Rattle.model.specs.Syntax.{Site, inputOf, outputOf, Expr, constant, variable, NOT, binary, Stmt, SKIP, STOP, assign, input}
 use Rattle.model.specs.Syntax.{output, VAR, CHAN, SEQ, PAR, IF, WHILE, ALT, Stmts, noStmt, stmt, Pairs, noPair, pair, Guard}
 use Rattle.model.specs.Syntax.{inputGuard, skipGuard, Guards, guard, Program}
@@ -214,20 +214,20 @@ unfoldable pub put : List ℕ → Process → Process → Process
 put [] q p = q
 put (i ∷ path) q p = elim (branchAt i (branchesOf p)) [ none ↦ p | some b ↦ inPar (setBranch i (put path q b) (branchesOf p)) (framesOf p) ]
 
--- the outermost process, the variables, and for each outside input the offer that waits there
+-- the outermost process, the variables, for each outside input the offer that waits there, and the last clock word given, if one was
 pub record State : Type 0 where
   pub process : Process
   pub store : Store
   pub offers : ℕ → Option ℕ
+  pub clock : Option ℕ
 
--- a communication: its channel and its value
-pub record Communication : Type 0 where
-  pub channel : Site
-  pub value : ℕ
+-- what a step shows: a communication, with its channel and its value
+pub data Communication : Type 0 where
+  talks : (channel : Site) (value : ℕ) → Communication
 
 -- the one communication of a step
 abbrev pub over-channel : Site → ℕ → List Communication
-over-channel c v = record { channel = c; value = v } ∷ []
+over-channel c v = talks c v ∷ []
 
 -- what an ALT goes on with where it takes a guard: the guard's input, if it waits for one, then its statement
 abbrev pub branchOf : Guard → Stmt → Stmt
@@ -236,9 +236,9 @@ branchOf (skipGuard e) s = s
 
 -- the steps of a state
 module _ (st : State) where
-  -- another process and store, the offers as they are
+  -- another process and store, offers and clock as they are
   abbrev replaced : List ℕ → Process → Store → State
-  replaced path p σ = record { process = put path p (st .process); store = σ; offers = st .offers }
+  replaced path p σ = record { process = put path p (st .process); store = σ; offers = st .offers; clock = st .clock }
 
   -- another offer, or none, on one outside input
   abbrev withOffer : ℕ → Option ℕ → ℕ → Option ℕ
@@ -279,32 +279,43 @@ module _ (st : State) where
           store = store x v
               (st .store);
           offers = st .offers;
+          clock = st .clock;
         })
     -- the same with an offer from outside as the sender
     receives : (path : List ℕ) {n v : ℕ} {x : Site} {k : List Frame} → look path (st .process) ≡ some (atInput (inputOf n) x k)
         → st .offers n ≡ some v
         → Step (over-channel (inputOf n) v)
-        (record { process = put path (resume k) (st .process); store = store x v (st .store); offers = withOffer n none })
+        (record {
+          process = put path (resume k) (st .process);
+          store = store x v
+              (st .store);
+          offers = withOffer n none;
+          clock = st .clock;
+        })
 
--- what the outside does, and what it is answered
+-- what the outside does, and what it is answered; and the clock word that a run brings
 pub data Event : Type 0 where
   offers : (k value : ℕ) → OfferAnswer → Event
   takes : (k : ℕ) → TakeAnswer → Event
+  ticks : (clock : ℕ) → Event
 
 module _ (st : State) where
   -- an offer is a sender waiting until received; another there meanwhile gets 14 and changes nothing. A take receives from a
-  -- sender, else answers none
+  -- sender, else answers none. The clock moves, but not to a word that the last one given is after (02, order 4)
   pub data Outside : Event → List Communication → State → Type 0 where
     offered : {k v : ℕ} → st .offers k ≡ none
-        → Outside (offers k v Offered) [] (record { process = st .process; store = st .store; offers = withOffer st k (some v) })
+        → Outside (offers k v Offered) []
+        (record { process = st .process; store = st .store; offers = withOffer st k (some v); clock = st .clock })
     held : {k v u : ℕ} → st .offers k ≡ some u → Outside (offers k v Held) [] st
     taken : {k v : ℕ} (path : List ℕ) {f : List Frame} → look path (st .process) ≡ some (atOutput (outputOf k) v f)
         → Outside (takes k (Taken v)) (over-channel (outputOf k) v) (replaced st path (resume f) (st .store))
     nobody : {k : ℕ} → (Sender st (outputOf k) → ⊥) → Outside (takes k Nothing) [] st
+    ticked : {c : ℕ} → ((t : ℕ) → st .clock ≡ some t → after t c ≡ false)
+        → Outside (ticks c) [] (record { process = st .process; store = st .store; offers = st .offers; clock = some c })
 
 -- a program before its first step
 unfoldable pub initial : Program → State
-initial p = record { process = begin (p .body) []; store = λ x. 0; offers = λ k. none }
+initial p = record { process = begin (p .body) []; store = λ x. 0; offers = λ k. none; clock = none }
 
 -- demand 3: Occam cannot go on though not ended
 pub record Stuck (st : State) : Type 0 where

@@ -7,10 +7,11 @@ use lib.ListN.{getD, set}
 use lib.Dec.{ltb, eqb}
 use Rattle.model.specs.Word.{notProcess}
 use Rattle.model.specs.Limits.{channelLimit}
-use Rattle.model.specs.Machine.{registers, Result, done, faults, Act, return, withOffers, setup, peek, stateWord, _>>=_, _>>_}
+use Rattle.model.specs.Machine.{Result, done, faults, Act, return, withOffers, setup, peek, stateWord, _>>=_, _>>_}
 use Rattle.model.specs.Machine.{spaceOf, memorySize}
-use Rattle.model.specs.Execute.{isAltState, notify, deliver, receive, received}
-use Rattle.model.specs.Run.{land, keep, shortMemory, After, unchanged, worldOf}
+use Rattle.model.specs.Alternative.{isAltState, notify}
+use Rattle.model.specs.Execute.{deliver, receive, received}
+use Rattle.model.specs.Run.{waking, keep, shortMemory, After, unchanged, worldOf}
 use Rattle.model.specs.declared.Machine.{Machine}
 use Rattle.model.specs.declared.Kept.{Kept}
 use Rattle.model.specs.declared.Kept.the-variants.{Nothing as NoFault, Fault as KeptFault}
@@ -24,13 +25,6 @@ use Rattle.model.specs.declared.TakeAnswer.the-variants.{NoChannel as Ta
 -- an offer is held for the outside input k
 abbrev pub hold : (k value : ℕ) → Act (Unit {0})
 hold k v s = done tt (withOffers (set (s .machine .offers) k v) (set (s .machine .held) k true) s)
-
--- where a free processor has taken a process, the code place that it went to is tested, after all words
-unfoldable pub waking : Act (Unit {0}) → Act (Unit {0})
-waking act = do
-  r ← registers
-  act
-  cond (r .running) (return tt) land
 
 -- a process waiting in IN gets an offer directly; else it is held, and acts on an ALT's state as a sender's would
 unfoldable pub offering : (k value : ℕ) → Act (Unit {0})

@@ -1,17 +1,18 @@
 -- Which refusal a call gets, in 01's numbers and in 01's order of tests ("When a call is turned down"). The answers'
 -- enums do not come in here: proofs/Laws/Refused.antt shows that their numbers (specs/Answers.antt) are these.
 use Prim.Native.Nat.{ℕ, _+_}
-use mathlib.Core.Bool.{false, cond, _||_}
+use mathlib.Core.Bool.{false, cond, _&&_, _||_}
 use mathlib.Core.List.{List, [], _∷_}
 use mathlib.Core.Option.{Option, none}
 use lib.ListN.{length, getD}
 use lib.Dec.{ltb, leb, eqb}
+use Rattle.model.specs.Word.{after}
 use Rattle.model.specs.Limits.{codeLimit, wordLimit, channelLimit, sliceLimit}
 use Rattle.model.specs.Reader.{Read, program, refused as unread}
 use Rattle.model.specs.Code.{Compilation, compiled, refused}
 use Rattle.model.specs.Machine.{Result, done, faults, memorySize}
 use Rattle.model.specs.Answers.{Refusal, refusal, faultKind, faultNumber}
-use Rattle.model.specs.Run.{worldOf, runFrom}
+use Rattle.model.specs.Run.{worldOf, begunRun}
 use Rattle.model.specs.Outside.{offering, taking}
 use Rattle.model.specs.declared.Machine.{Machine}
 use Rattle.model.specs.declared.FaultKind.{FaultKind}
@@ -61,11 +62,13 @@ abbrev pub cameTo : {A : Type 0} → Result A → Option Refusal
 cameTo (done a s) = none
 cameTo (faults k) = fault12 k
 
--- "Run, offer and take test 11 first", code before memory, "then a kept fault, which they answer again; then 13, 14 and, last, 12"
-unfoldable pub runRefusal : Machine → (code memory : List ℕ) → (budget : ℕ) → Option Refusal
-runRefusal m code memory budget =
-    or11 (length code) (m .setup .code) (or11 (length memory) (memorySize (m .setup))
-    (keptOr (m .fault) (ranInto (runFrom budget code 0 (worldOf m memory) .outcome))))
+-- "Run, offer and take test 11 first", code before memory, "then a kept fault, which they answer again; then 13, 14 and, last, 12". 02,
+-- order 4: "refusal 16, a clock that the last one given is after, tested before anything else in a run"
+unfoldable pub runRefusal : Machine → (code memory : List ℕ) → (budget clock : ℕ) → Option Refusal
+runRefusal m code memory budget c =
+    cond (m .timer .given && after (m .timer .clock) c) (refusal 16 [])
+    (or11 (length code) (m .setup .code) (or11 (length memory) (memorySize (m .setup))
+    (keptOr (m .fault) (ranInto (begunRun budget code c (worldOf m memory) .outcome)))))
 
 unfoldable pub offerRefusal : Machine → (memory : List ℕ) → (k value : ℕ) → Option Refusal
 offerRefusal m memory k v =

@@ -1,19 +1,21 @@
--- One byte, a start, and a run with a budget (01, "The machine", "When a call is turned down").
+-- One byte, a start, and a run with a budget and a clock (01, "The machine", "When a call is turned down"; 02, order 4).
 use Prim.Native.Nat.{ℕ, zero, suc, _+_, _/_, min}
 use mathlib.Core.Bool.{Bool, true, false, cond, not, _&&_}
 use mathlib.Core.List.{List, [], _++_}
 use mathlib.Core.Option.{Option, none, some}
 use lib.ListN.{length, getD, drop, replicate}
 use lib.Dec.{ltb, leb, eqb}
-use Rattle.model.specs.Word.{low, notProcess}
+use Rattle.model.specs.Word.{low, after, notProcess}
 use Rattle.model.specs.Limits.{codeLimit, wordLimit, channelLimit, sliceLimit}
 use Rattle.model.specs.Instruction.{Function, pfixCode, nfixCode, functionOf}
 use Rattle.model.specs.Prefix.{gathered, pfixed, nfixed}
 use Rattle.model.specs.Machine.{machineWith, Talk, World, Result, done, faults, Act, _>>=_, _>>_, return, fault, registers}
-use Rattle.model.specs.Machine.{setRegisters, setup, goto, gathering, counting, testPlace, memorySize}
+use Rattle.model.specs.Machine.{setRegisters, setup, setClock, goto, gathering, counting, testPlace, release, memorySize}
+use Rattle.model.specs.Timer.{wakeSleepers}
 use Rattle.model.specs.Execute.{execute}
 use Rattle.model.specs.declared.Cpu.{Cpu}
 use Rattle.model.specs.declared.Setup.{Setup}
+use Rattle.model.specs.declared.Timer.{Timer}
 use Rattle.model.specs.declared.Machine.{Machine}
 use Rattle.model.specs.declared.Kept.{Kept}
 use Rattle.model.specs.declared.Kept.the-variants.{Nothing, Fault as KeptFault}
@@ -22,7 +24,7 @@ use Rattle.model.specs.declared.FaultKind.the-variants.{Function as BadF
 use Rattle.model.specs.declared.Outcome.{Outcome}
 use Rattle.model.specs.declared.Outcome.the-variants.{Ended, Waiting, Spent, Fault as RunFault}
 use Rattle.model.specs.declared.RunAnswer.{RunAnswer}
-use Rattle.model.specs.declared.RunAnswer.the-variants.{Ran, Short as RunShort}
+use Rattle.model.specs.declared.RunAnswer.the-variants.{Ran, EarlierClock, Short as RunShort}
 use Rattle.model.specs.declared.StartAnswer.{StartAnswer}
 use Rattle.model.specs.declared.StartAnswer.the-variants.{Started, BadSlice, BadCount, TooLarge, Short as StartShort}
 
@@ -55,6 +57,13 @@ land = do
   r ← registers
   cond (r .running) (testPlace (r .place)) (return tt)
 
+-- where a free processor has taken a process, the code place that it went to is tested, after all words
+unfoldable pub waking : Act (Unit {0}) → Act (Unit {0})
+waking act = do
+  r ← registers
+  act
+  cond (r .running) (return tt) land
+
 -- one byte, which counts one instruction
 unfoldable pub byte : List ℕ → Act (Unit {0})
 byte code = do
@@ -70,6 +79,16 @@ ended m = m .cpu .running && eqb (m .cpu .place) (m .setup .code)
 -- from a start (Laws.antt, law 6); of others `queued` counts only while `running`
 abbrev pub waits : Machine → Bool
 waits m = not (m .cpu .running)
+
+-- a processor that is free takes the front of the queue
+abbrev pub settle : Act (Unit {0})
+settle = do
+  r ← registers
+  cond (r .running) (return tt) release
+
+-- 02, order 4, a run's beginning: the clock, then waking, then a free processor takes the front of the queue
+unfoldable pub beginning : (clock : ℕ) → Act (Unit {0})
+beginning c = waking (do setClock c; wakeSleepers; settle)
 
 -- how a run stood, and the world after it
 pub record Finish : Type 0 where
@@ -125,12 +144,22 @@ abbrev pub keptOrRun : Kept → Machine → List ℕ → Finish → After RunAns
 keptOrRun (KeptFault k) m memory f = unchanged (Ran (RunFault 0 k)) m memory
 keptOrRun Nothing m memory f = finished f
 
--- a run over lent code and lent memory: 11 first, code before memory
-unfoldable pub run : Machine → (code memory : List ℕ) → (budget : ℕ) → After RunAnswer
-run m code memory budget =
-    let ran = keptOrRun (m .fault) m memory (runFrom budget code 0 (worldOf m memory)) in
-    cond (ltb (length code) (m .setup .code)) (unchanged (RunShort (m .setup .code)) m memory)
-    (cond (shortMemory m memory) (unchanged (RunShort (memorySize (m .setup))) m memory) ran)
+-- a run's beginning, and then its bytes. "A fault in this comes before the run's first byte, budget 0 or not, and leaves all else as
+-- before the run"
+unfoldable pub begunRun : (budget : ℕ) → List ℕ → (clock : ℕ) → World → Finish
+begunRun budget code c s = onward (beginning c s) s 0 (λ t. runFrom budget code 0 t)
+
+-- refusal 16: a clock that the last one given is after
+abbrev pub earlierClock : Machine → (clock : ℕ) → Bool
+earlierClock m c = m .timer .given && after (m .timer .clock) c
+
+-- a run over lent code and lent memory, with its clock: 16 before anything else, then 11, code before memory
+unfoldable pub run : Machine → (code memory : List ℕ) → (budget clock : ℕ) → After RunAnswer
+run m code memory budget c =
+    let ran = keptOrRun (m .fault) m memory (begunRun budget code c (worldOf m memory)) in
+    cond (earlierClock m c) (unchanged EarlierClock m memory)
+    (cond (ltb (length code) (m .setup .code)) (unchanged (RunShort (m .setup .code)) m memory)
+    (cond (shortMemory m memory) (unchanged (RunShort (memorySize (m .setup))) m memory) ran))
 
 -- eight offer values, none of them held
 abbrev pub noOffers : List ℕ
@@ -157,9 +186,14 @@ registersAt w runs =
       queued = false;
     }
 
+-- 02, order 4: no clock was given, and nobody is in the timer queue
+abbrev pub noTimer : Timer
+noTimer = record { clock = 0; given = false; front = notProcess }
+
 -- a machine that was started: the process at W has the processor
 unfoldable pub fresh : Setup → Machine
-fresh u = record { cpu = registersAt (u .base) true; setup = u; offers = noOffers; held = noneHeld; fault = Nothing }
+fresh u =
+    record { cpu = registersAt (u .base) true; setup = u; timer = noTimer; offers = noOffers; held = noneHeld; fault = Nothing }
 
 -- no code, no memory, no channels
 abbrev pub noSetup : Setup
@@ -167,7 +201,7 @@ noSetup = record { code = 0; base = 0; inputs = 0; outputs = 0; slice = 0 }
 
 -- the machine with nothing in it, which a refused start gives back
 unfoldable pub blank : Machine
-blank = record { cpu = registersAt 0 false; setup = noSetup; offers = noOffers; held = noneHeld; fault = Nothing }
+blank = record { cpu = registersAt 0 false; setup = noSetup; timer = noTimer; offers = noOffers; held = noneHeld; fault = Nothing }
 
 -- 01: outside channels start as NotProcess, every other needed word as 0; later words stay
 unfoldable pub cleared : Setup → List ℕ → List ℕ

@@ -21,9 +21,10 @@ pub enum Outcome {
     Fault(u64, FaultKind),
 }
 
-// A run's answer. Short is refusal 11, with the size needed.
+// A run's answer: refusals 16, for a clock that the last one given is after, and 11, with the size needed.
 pub enum RunAnswer {
     Ran(Outcome),
+    EarlierClock,
     Short(u64),
 }
 
@@ -86,10 +87,18 @@ pub struct Setup {
     pub slice: u32,
 }
 
+// The last clock word given, whether one was given at all, and the front of the timer queue, NotProcess where it is empty.
+pub struct Timer {
+    pub clock: u32,
+    pub given: bool,
+    pub front: u32,
+}
+
 // The machine: up to eight held offers, one for each outside input.
 pub struct Machine {
     pub cpu: Cpu,
     pub setup: Setup,
+    pub timer: Timer,
     pub offers: [u32; 8],
     pub held: [bool; 8],
     pub fault: Kept,

@@ -43,3 +43,6 @@ pub const BRANCHES: u64 = 16;
 pub const BENCH_SLICE: u32 = 32;
 
 pub const BENCH_BUDGET: u64 = 65536;
+
+// The bench program's clock (document 02, order 4).
+pub const BENCH_CLOCK: u32 = 0;

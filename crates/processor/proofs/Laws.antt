@@ -8,16 +8,15 @@ use native.Mathlib.Omega.{arith}
 use lib.Seq.{set-set, set-getD}
 use lib.Dec.{ltb, leb·zero}
 use Rattle.model.specs.Machine.{World, Act, Result, done, faults, next, _>>_, return, setRegisters, running, queueing, spaceOf, memorySize}
-use Rattle.model.specs.Machine.{poke, testPlace, linkWord, resume, takeFront, release, join}
+use Rattle.model.specs.Machine.{poke, testPlace, linkWord, resume, takeFront, release, enqueue, join}
 use Rattle.model.specs.Word.{low}
 use Rattle.model.specs.Execute.{jump}
-use Rattle.model.specs.Run.{land}
-use Rattle.model.specs.Outside.{waking}
+use Rattle.model.specs.Run.{land, waking}
 use Rattle.model.specs.declared.Cpu.{Cpu}
 use Rattle.model.specs.declared.Setup.{Setup}
 use Rattle.model.specs.declared.FaultKind.{FaultKind}
 use Rattle.model.specs.declared.FaultKind.the-variants.{Word}
-use Rattle.processor.specs.Seen.{Rest, world, Does, looked, written, undone}
+use Rattle.processor.specs.Seen.{Rest, world, Changes, looked, written, undone}
 use Rattle.processor.specs.Pieces.{landing, landAt, pokeRelease, yieldSlice}
 use Rattle.processor.specs.declared.memory.Step.{Step}
 use Rattle.processor.specs.declared.memory.Step.the-variants.{Done, Fault}
@@ -38,11 +37,12 @@ fault-outside false v j k e = (refl, cc)
 back : (l m : List ℕ) (a v old : ℕ) → getD l a 0 ≡ old → m ≡ set l a v → set m a old ≡ l
 back l m a v old e k = rw (k, set-set, ← e, set-getD)
 
-module _ {u : Setup} {size : ℕ} (a v : ℕ) {l : List ℕ} {p : Peeked} (act : Act (Unit {0})) {r : Cpu} (h : memorySize u ≡ size) where
+module _ {φ ψ : Rest → Rest} {u : Setup} {size : ℕ} (a v : ℕ) {l : List ℕ} {p : Peeked} (act : Act (Unit {0})) {r : Cpu}
+    (h : memorySize u ≡ size) where
   -- a word is written, then an action, and on its fault the word gets back what it held
   pub undid :
       {old : ℕ} {m n o : List ℕ} {t : Step} (s : Step) → (p ≡ looked size a l) × (m ≡ written p a v l) → p ≡ Value old
-      → Does u act r m s n → (t ≡ s) × (o ≡ undone s a old n) → Does u (do poke a v; act) r l t o
+      → Changes φ ψ u act r m s n → (t ≡ s) × (o ≡ undone s a old n) → Changes φ ψ u (do poke a v; act) r l t o
   unfolding poke
   undid {old} {m} (Done q) (e, w) g d (t, i) =
       let b = value-inside (ltb a size) (getD l a 0) old (Word a) (sym e ∙ g) in
@@ -56,7 +56,7 @@ module _ {u : Setup} {size : ℕ} (a v : ℕ) {l : List ℕ} {p : Peeked} (act :
   -- the word is outside
   pub refused :
       {k : FaultKind} {m : List ℕ} → (p ≡ looked size a l) × (m ≡ written p a v l) → p ≡ Refused k
-      → Does u (do poke a v; act) r l (Fault k) m
+      → Changes φ ψ u (do poke a v; act) r l (Fault k) m
   unfolding poke
   refused {k} (e, w) g =
       let b = fault-outside (ltb a size) (getD l a 0) (Word a) k (sym e ∙ g) in
@@ -64,20 +64,20 @@ module _ {u : Setup} {size : ℕ} (a v : ℕ) {l : List ℕ} {p : Peeked} (act :
 
 -- an action that comes to another, perhaps with other registers
 pub like :
-    {u : Setup} {act other : Act (Unit {0})} {q r : Cpu} {l m : List ℕ} {s : Step} → Does u other q l s m
-    → ((x : Rest) → act (world x u r l) ≡ other (world x u q l)) → Does u act r l s m
+    {φ ψ : Rest → Rest} {u : Setup} {act other : Act (Unit {0})} {q r : Cpu} {l m : List ℕ} {s : Step} → Changes φ ψ u other q l s m
+    → ((x : Rest) → act (world (φ x) u r l) ≡ other (world (φ x) u q l)) → Changes φ ψ u act r l s m
 like d e = record { said = λ x. e x ∙ d .said x; keeps = d .keeps }
 
 -- an action that ends the answer
 pub ends :
-    {u : Setup} {act : Act (Unit {0})} {r q : Cpu} {l m : List ℕ} → ((x : Rest) → act (world x u r l) ≡ done tt (world x u q m))
-    → Does u act r l (Done q) m
+    {φ ψ : Rest → Rest} {u : Setup} {act : Act (Unit {0})} {r q : Cpu} {l m : List ℕ}
+    → ((x : Rest) → act (world (φ x) u r l) ≡ done tt (world (ψ x) u q m)) → Changes φ ψ u act r l (Done q) m
 ends e = record { said = e; keeps = tt }
 
 -- an action that faults
 pub faulty :
-    {u : Setup} {act : Act (Unit {0})} {r : Cpu} {l : List ℕ} {k : FaultKind} → ((x : Rest) → act (world x u r l) ≡ faults k)
-    → Does u act r l (Fault k) l
+    {φ ψ : Rest → Rest} {u : Setup} {act : Act (Unit {0})} {r : Cpu} {l : List ℕ} {k : FaultKind}
+    → ((x : Rest) → act (world (φ x) u r l) ≡ faults k) → Changes φ ψ u act r l (Fault k) l
 faulty e = record { said = e; keeps = refl }
 
 -- writing a word looks at no registers
@@ -121,20 +121,30 @@ module _ (x : Rest) (u : Setup) (r : Cpu) (l : List ℕ) where
   unfolding release
   release-frees e = at x u r l (pick-false (r .queued) _ _ e)
 
-  -- a process joins others that are queued
+  -- a process joins the queue of a busy processor
+  pub join-queues : (w : ℕ) → r .running ≡ true → join w (world x u r l) ≡ enqueue w r (world x u r l)
+  unfolding join
+  join-queues w t = at x u r l (pick-true (r .running) _ _ t)
+
+  -- behind others that are queued
+  pub enqueue-behind :
+      (w : ℕ) → r .queued ≡ true → enqueue w r (world x u r l) ≡ poke (linkWord (r .back)) w (world x u (queueing (r .front) w true r) l)
+  unfolding spaceOf
+  enqueue-behind w q =
+      at x u r l (pick-true (r .queued) _ _ q) ∙ poke-registers x u r (queueing (r .front) w true r) l (linkWord (r .back)) w
+
+  -- or as the only one
+  pub enqueue-first : (w : ℕ) → r .queued ≡ false → enqueue w r (world x u r l) ≡ done tt (world x u (queueing w w true r) l)
+  enqueue-first w q = at x u r l (pick-false (r .queued) _ _ q)
+
   pub join-behind :
       (w : ℕ) → r .running ≡ true → r .queued ≡ true
       → join w (world x u r l) ≡ poke (linkWord (r .back)) w (world x u (queueing (r .front) w true r) l)
-  unfolding join spaceOf
-  join-behind w t q =
-      at x u r l (pick-true (r .running) _ _ t ∙ pick-true (r .queued) _ _ q)
-      ∙ poke-registers x u r (queueing (r .front) w true r) l (linkWord (r .back)) w
+  join-behind w t q = join-queues w t ∙ enqueue-behind w q
 
-  -- or is the only one
   pub join-first :
       (w : ℕ) → r .running ≡ true → r .queued ≡ false → join w (world x u r l) ≡ done tt (world x u (queueing w w true r) l)
-  unfolding join
-  join-first w t q = at x u r l (pick-true (r .running) _ _ t ∙ pick-false (r .queued) _ _ q)
+  join-first w t q = join-queues w t ∙ enqueue-first w q
 
   -- a free processor takes a process at once
   pub join-free :

@@ -14,7 +14,7 @@ use Rattle.model.specs.declared.FaultKind.{FaultKind}
 use Rattle.model.specs.declared.FaultKind.the-variants.{Word}
 use Rattle.processor.specs.Seen.{Rest, world, Does}
 use Rattle.processor.specs.Pieces.{landing, pokeJoin}
-use Rattle.processor.specs.Quiet.{quiet, Hears, offering, KeepsHeld, Takes}
+use Rattle.processor.specs.Quiet.{quiet, Hears, offering, KeepsHeld, Takes, timing, KeepsFront, Times, Acts}
 use Rattle.processor.specs.declared.memory.Step.{Step}
 use Rattle.processor.specs.declared.memory.Step.the-variants.{Done, Fault}
 use Rattle.processor.proofs.Laws.{pick-true, join-behind, join-first}
@@ -107,3 +107,34 @@ poke-join-lands x u r l t p a v w = go (ltb a (memorySize u)) (set l a v) (Word 
         ≡ next (cond b (done (tt {0}) (world x u r m)) (faults k)) (λ n. join w)
     go true m k = join-lands x u r m t p (r .queued) refl w
     go false m k = refl
+
+-- the front stays where it is not changed
+pub front-stays : (s : Step) (f : ℕ) → KeepsFront s f f
+front-stays (Done r) f = tt
+front-stays (Fault k) f = refl
+
+-- an action that does not see the clock or the timer queue
+pub untimed :
+    {u : Setup} {act : Act (Unit {0})} {r : Cpu} {o : List ℕ} {b d : List Bool} {l m : List ℕ} {s : Step} (k f : ℕ)
+    → Takes u act r o b l s d m → Acts u act r o b k f l s d f m
+untimed {s = s} k f t =
+    record {
+      said = λ x. t .said (timing k f x);
+      keeps = t .keeps;
+      keepsHeld = t .keepsHeld;
+      keepsFront = front-stays s f;
+      long = t .long;
+    }
+
+-- one that sees no offers
+pub unoffered :
+    {u : Setup} {act : Act (Unit {0})} {r : Cpu} {k f g : ℕ} {l m : List ℕ} {s : Step} (o : List ℕ) (b : List Bool)
+    → Times u act r k f l s g m → Acts u act r o b k f l s b g m
+unoffered {s = s} o b t =
+    record {
+      said = λ x. ap quiet (t .does .said (offering o b x));
+      keeps = t .does .keeps;
+      keepsHeld = still-held s b;
+      keepsFront = t .keepsFront;
+      long = refl;
+    }

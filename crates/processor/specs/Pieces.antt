@@ -4,9 +4,8 @@ use mathlib.Core.Bool.{cond}
 use lib.Dec.{eqb}
 use Rattle.model.specs.Machine.{Act, _>>=_, _>>_, registers, setRegisters, goto, work, peek, poke, testPlace, resumeWord, stateWord, nameOf}
 use Rattle.model.specs.Machine.{spaceOf, release, join, return}
-use Rattle.model.specs.Execute.{isAltState, ready, waiting}
-use Rattle.model.specs.Run.{land}
-use Rattle.model.specs.Outside.{waking}
+use Rattle.model.specs.Alternative.{isAltState, ready, waiting}
+use Rattle.model.specs.Run.{land, waking}
 
 -- what an instruction does, and the test of the place where the processor goes
 abbrev pub landing : Act (Unit {0}) → Act (Unit {0})

@@ -8,7 +8,8 @@ use lib.Dec.{ltb, leb}
 use Rattle.model.specs.Machine.{Act, Result, done, faults, memorySize}
 use Rattle.model.specs.declared.Cpu.{Cpu}
 use Rattle.model.specs.declared.Setup.{Setup}
-use Rattle.processor.specs.Seen.{Rest, world, told, Keeps, Does}
+use Rattle.model.specs.declared.Timer.{Timer}
+use Rattle.processor.specs.Seen.{Rest, world, told, Keeps, Changes, Does}
 use Rattle.processor.specs.Pieces.{landing}
 use Rattle.processor.specs.declared.memory.Step.{Step}
 use Rattle.processor.specs.declared.memory.Step.the-variants.{Done, Fault}
@@ -42,7 +43,7 @@ pub record HeldAt (c : ℕ) (u : Setup) (b : List Bool) (k : ℕ) : Type 0 where
 
 -- the rest of a machine with these offers
 abbrev pub offering : List ℕ → List Bool → Rest → Rest
-offering o b x = record { offers = o; held = b; fault = x .fault; talk = x .talk }
+offering o b x = record { timer = x .timer; offers = o; held = b; fault = x .fault; talk = x .talk }
 
 -- on a fault the offers are held as they were
 abbrev pub KeepsHeld : Step → (before after : List Bool) → Type 0
@@ -60,3 +61,28 @@ pub record Takes (u : Setup) (act : Act (Unit {0})) (r : Cpu) (o : List ℕ) (b 
 -- an action that sees which offers are held, and takes none
 abbrev pub Sees : Setup → Act (Unit {0}) → Cpu → (held : List Bool) → (before : List ℕ) → Step → (after : List ℕ) → Type 0
 Sees u act r b l s m = (o : List ℕ) → Takes u act r o b l s b m
+
+-- the rest of a machine with this clock and this front of the timer queue
+abbrev pub timing : (clock front : ℕ) → Rest → Rest
+timing k f x =
+    let t : Timer = record { clock = k; given = x .timer .given; front = f } in
+    record { timer = t; offers = x .offers; held = x .held; fault = x .fault; talk = x .talk }
+
+-- on a fault the front is as it was
+abbrev pub KeepsFront : Step → (before after : ℕ) → Type 0
+KeepsFront (Done r) f g = Unit {0}
+KeepsFront (Fault k) f g = g ≡ f
+
+-- an action on the timer queue: from registers, front and memory to an answer, front and memory
+pub record Times (u : Setup) (act : Act (Unit {0})) (r : Cpu) (clock f : ℕ) (l : List ℕ) (s : Step) (g : ℕ) (m : List ℕ) : Type 0 where
+  pub does : Changes (timing clock f) (timing clock g) u act r l s m
+  pub keepsFront : KeepsFront s f g
+
+-- an action of a byte, which may communicate, take an offer and change the timer queue
+pub record Acts (u : Setup) (act : Act (Unit {0})) (r : Cpu) (o : List ℕ) (b : List Bool) (clock f : ℕ) (l : List ℕ) (s : Step)
+    (d : List Bool) (g : ℕ) (m : List ℕ) : Type 0 where
+  pub said : (x : Rest) → quiet (act (world (offering o b (timing clock f x)) u r l)) ≡ quiet (told (offering o d (timing clock g x)) u s m)
+  pub keeps : Keeps s l m
+  pub keepsHeld : KeepsHeld s b d
+  pub keepsFront : KeepsFront s f g
+  pub long : length d ≡ length b

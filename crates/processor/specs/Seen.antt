@@ -8,6 +8,7 @@ use lib.Dec.{ltb}
 use Rattle.model.specs.Machine.{World, Talk, Act, Result, done, faults, memorySize}
 use Rattle.model.specs.declared.Cpu.{Cpu}
 use Rattle.model.specs.declared.Setup.{Setup}
+use Rattle.model.specs.declared.Timer.{Timer}
 use Rattle.model.specs.declared.Kept.{Kept}
 use Rattle.model.specs.declared.FaultKind.the-variants.{Word}
 use Rattle.processor.specs.declared.memory.Step.{Step}
@@ -17,6 +18,7 @@ use Rattle.processor.specs.declared.memory.Peeked.the-variants.{Value, F
 
 -- what a function of registers and memory does not see
 pub record Rest : Type 0 where
+  pub timer : Timer
   pub offers : List ℕ
   pub held : List Bool
   pub fault : Kept
@@ -26,7 +28,7 @@ pub record Rest : Type 0 where
 abbrev pub world : Rest → Setup → Cpu → List ℕ → World
 world x u r l =
     record {
-      machine = record { cpu = r; setup = u; offers = x .offers; held = x .held; fault = x .fault };
+      machine = record { cpu = r; setup = u; timer = x .timer; offers = x .offers; held = x .held; fault = x .fault };
       memory = l;
       talk = x .talk;
     }
@@ -41,10 +43,15 @@ abbrev pub Keeps : Step → (before after : List ℕ) → Type 0
 Keeps (Done r) l m = Unit {0}
 Keeps (Fault k) l m = m ≡ l
 
--- an action, from registers and memory to an answer and memory
-pub record Does (u : Setup) (act : Act (Unit {0})) (r : Cpu) (before : List ℕ) (s : Step) (after : List ℕ) : Type 0 where
-  pub said : (x : Rest) → act (world x u r before) ≡ told x u s after
+-- an action, from registers and memory to an answer and memory, where the rest of the world is φ of what is not seen before, and ψ after
+pub record Changes (φ ψ : Rest → Rest) (u : Setup) (act : Act (Unit {0})) (r : Cpu) (before : List ℕ) (s : Step) (after : List ℕ)
+    : Type 0 where
+  pub said : (x : Rest) → act (world (φ x) u r before) ≡ told (ψ x) u s after
   pub keeps : Keeps s before after
+
+-- an action that does not see the rest
+abbrev pub Does : Setup → Act (Unit {0}) → Cpu → (before : List ℕ) → Step → (after : List ℕ) → Type 0
+Does = Changes (λ x. x) (λ x. x)
 
 -- the same for all machines with so many words
 abbrev pub Works : (size : ℕ) → Act (Unit {0}) → Cpu → (before : List ℕ) → Step → (after : List ℕ) → Type 0

@@ -3,7 +3,7 @@ use word::less;
 ghost use mathlib.Core.Path.{_≡_};
 ghost use Prim.Native.Nat.{_≤_};
 ghost use lib.ListN.{length};
-ghost use Rattle.model.specs.Machine.{peek as peekOf, poke as pokeOf, resumeWord, linkWord, stateWord};
+ghost use Rattle.model.specs.Machine.{peek as peekOf, poke as pokeOf, resumeWord, linkWord, stateWord, timeLinkWord, timeWord};
 ghost use Rattle.processor.specs.Seen.{Works, Finds, looked, written, undone};
 
 // What a byte came to: the registers after it, or the fault that kept it from beginning.
@@ -37,6 +37,20 @@ pub fn state_word(w: u32) -> u32
     ensures { λ r. ⌜ r ≡ stateWord w ⌝ }
 {
     less(w, 3)
+}
+
+// W - 4, the process behind it in the timer queue, or whether its ALT has a time.
+pub fn time_link_word(w: u32) -> u32
+    ensures { λ r. ⌜ r ≡ timeLinkWord w ⌝ }
+{
+    less(w, 4)
+}
+
+// W - 5, the time that it waits for.
+pub fn time_word(w: u32) -> u32
+    ensures { λ r. ⌜ r ≡ timeWord w ⌝ }
+{
+    less(w, 5)
 }
 
 // A word inside the machine's memory, or the fault with its address.

@@ -14,7 +14,7 @@ ghost use mathlib.Core.Path.{_≡_};
 ghost use mathlib.Core.Bool.{true};
 ghost use Prim.Native.Nat.{_≤_};
 ghost use lib.ListN.{length};
-ghost use Rattle.model.specs.Machine.{resume as resumeOf, takeFront, join as joinOf, memorySize};
+ghost use Rattle.model.specs.Machine.{resume as resumeOf, takeFront, join as joinOf, enqueue as enqueueOf, memorySize};
 ghost use Rattle.model.specs.Execute.{jump as jumpOf, startProcess, endProcess, stopProcess};
 ghost use Rattle.model.specs.Run.{land as landOf};
 ghost use Rattle.processor.specs.Seen.{Does, Works, Goes, Lands};
@@ -140,6 +140,14 @@ pub fn stop_process(memory: &mut [u32], size: u64, cpu: model::Cpu, code: u32) -
 pub fn join(memory: &mut [u32], size: u64, cpu: model::Cpu, w: u32) -> Step
     requires { ⌜ (size ≤ length (now memory)) × (cpu .running ≡ true) ⌝ }
     ensures { λ r. ⌜ Works size (joinOf w) cpu (now (memory .entry)) r (now (memory .exit)) ⌝ }
+{
+    enqueue(memory, size, cpu, w)
+}
+
+// A process joins the back of the queue, whoever has the processor.
+pub fn enqueue(memory: &mut [u32], size: u64, cpu: model::Cpu, w: u32) -> Step
+    requires { ⌜ size ≤ length (now memory) ⌝ }
+    ensures { λ r. ⌜ Works size (enqueueOf w cpu) cpu (now (memory .entry)) r (now (memory .exit)) ⌝ }
 {
     let mut r = cpu;
     r.back = w;

@@ -10,7 +10,7 @@ ghost use mathlib.Core.Path.{_≡_};
 ghost use mathlib.Core.Bool.{true};
 ghost use Prim.Native.Nat.{_≤_};
 ghost use lib.ListN.{length};
-ghost use Rattle.model.specs.Execute.{isAltState};
+ghost use Rattle.model.specs.Alternative.{isAltState};
 ghost use Rattle.processor.specs.Seen.{Goes};
 ghost use Rattle.processor.specs.Pieces.{wakeRelease, tellRelease, pokeTell, poke2Tell};
 

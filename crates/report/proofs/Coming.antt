@@ -11,11 +11,11 @@ use lib.Dec.{ltb, eqb}
 use borrow.Author.Tests.{ltb-true, ltb-false, lt-ltb, le-ltb, ne-eqb}
 use Rattle.model.specs.Run.{After, run}
 use Rattle.model.specs.Outside.{take as takeFrom}
-use Rattle.model.specs.Bench.{ascii, hex, tookOne, andTakes, takes, benchBudget, onTakes, onRun, rounds}
+use Rattle.model.specs.Bench.{ascii, hex, tookOne, andTakes, takes, benchBudget, benchClock, onTakes, onRun, rounds}
 use Rattle.model.specs.declared.Machine.{Machine}
 use Rattle.model.specs.declared.Outcome.the-variants.{Ended, Waiting, Spent, Fault}
 use Rattle.model.specs.declared.RunAnswer.{RunAnswer}
-use Rattle.model.specs.declared.RunAnswer.the-variants.{Ran, Short}
+use Rattle.model.specs.declared.RunAnswer.the-variants.{Ran, EarlierClock, Short}
 use Rattle.model.specs.declared.TakeAnswer.{TakeAnswer}
 use Rattle.model.specs.declared.TakeAnswer.the-variants.{Taken, Nothing, Short as TakeShort, Fault as TakeFault, NoChannel}
 use Rattle.model.proofs.Cases.{by-bool, of-cond, never}
@@ -75,6 +75,7 @@ module _ (prog : List ℕ) (r : Report) (l : List ℕ) where
   front-ran {f} h g (Ran (Waiting n)) e = let z : suc f - 1 ≡ f = omega arith in rw (e, h, z, sub-zero)
   front-ran h g (Ran (Spent n)) e = rw e (sym (append-nil _))
   front-ran h g (Ran (Fault n k)) e = rw e (sym (append-nil _))
+  front-ran h g EarlierClock e = rw e
   front-ran h g (Short n) e = rw e
 
   -- what a take stands for
@@ -130,7 +131,7 @@ module _ (prog : List ℕ) (r : Report) (l : List ℕ) where
   unfolding textFrom turnOf rounds
   front-running zero h e = rw (e, h)
   front-running (suc f) h e =
-      let g = run (r .machine) prog l (benchBudget - r .total) in
+      let g = run (r .machine) prog l (benchBudget - r .total) benchClock in
       rw (e, h, ne-eqb (suc f) 0 (λ z. omega arith)) (front-ran prog (runs f r) l refl g (g .answer) refl)
 
   front : (s : Stage) → r .stage ≡ s → Front prog r l (turnOf prog r l)
@@ -155,6 +156,7 @@ module _ (r : Report) (l : List ℕ) (m : Machine) (k : List ℕ) (e : length k 
   ran-kept (Ran (Waiting n)) = (refl, refl, e)
   ran-kept (Ran (Spent n)) = (refl, refl, e)
   ran-kept (Ran (Fault n f)) = (refl, refl, e)
+  ran-kept EarlierClock = (refl, refl, e)
   ran-kept (Short n) = (refl, refl, e)
 
 module _ (prog : List ℕ) (r : Report) (l : List ℕ) where
@@ -165,8 +167,8 @@ module _ (prog : List ℕ) (r : Report) (l : List ℕ) where
   turn-kept Head e = rw e (refl, refl, refl)
   turn-kept (Code i) e = rw e (of-cond (Kept r l) (ltb i (length prog)) (refl, refl, refl) (refl, refl, refl))
   turn-kept Running e =
-      let g = run (r .machine) prog l (benchBudget - r .total) in
-      let h = run-keeps-beyond (r .machine) prog l (benchBudget - r .total) .0 in
+      let g = run (r .machine) prog l (benchBudget - r .total) benchClock in
+      let h = run-keeps-beyond (r .machine) prog l (benchBudget - r .total) benchClock .0 in
       rw e (of-cond (Kept r l) (eqb (r .left) 0) (refl, refl, refl) (ran-kept (at Running r) l (g .machine) (g .memory) h (g .answer)))
   turn-kept (Taking k any) e =
       let h = take-keeps-beyond (r .machine) l k .0 in
@@ -209,6 +211,7 @@ module _ (r : Report) (e : r .stage ≡ Running) (f : ℕ) (h : r .left ≡ suc 
   ran-fewer (Ran (Waiting n)) i = rw (e, round-less (r .outputs) f h) (omega arith)
   ran-fewer (Ran (Spent n)) i = rw e (omega arith)
   ran-fewer (Ran (Fault n j)) i = rw e (omega arith)
+  ran-fewer EarlierClock i = rw e (omega arith)
   ran-fewer (Short n) i = rw e (omega arith)
 
 module _ (prog : List ℕ) (r : Report) (l : List ℕ) (long : length prog ≡ r .size) where
@@ -216,7 +219,7 @@ module _ (prog : List ℕ) (r : Report) (l : List ℕ) (long : length prog ≡ r
   unfolding turnOf
   running-fewer zero h e = rw (e, h) (λ i. omega arith)
   running-fewer (suc f) h e =
-      let g = run (r .machine) prog l (benchBudget - r .total) in
+      let g = run (r .machine) prog l (benchBudget - r .total) benchClock in
       rw (e, h, ne-eqb (suc f) 0 (λ z. omega arith)) (ran-fewer (runs f r) refl f refl (g .machine) (g .memory) (g .answer))
 
   turn-fewer : (s : Stage) → r .stage ≡ s → Fewer r (turnOf prog r l)
@@ -251,6 +254,7 @@ ran-more r m k (Ran (Ended n)) = refl
 ran-more r m k (Ran (Waiting n)) = refl
 ran-more r m k (Ran (Spent n)) = refl
 ran-more r m k (Ran (Fault n j)) = refl
+ran-more r m k EarlierClock = refl
 ran-more r m k (Short n) = refl
 
 module _ (prog : List ℕ) (r : Report) (l : List ℕ) where
@@ -261,7 +265,7 @@ module _ (prog : List ℕ) (r : Report) (l : List ℕ) where
   turn-last Head e m = never (cc (rw e at m))
   turn-last (Code i) e m = by-bool (ltb i (length prog)) (λ b. never (cc (rw (e, b) at m))) (λ b. never (cc (rw (e, b) at m)))
   turn-last Running e m =
-      let g = run (r .machine) prog l (benchBudget - r .total) in
+      let g = run (r .machine) prog l (benchBudget - r .total) benchClock in
       by-bool (eqb (r .left) 0) (λ b. never (cc (rw (e, b) at m)))
       (λ b. never (cc (rw (e, b) at m, ran-more (at Running r) (g .machine) (g .memory) (g .answer))))
   turn-last (Taking k any) e m =

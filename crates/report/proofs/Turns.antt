@@ -9,10 +9,10 @@ use lib.ListN.{length, take, drop, getD}
 use lib.Dec.{ltb}
 use borrow.Author.Tests.{ltb-false, lt-ltb, le-ltb, eq-eqb, ne-eqb}
 use Rattle.model.specs.Answers.{instructionsOf}
-use Rattle.model.specs.Run.{shortMemory, run}
-use Rattle.model.specs.Laws.{Took}
+use Rattle.model.specs.Run.{shortMemory, earlierClock, run}
+use Rattle.model.specs.Laws.{Took, Began, begun, not-begun}
 use Rattle.model.specs.Outside.{take as takeFrom}
-use Rattle.model.specs.Bench.{ascii, hex, newline, line, refusedLine, tookOne, benchBudget}
+use Rattle.model.specs.Bench.{ascii, hex, newline, line, refusedLine, tookOne, benchBudget, benchClock}
 use Rattle.model.specs.Machine.{World}
 use Rattle.model.specs.declared.Machine.{Machine}
 use Rattle.model.specs.declared.Kept.{Kept}
@@ -63,11 +63,11 @@ module _ (prog : List ℕ) (r : Report) (l : List ℕ) where
 
   pub turn-run :
       r .stage ≡ Running → (r .left ≡ 0 → ⊥)
-      → let f = run (r .machine) prog l (benchBudget - r .total) in
+      → let f = run (r .machine) prog l (benchBudget - r .total) benchClock in
       turnOf prog r l ≡ ranTurn r (f .machine) (f .memory) (f .answer)
   unfolding turnOf
   turn-run e h =
-      let f = run (r .machine) prog l (benchBudget - r .total) in
+      let f = run (r .machine) prog l (benchBudget - r .total) benchClock in
       rw (e, ne-eqb (r .left) 0 h)
 
   pub turn-take :
@@ -97,7 +97,7 @@ module _ (prog : List ℕ) (r : Report) (l : List ℕ) where
   -- a run, by what it answered and left
   pub ran :
       {x : Turn} {k : List ℕ} {b : ℕ} {a : RunAnswer} {m : Machine} → r .stage ≡ Running → (r .left ≡ 0 → ⊥) → b ≡ benchBudget - r .total
-      → let f = run (r .machine) prog l b in
+      → let f = run (r .machine) prog l b benchClock in
       a ≡ f .answer → m ≡ f .machine → k ≡ f .memory → Gives (ranTurn r m k a) x k → Gives (turnOf prog r l) x k
   ran e h c p q s g = rw (turn-run e h, ← c, ← p, ← q, ← s) g
 
@@ -117,16 +117,21 @@ took-within code b s t (Waiting n) h = h .1
 took-within code b s t (Spent n) h = omega (arith, h .1)
 took-within code b s t (Fault n k) h = omega (arith, h .4)
 
-module _ (m : Machine) (code l : List ℕ) (b : ℕ) (o : Outcome) (e : run m code l b .answer ≡ Ran o) where
+began-within : (code : List ℕ) (b c : ℕ) (s t : World) (o : Outcome) → Began code b c s t o → instructionsOf o ≤ b
+began-within code b c s t o (begun u e h) = took-within code b u t o h
+began-within code b c s t o (not-begun k e h) = omega arith
+
+module _ (m : Machine) (code l : List ℕ) (b c : ℕ) (o : Outcome) (e : run m code l b c .answer ≡ Ran o) where
   kept-within : (k : Kept) → m .fault ≡ k → instructionsOf o ≤ b
   unfolding run
-  kept-within Nothing f = took-within code b _ _ o (run-counts m code l b o f e)
+  kept-within Nothing f = began-within code b c _ _ o (run-counts m code l b c o f e)
   kept-within (KeptFault k) f =
-      by-bool (ltb (length code) (m .setup .code)) (λ s. never (cc (rw s at e)))
-      (λ s. by-bool (shortMemory m l) (λ t. never (cc (rw (s, t) at e)))
+      by-bool (earlierClock m c) (λ w. never (cc (rw w at e)))
+      (λ w. by-bool (ltb (length code) (m .setup .code)) (λ s. never (cc (rw (w, s) at e)))
+      (λ s. by-bool (shortMemory m l) (λ t. never (cc (rw (w, s, t) at e)))
       (λ t.
-      let q : Fault 0 k ≡ o = cc (rw (s, t, f) at e) in
-      rw (← q) (omega arith)))
+      let q : Fault 0 k ≡ o = cc (rw (w, s, t, f) at e) in
+      rw (← q) (omega arith))))
 
   pub run-within : instructionsOf o ≤ b
   run-within = kept-within (m .fault) refl

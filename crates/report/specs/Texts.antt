@@ -8,12 +8,13 @@ use lib.Dec.{ltb, eqb}
 use Rattle.model.specs.Run.{run}
 use Rattle.model.specs.Outside.{take as takeFrom}
 use Rattle.model.specs.Word.{signed}
-use Rattle.model.specs.Bench.{ascii, hex, newline, line, codeLine, refusedLine, signedDecimal, tookOne, takes, benchBudget, onTakes, rounds}
+use Rattle.model.specs.Bench.{ascii, hex, newline, line, codeLine, refusedLine, signedDecimal, tookOne, takes, benchBudget, benchClock}
+use Rattle.model.specs.Bench.{onTakes, rounds}
 use Rattle.model.specs.declared.Machine.{Machine}
 use Rattle.model.specs.declared.Outcome.{Outcome}
 use Rattle.model.specs.declared.Outcome.the-variants.{Ended, Waiting, Spent, Fault}
 use Rattle.model.specs.declared.RunAnswer.{RunAnswer}
-use Rattle.model.specs.declared.RunAnswer.the-variants.{Ran, Short}
+use Rattle.model.specs.declared.RunAnswer.the-variants.{Ran, EarlierClock, Short}
 use Rattle.model.specs.declared.TakeAnswer.{TakeAnswer}
 use Rattle.model.specs.declared.TakeAnswer.the-variants.{Taken, Nothing, Short as TakeShort, Fault as TakeFault, NoChannel}
 use Rattle.report.specs.declared.piece.Piece.{Piece}
@@ -94,6 +95,7 @@ stoodTurn r m l (Fault n k) = says (after m n Done r) (line "fault " (r .total +
 
 abbrev pub ranTurn : Report → Machine → (memory : List ℕ) → RunAnswer → Turned
 ranTurn r m l (Ran o) = stoodTurn r m l o
+ranTurn r m l EarlierClock = says (after m 0 Done r) [] l
 ranTurn r m l (Short n) = says (after m 0 Done r) [] l
 
 -- whether a take gave a value, or one before it did
@@ -111,7 +113,7 @@ tookTurn r k any m l a = says (taking m (Taking (suc k) (gave any a)) r) (tookOn
 -- a turn over the code and the machine's memory
 unfoldable pub turnOf : (prog : List ℕ) → Report → (memory : List ℕ) → Turned
 turnOf prog r l =
-    let f = run (r .machine) prog l (benchBudget - r .total) in
+    let f = run (r .machine) prog l (benchBudget - r .total) benchClock in
     elim (r .stage) [
       | Bytes ↦ says (at Words r) (line "bytes " (length prog)) l
       | Words ↦ says (at Head r) (line "words " (r .words)) l

@@ -96,6 +96,18 @@ fn budget(total: u64) -> u64
     0
 }
 
+// A run that was refused: the report is over.
+fn not_run(report: Report, machine: model::Machine) -> Turn
+    requires { ⌜ 1 ≤ report .left ⌝ }
+    ensures { λ r. ⌜ ((l : List ℕ) → Gives (says (after machine 0 Done report) [] l) r l) ⌝ }
+{
+    Turn {
+        report: after_run(report, machine, 0, Stage::Done),
+        piece: nothing(),
+        more: true,
+    }
+}
+
 // A run, while rounds are left.
 fn run_turn(report: Report, code: &[u8], memory: &mut [u32]) -> Turn
     requires { ⌜ report .stage ≡ Running ⌝ }
@@ -105,16 +117,19 @@ fn run_turn(report: Report, code: &[u8], memory: &mut [u32]) -> Turn
         return say(report, Stage::Done, nothing());
     }
     let before = report.machine;
-    let ran = machine::run(before, code, memory, budget(report.total));
+    let ran = machine::run(
+        before,
+        code,
+        memory,
+        budget(report.total),
+        model::limits::BENCH_CLOCK,
+    );
     let machine = ran.machine;
     let answer = ran.answer;
     match answer {
         model::RunAnswer::Ran(outcome) => stand(report, machine, outcome),
-        model::RunAnswer::Short(n) => Turn {
-            report: after_run(report, machine, 0, Stage::Done),
-            piece: nothing(),
-            more: true,
-        },
+        model::RunAnswer::EarlierClock => not_run(report, machine),
+        model::RunAnswer::Short(n) => not_run(report, machine),
     }
 }
 

@@ -2,16 +2,16 @@
 //
 // A line of the input is numbers in hexadecimal; what is no digit stands between numbers, and '#' begins a comment up to the end of the
 // line. A line without a number is no case. The numbers of a case, with '/' where it is easier to read:
-//   front back operand a b c workspace count place running queued / code base inputs outputs slice / eight offers / eight held flags /
-//   kind and number of the kept fault (kinds 1 to 5: function, operation, count, word, place; 0: none) / budget / words lent /
-//   code bytes lent, then these bytes / address=value for some words.
+//   front back operand a b c workspace count place running queued / code base inputs outputs slice / clock, whether one was given, and
+//   the timer queue's front / eight offers / eight held flags / kind and number of the kept fault (kinds 1 to 5: function, operation,
+//   count, word, place; 0: none) / budget and clock / words lent / code bytes lent, then these bytes / address=value for some words.
 // Every other word that is lent holds 7700 and its address.
 //
 // A line of the output has the answer (11 with the size needed), the registers and the setup in the order of the input, the held offers
 // as input=value, the kept fault, and as address=value the words lent that are no longer what they were. Numbers are hexadecimal.
 
-// The numbers that say a machine. Behind them come the budget, the words lent and the code bytes lent.
-const MACHINE: usize = 34;
+// The numbers that say a machine. Behind them come the budget, the clock, the words lent and the code bytes lent.
+const MACHINE: usize = 37;
 
 // The most words that a case is lent.
 const WORDS: usize = 4200;
@@ -44,6 +44,15 @@ fn setup(numbers: &[u64]) -> model::Setup {
         inputs: lines::word(numbers, 2),
         outputs: lines::word(numbers, 3),
         slice: lines::word(numbers, 4),
+    }
+}
+
+// Its clock and the front of its timer queue.
+fn timer(numbers: &[u64]) -> model::Timer {
+    model::Timer {
+        clock: lines::word(numbers, 0),
+        given: lines::flag(numbers, 1),
+        front: lines::word(numbers, 2),
     }
 }
 
@@ -92,9 +101,10 @@ fn machine(numbers: &[u64]) -> model::Machine {
     model::Machine {
         cpu: cpu(numbers),
         setup: setup(lines::rest(numbers, 11)),
-        offers: offers(lines::rest(numbers, 16)),
-        held: held(lines::rest(numbers, 24)),
-        fault: kept(lines::at(numbers, 32), lines::word(numbers, 33)),
+        timer: timer(lines::rest(numbers, 16)),
+        offers: offers(lines::rest(numbers, 19)),
+        held: held(lines::rest(numbers, 27)),
+        fault: kept(lines::at(numbers, 35), lines::word(numbers, 36)),
     }
 }
 
@@ -146,7 +156,13 @@ fn print_changes(before: &[u32], after: &[u32]) {
 
 // Runs a case, and writes its line. `before` and `memory` are the same words.
 fn run(numbers: &[u64], code: &[u8], before: &[u32], memory: &mut [u32]) {
-    let left = show::run(machine(numbers), code, memory, lines::at(numbers, MACHINE));
+    let left = show::run(
+        machine(numbers),
+        code,
+        memory,
+        lines::at(numbers, MACHINE),
+        lines::word(numbers, MACHINE + 1),
+    );
     show::print_machine(left, true);
     lines::write(b" /");
     print_changes(before, memory);
@@ -189,9 +205,9 @@ fn answer(numbers: &[u64]) {
     if numbers.len() == 0 {
         return;
     }
-    let words = lines::at(numbers, MACHINE + 1) as usize;
-    let length = lines::at(numbers, MACHINE + 2);
-    let rest = lines::rest(numbers, MACHINE as u64 + 3);
+    let words = lines::at(numbers, MACHINE + 2) as usize;
+    let length = lines::at(numbers, MACHINE + 3);
+    let rest = lines::rest(numbers, MACHINE as u64 + 4);
     lend(
         numbers,
         lines::front(rest, length),

@@ -30,6 +30,7 @@ fn outcome_standing(outcome: model::Outcome) -> Standing {
 pub fn run_standing(answer: model::RunAnswer) -> Standing {
     match answer {
         model::RunAnswer::Ran(outcome) => outcome_standing(outcome),
+        model::RunAnswer::EarlierClock => stood(5, 0),
         model::RunAnswer::Short(_) => stood(4, 0),
     }
 }
@@ -41,7 +42,8 @@ pub fn print_kind(kind: u64) {
         1 => write(b"ended"),
         2 => write(b"waiting"),
         3 => write(b"fault"),
-        _ => write(b"short"),
+        4 => write(b"short"),
+        _ => write(b"earlier clock"),
     }
 }
 
@@ -90,6 +92,7 @@ fn print_outcome(outcome: model::Outcome) {
 pub fn print_run(answer: model::RunAnswer) {
     match answer {
         model::RunAnswer::Ran(outcome) => print_outcome(outcome),
+        model::RunAnswer::EarlierClock => write(b"16"),
         model::RunAnswer::Short(size) => print_short(size),
     }
 }

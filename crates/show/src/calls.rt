@@ -9,8 +9,9 @@ pub fn run(
     code: &[u8],
     memory: &mut [u32],
     budget: u64,
+    clock: u32,
 ) -> model::Machine {
-    let ran = machine::run(machine, code, memory, budget);
+    let ran = machine::run(machine, code, memory, budget, clock);
     let left = ran.machine;
     let answer = ran.answer;
     print_run(answer);

@@ -29,10 +29,10 @@ pub fn begin(machine: model::Machine) -> Course {
     }
 }
 
-// A run of some more instructions.
+// A run of some more instructions, under the clock 0.
 pub fn go_on(course: Course, code: &[u8], memory: &mut [u32], budget: u64) -> Course {
     let before = course.machine;
-    let ran = machine::run(before, code, memory, budget);
+    let ran = machine::run(before, code, memory, budget, 0);
     let machine = ran.machine;
     let answer = ran.answer;
     let stands = run_standing(answer);

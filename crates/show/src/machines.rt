@@ -37,6 +37,13 @@ fn print_setup(setup: model::Setup) {
     print_hex(b" ", setup.slice as u64);
 }
 
+// Writes the clock, whether one was given, and the front of the timer queue.
+fn print_timer(timer: model::Timer) {
+    print_hex(b" / ", timer.clock as u64);
+    print_flag(timer.given);
+    print_hex(b" ", timer.front as u64);
+}
+
 // Writes an offer, if it is held.
 fn print_offer(i: usize, held: bool, offer: u32) {
     if held {
@@ -62,11 +69,12 @@ fn print_kept(fault: model::Kept) {
     }
 }
 
-// Writes a machine: the registers in the order of model::Cpu, what the start fixed if that is asked for, the held offers and the kept
-// fault.
+// Writes a machine: the registers in the order of model::Cpu, what the start fixed if that is asked for, clock and timer queue, the held
+// offers and the kept fault.
 pub fn print_machine(machine: model::Machine, with_setup: bool) {
     let cpu = machine.cpu;
     let setup = machine.setup;
+    let timer = machine.timer;
     let offers = machine.offers;
     let held = machine.held;
     let fault = machine.fault;
@@ -74,6 +82,7 @@ pub fn print_machine(machine: model::Machine, with_setup: bool) {
     if with_setup {
         print_setup(setup);
     }
+    print_timer(timer);
     write(b" /");
     print_offers(&held, &offers);
     print_kept(fault);

@@ -29,6 +29,7 @@ fn spent(answer: model::RunAnswer) -> u64 {
             model::Outcome::Spent(n) => n,
             model::Outcome::Fault(_, _) => 0,
         },
+        model::RunAnswer::EarlierClock => 0,
         model::RunAnswer::Short(_) => 0,
     }
 }
@@ -37,7 +38,7 @@ fn spent(answer: model::RunAnswer) -> u64 {
 fn measure(name: &[u8], code: &[u8]) {
     let mut memory = [0; 20];
     let begun = machine::start(code, &mut memory, 20, 0, 0, model::limits::BENCH_SLICE);
-    let ran = machine::run(begun.machine, code, &mut memory, 10000000);
+    let ran = machine::run(begun.machine, code, &mut memory, 10000000, 0);
     let answer = ran.answer;
     lines::write(name);
     print(b" spent ", spent(answer));

@@ -1,7 +1,7 @@
 // Arithmetic on words of 32 bits (document 01, "The machine").
 ghost use mathlib.Core.Path.{_≡_};
 ghost use Prim.Native.Nat.{_+_, _*_};
-ghost use Rattle.model.specs.Word.{low, less as lessOf, truth};
+ghost use Rattle.model.specs.Word.{low, less as lessOf, after as afterOf, truth};
 ghost use Rattle.model.specs.Execute.{above as aboveOf};
 
 // The low 32 bits of a sum.
@@ -33,4 +33,15 @@ pub fn above(b: u32, a: u32) -> u32
         return 1;
     }
     0
+}
+
+// The time x is after y: x less y, read signed, is above 0 (document 02, order 4).
+pub fn after(x: u32, y: u32) -> bool
+    ensures { λ r. ⌜ r ≡ afterOf x y ⌝ }
+{
+    let d = less(x, y);
+    if d == 0 {
+        return false;
+    }
+    d < 2147483648
 }

@@ -3,20 +3,20 @@ use Prim.Native.Nat.{ℕ, zero, suc, _-_, _^_, _≤_, _<_}
 use native.Mathlib.Omega.{arith}
 use mathlib.Core.Path.{_≡_, refl, sym, ap, _∙_, subst}
 use mathlib.Core.Logic.{_⊎_, inl, inr}
-use mathlib.Core.Bool.{Bool, true, false, _||_, _&&_}
+use mathlib.Core.Bool.{Bool, true, false, cond, _||_, _&&_}
 use mathlib.Core.List.{List, [], _∷_, _++_, map, append-nil, append-assoc}
 use mathlib.Core.Option.{none, some}
 use lib.ListN as Ls
 use lib.ListN.{length, getD, drop, length-append, length-take, take-append-drop, List·getD-append}
 use lib.Dec.{ltb}
 use borrow.Author.Tests.{ltb-true, ltb-false}
-use Rattle.model.specs.Word.{low}
+use Rattle.model.specs.Word.{low, after}
 use Rattle.model.specs.Syntax.{outputOf}
 use Rattle.model.specs.Accept.{limit}
 use Rattle.model.specs.Machine.{World, done, memorySize}
-use Rattle.model.specs.Run.{After, unchanged, worldOf, shortMemory, run}
+use Rattle.model.specs.Run.{After, unchanged, worldOf, shortMemory, earlierClock, run}
 use Rattle.model.specs.Outside.{taking, offered, offerUnless, took, takeUnless, offer, take}
-use Rattle.model.specs.Occam.{State, Communication, Event, offers, takes, Sender, held, nobody}
+use Rattle.model.specs.Occam.{State, Communication, Event, offers, takes, ticks, Sender, held, nobody, ticked}
 use Rattle.model.specs.Demand.{Segment, outside, talkOf}
 use Rattle.model.specs.History.{Call, callRun, callOffer, callTake, Moment, quietly, during, call, history, offerEvent, takeEvent}
 use Rattle.model.specs.declared.Machine.{Machine}
@@ -38,18 +38,20 @@ use Rattle.model.proofs.Outside.Offers.{offers-does}
 use Rattle.model.proofs.Demand.Agreement.{inv-no-fault}
 use Rattle.model.proofs.Demand.Chains.{Chain, chain-nil, chain-other, chain-append}
 use Rattle.model.proofs.Demand.Lending.{inv-lent, inv-room}
-use Rattle.model.proofs.Laws.Runs.{TooLittle, Goes, run-goes}
-use Rattle.model.proofs.Laws.Recorded.{during-short, during-goes}
+use Rattle.model.proofs.Outside.Ticks.{ticking, inv-ticks, inv-timed, begins-so}
+use Rattle.model.proofs.Laws.Made.{clocked}
+use Rattle.model.proofs.Laws.Runs.{Refused, Goes, run-goes}
+use Rattle.model.proofs.Laws.Recorded.{during-refused, opening, during-goes}
 use Rattle.model.proofs.Demand.Histories.{bound, follows, ran, run-bytes}
 
-module _ (m : Machine) (code memory : List ℕ) (budget : ℕ) where
-  -- a run that is lent too little
-  run-short : TooLittle m code memory
-      → (run m code memory budget .machine ≡ m) × (run m code memory budget .memory ≡ memory)
-  unfolding run
-  run-short z =
-      by-bool (ltb (length code) (m .setup .code)) (λ e. (rw e, rw e))
-      (λ e. by-bool (shortMemory m memory) (λ w. (rw (e, w), rw (e, w))) (λ w. never (cc (rw (e, w) at z))))
+-- a run that is refused
+run-refuses : (m : Machine) (code memory : List ℕ) (budget c : ℕ) → Refused m code memory c
+    → (run m code memory budget c .machine ≡ m) × (run m code memory budget c .memory ≡ memory)
+unfolding run
+run-refuses m code memory budget c z =
+    by-bool (earlierClock m c) (λ k. (rw k, rw k))
+    (λ k. by-bool (ltb (length code) (m .setup .code)) (λ e. (rw (k, e), rw (k, e)))
+    (λ e. by-bool (shortMemory m memory) (λ w. (rw (k, e, w), rw (k, e, w))) (λ w. never (cc (rw (k, e, w) at z)))))
 
 -- a front that is longer than a list is the list with something behind it
 take-past : (a b : List ℕ) (n : ℕ) → length a ≤ n → Ls.take n (a ++ b) ≡ a ++ Ls.take (n - length a) b
@@ -215,10 +217,10 @@ module _ (L : Loaded) where
           (λ b. by-bool (ltb k (m .setup .outputs)) (λ c. take-goes k b c)
           (λ c. refused {part = part} {rest = rest} TakeNoChannel refl e (take-open k b ∙ rw c)))
 
-    -- a run's moments around those of its bytes
+    -- a run's moments, the last one with what it leaves
     data RunEnd (rest : List ℕ) (dur : List Moment) (m′ : Machine) (part : List ℕ) : Type 0 where
       run-end : (gs : List Segment) (s : Sim m′ (part ++ rest))
-          → Chain (L .prog) (bound L) (quietly m memory ∷ dur ++ quietly m′ (part ++ rest) ∷ []) st gs (stateOf s) n (leftOf s)
+          → Chain (L .prog) (bound L) (dur ++ quietly m′ (part ++ rest) ∷ []) st gs (stateOf s) n (leftOf s)
           → RunEnd rest dur m′ part
 
     run-ends : {st′ : State} {k : ℕ} {dur : List Moment} {gs : List Segment} (rest : List ℕ) (t : World)
@@ -229,41 +231,71 @@ module _ (L : Loaded) where
         let on : Inv L (worldOf (t .machine) (t .memory ++ rest)) st′ k =
         inv-lent L {s = t} (t .memory ++ rest) [] fits
         (λ a h. List·getD-append (t .memory) rest 0 a (omega (arith, inv-room L inv′))) inv′ in
-        run-end (([] ∷ []) ++ gs ++ ([] ∷ [])) (sim st′ k on few′)
-        (chain-append (chain-append (same-moment memory refl inv) c) (same-moment (t .memory ++ rest) refl on))
+        run-end (gs ++ ([] ∷ [])) (sim st′ k on few′) (chain-append c (same-moment (t .memory ++ rest) refl on))
 
-    module _ (part rest : List ℕ) (e : part ++ rest ≡ memory) (budget : ℕ) where
-      -- a run that is lent too little
-      run-refused : (code : List ℕ) → TooLittle m code part
-          → RunEnd rest (during m code part rest budget) (run m code part budget .machine) (run m code part budget .memory)
+    module _ (part rest : List ℕ) (e : part ++ rest ≡ memory) (budget c : ℕ) where
+      -- a run that is refused
+      run-refused : (code : List ℕ) → Refused m code part c
+          → RunEnd rest (during m code part rest budget c) (run m code part budget c .machine) (run m code part budget c .memory)
       run-refused code z =
-          let (a, b) = run-short m code part budget z in
+          let (a, b) = run-refuses m code part budget c z in
           let kept : Inv L (worldOf m (part ++ rest)) st n = subst (λ y. Inv L (worldOf m y) st n) (sym e) inv in
-          rw (during-short m code part rest z budget, a, b)
+          rw (during-refused m code part rest c z budget, a, b)
           (run-end (([] ∷ []) ++ ([] ∷ [])) (sim st n kept few)
-          (chain-append (same-moment memory refl inv) (same-moment (part ++ rest) refl kept)))
+          (chain-append (same-moment (part ++ rest) refl kept) (same-moment (part ++ rest) refl kept)))
+
+      -- the clock moves
+      later-clock : earlierClock m c ≡ false → (t : ℕ) → st .clock ≡ some t → after t c ≡ false
+      later-clock z t f = by (m .timer .given) (m .timer .clock) z (inv-timed L c inv .clock-same ∙ f)
+        where
+          by : (g : Bool) (k : ℕ) → (g && after k c) ≡ false → cond g (some k) none ≡ some t → after t c ≡ false
+          by true k z f = let same : k ≡ t = cc in rw same at z
+          by false k z f = never (cc)
+
+      opens : (code : List ℕ) → earlierClock m c ≡ false → Inv L (worldOf m part) st n
+          → Chain (L .prog) (bound L) (opening m code part rest c (clocked c (worldOf m part)) ∷ []) st
+          ((outside (ticks c) [] (ticking L c st) ∷ []) ∷ []) (ticking L c st) n n
+      opens code z inv′ =
+          let same : n ≤ n = omega arith in
+          chain-other (follows L {s = clocked c (worldOf m part)} rest _ refl refl refl refl (t-event (ticked (later-clock z)) t-none)
+          (inv-ticks L c inv′)) refl refl same chain-nil
 
       -- a run that is lent enough
-      run-whole : (more : List ℕ) → ltb (length (L .code ++ more)) (m .setup .code) ≡ false → shortMemory m part ≡ false
-          → RunEnd rest (during m (L .code ++ more) part rest budget) (run m (L .code ++ more) part budget .machine)
-          (run m (L .code ++ more) part budget .memory)
-      run-whole more a b =
+      run-whole : (more : List ℕ) → earlierClock m c ≡ false → ltb (length (L .code ++ more)) (m .setup .code) ≡ false
+          → shortMemory m part ≡ false
+          → RunEnd rest (during m (L .code ++ more) part rest budget c) (run m (L .code ++ more) part budget c .machine)
+          (run m (L .code ++ more) part budget c .memory)
+      run-whole more z a b =
           let code = L .code ++ more in
-          let g : Goes m code part = record { code-long = a; memory-long = b; no-fault = ok } in
-          elim (run-bytes L more rest budget 0 (worldOf m part) st n refl (lent-part part rest e b) few) [
-            | ran t c em er inv′ few′ ↦ rw (during-goes m code part rest g budget, run-goes g budget, em, er) (run-ends rest t c inv′ few′)
+          let inv′ = lent-part part rest e b in
+          let s = clocked c (worldOf m part) in
+          let g : Goes m code part c = record {
+            not-earlier = z;
+            code-long = a;
+            memory-long = b;
+            no-fault = ok;
+            begun = s;
+            begins = begins-so L c inv′;
+          } in
+          elim (run-bytes L more rest budget 0 s (ticking L c st) n refl (inv-ticks L c inv′) few) [
+            | ran t ch em er inv″ few′ ↦
+                rw (during-goes m code part rest c g budget, run-goes g budget, em, er)
+                (run-ends rest t (chain-append (opens code z inv′) ch) inv″ few′)
           ]
 
       -- a run that is lent a part of the code with anything behind it
       run-any : (behind : List ℕ) (codeLent : ℕ)
           → let code = Ls.take codeLent (L .code ++ behind) in
-          RunEnd rest (during m code part rest budget) (run m code part budget .machine) (run m code part budget .memory)
+          RunEnd rest (during m code part rest budget c) (run m code part budget c .machine) (run m code part budget c .memory)
       run-any behind codeLent =
           let code = Ls.take codeLent (L .code ++ behind) in
-          by-bool (ltb (length code) (m .setup .code) || shortMemory m part) (λ z. run-refused code z)
+          let short = ltb (length code) (m .setup .code) in
+          by-bool (earlierClock m c || short || shortMemory m part) (λ z. run-refused code z)
           (λ z.
-          let a = or-left (ltb (length code) (m .setup .code)) (shortMemory m part) z in
-          let b = or-right (ltb (length code) (m .setup .code)) (shortMemory m part) z in
+          let y = or-left (earlierClock m c || short) (shortMemory m part) z in
+          let b = or-right (earlierClock m c || short) (shortMemory m part) z in
+          let k = or-left (earlierClock m c) short y in
+          let a = or-right (earlierClock m c) short y in
           let long : length (L .code) ≤ codeLent =
           omega (
             arith,
@@ -272,13 +304,14 @@ module _ (L : Loaded) where
             code-is L (worldOf m memory) set,
           ) in
           let front : code ≡ L .code ++ Ls.take (codeLent - length (L .code)) behind = take-past (L .code) behind codeLent long in
-          subst (λ l. RunEnd rest (during m l part rest budget) (run m l part budget .machine) (run m l part budget .memory)) (sym front)
-          (run-whole (Ls.take (codeLent - length (L .code)) behind) (rw front at a) b))
+          subst (λ l. RunEnd rest (during m l part rest budget c) (run m l part budget c .machine) (run m l part budget c .memory))
+          (sym front)
+          (run-whole (Ls.take (codeLent - length (L .code)) behind) k (rw front at a) b))
 
-    call-run : (behind : List ℕ) (codeLent lent budget : ℕ) → Simulated (callRun behind codeLent lent budget) m memory st n
+    call-run : (behind : List ℕ) (codeLent lent budget c : ℕ) → Simulated (callRun behind codeLent lent budget c) m memory st n
     unfolding call
-    call-run behind codeLent lent budget =
-        elim (run-any (Ls.take lent memory) (drop lent memory) (take-append-drop lent memory) budget behind codeLent) [
+    call-run behind codeLent lent budget c =
+        elim (run-any (Ls.take lent memory) (drop lent memory) (take-append-drop lent memory) budget (low c) behind codeLent) [
           | run-end gs s c ↦ simulated gs s c
         ]
 
@@ -296,7 +329,7 @@ module _ (L : Loaded) where
     ]
 
   call-sim : (c : Call) (m : Machine) (memory : List ℕ) (s : Sim m memory) → Simulated c m memory (stateOf s) (leftOf s)
-  call-sim (callRun behind codeLent lent budget) m memory (sim st n inv few) = call-run inv few behind codeLent lent budget
+  call-sim (callRun behind codeLent lent budget c) m memory (sim st n inv few) = call-run inv few behind codeLent lent budget c
   call-sim (callOffer lent k v) m memory (sim st n inv few) = call-offer inv few lent k v
   call-sim (callTake lent k) m memory (sim st n inv few) = call-take inv few lent k
 

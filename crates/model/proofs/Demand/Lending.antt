@@ -60,6 +60,7 @@ module _ (L : Loaded) where
           eight = r .eight;
           offers = λ n h. offer-world L refl refl (r .offers n h);
           beyond = r .beyond;
+          timed = r .timed;
         }
       where
         by : {ws : List ℕ} → Queue s ws → ((v : ℕ) → List·Memᴰ v ws → linkWord v < size L) → Queue (over s l k) ws

@@ -60,7 +60,7 @@ module _ (L : Loaded) (memory : List ℕ) (room : size L ≤ length memory) wher
   first = worldOf (fresh (setup L)) (cleared (setup L) memory)
 
   abbrev pub begun : State
-  begun = record { process = begin (L .prog .body) []; store = λ x. 0; offers = λ k. none }
+  begun = record { process = begin (L .prog .body) []; store = λ x. 0; offers = λ k. none; clock = none }
 
   -- the outside channels have words of their own
   scoped : Scoped (S L) (base (L .prog)) [] (outsideNames (L .prog))
@@ -131,6 +131,7 @@ module _ (L : Loaded) (memory : List ℕ) (room : size L ≤ length memory) wher
         eight = (refl, refl);
         offers = λ k h. no-offer (none-held k) refl;
         beyond = λ k h. refl;
+        timed = record { clock-same = refl; nobody = refl };
       }
 
   -- at every path but the empty one nothing is

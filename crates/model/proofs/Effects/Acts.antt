@@ -13,10 +13,10 @@ use Rattle.model.specs.Instruction as I
 use Rattle.model.specs.Machine.{World, Result, done, Act, _>>_, withCpu, withOffers, communicate, nameOf, spaceOf, peek, poke, resume}
 use Rattle.model.specs.Machine.{takeFront, release, join, testPlace, stack, goto, work, running, counting, queueing, resumeWord}
 use Rattle.model.specs.Machine.{linkWord, stateWord, isHeld}
-use Rattle.model.specs.Execute.{execute, operate, waitAt, receive, received, inputWord, inputMessage, isAltState, waiting, ready}
-use Rattle.model.specs.Execute.{enabling, noneSelected, notify, deliver, outputWord, jump, startProcess, endProcess, stopProcess}
-use Rattle.model.specs.Execute.{beginAlt, setReady, enableReady, enableChannel, enableSkip, waitAlt, select, disableReady}
-use Rattle.model.specs.Execute.{disableChannel, disableSkip, endAlt}
+use Rattle.model.specs.Alternative.{isAltState, waiting, ready, enabling, noneSelected, notify, beginAlt, setReady, enableReady}
+use Rattle.model.specs.Alternative.{enableChannel, enableSkip, waitAlt, select, disableReady, disableChannel, disableSkip, endAlt}
+use Rattle.model.specs.Execute.{execute, operate, waitAt, receive, received, inputWord, inputMessage, deliver, outputWord, jump}
+use Rattle.model.specs.Execute.{startProcess, endProcess, stopProcess}
 use Rattle.model.proofs.Quiet.Names.{name-back, name-injective}
 use Rattle.model.proofs.Effects.OneWord.{cpuOf, sizeOf, stored, peek-in, poke-in, resume-in}
 

@@ -8,9 +8,9 @@ use Rattle.model.specs.Word.{low}
 use Rattle.model.specs.Instruction.{ldl, cj, stl}
 use Rattle.model.specs.Instruction as I
 use Rattle.model.specs.Machine.{World, done, withCpu, withMemory, memorySize, peek, poke, resume, join, goto, work, running, counting}
-use Rattle.model.specs.Machine.{queueing, resumeWord, nameOf}
+use Rattle.model.specs.Machine.{queueing, resumeWord, nameOf, push, pop}
 use Rattle.model.proofs.Quiet.Names.{name-back}
-use Rattle.model.specs.Execute.{execute, push, pop, jump, loadLocal, storeLocal, conditionalJump}
+use Rattle.model.specs.Execute.{execute, jump, loadLocal, storeLocal, conditionalJump}
 use Rattle.model.specs.declared.Cpu.{Cpu}
 use Rattle.model.proofs.Quiet.Ways.{Mem}
 

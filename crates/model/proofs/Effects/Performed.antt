@@ -23,8 +23,8 @@ use Rattle.model.specs.Instruction.{Function, Instruction, plain, distan
 use Rattle.model.specs.Scheme.{operatorCode, sidesCode, exprCode}
 use Rattle.model.specs.Code.{functionIn, operandIn}
 use Rattle.model.specs.Occam.{Store}
-use Rattle.model.specs.Machine.{World, done, memorySize, withCpu}
-use Rattle.model.specs.Execute.{execute, push, pop}
+use Rattle.model.specs.Machine.{World, done, memorySize, withCpu, push, pop}
+use Rattle.model.specs.Execute.{execute}
 use Rattle.model.specs.Registers.{AtMostThree, perform, InWords, Ready, Computed, ThreeRegistersServe}
 use Rattle.model.proofs.Cases.{never}
 use Rattle.model.proofs.Tables.Needs.{registers-three}

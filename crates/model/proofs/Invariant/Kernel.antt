@@ -3,9 +3,9 @@ use Prim.Native.Nat.{ℕ, _+_, _^_, _≤_, _<_}
 use native.Mathlib.Omega.{arith}
 use mathlib.Core.Path.{_≡_}
 use mathlib.Core.Logic.{_⊎_}
-use mathlib.Core.Bool.{true, false}
+use mathlib.Core.Bool.{true, false, cond}
 use mathlib.Core.List.{List, [], List·Memᴰ}
-use mathlib.Core.Option.{none, some}
+use mathlib.Core.Option.{Option, none, some}
 use lib.ListN.{length, getD}
 use Rattle.model.specs.Word.{notProcess}
 use Rattle.model.specs.Limits.{codeLimit, wordLimit}
@@ -19,6 +19,7 @@ use Rattle.model.specs.Machine.{World, memorySize}
 use Rattle.model.specs.Occam.{Frame, Process, inPar, Branches, framesOf, look, State}
 use Rattle.model.specs.Demand.{liveIn}
 use Rattle.model.specs.declared.Setup.{Setup}
+use Rattle.model.specs.declared.Timer.{Timer}
 use Rattle.model.specs.declared.Kept.the-variants.{Nothing}
 use Rattle.model.proofs.Quiet.Ways.{Mem}
 use Rattle.model.proofs.Quiet.Setting.{Setting}
@@ -30,6 +31,15 @@ use Rattle.model.proofs.Invariant.Trees.{Label, alone, parted, Info, Tr
 use Rattle.model.proofs.Invariant.Zones.{zoneOf}
 use Rattle.model.proofs.Invariant.Leaves.{member, Held}
 use Rattle.model.proofs.Effects.Queues.{Queue, Apart}
+
+-- the last clock word that a machine was given, if one was
+abbrev pub lastClock : Timer → Option ℕ
+lastClock t = cond (t .given) (some (t .clock)) none
+
+-- the clock is Occam's, and nobody is in the timer queue
+pub record Timed (t : Timer) (clock : Option ℕ) : Type 0 where
+  pub clock-same : lastClock t ≡ clock
+  pub nobody : t .front ≡ notProcess
 
 -- a program whose code is in a machine: the code realises the scheme, and both are small enough
 pub record Loaded : Type 0 where
@@ -140,3 +150,4 @@ module _ (L : Loaded) where
     pub eight : (length (s .machine .offers) ≡ 8) × (length (s .machine .held) ≡ 8)
     pub offers : (k : ℕ) → k < L .prog .inputs → Offer s st k
     pub beyond : (k : ℕ) → L .prog .inputs ≤ k → st .offers k ≡ none
+    pub timed : Timed (s .machine .timer) (st .clock)

@@ -7,7 +7,7 @@ use lib.Dec.{eqb}
 use lib.ListN.{length}
 use Rattle.model.specs.Syntax.{Site, Guards}
 use Rattle.model.specs.Machine.{resumeWord, stateWord, nameOf}
-use Rattle.model.specs.Execute.{waiting, ready, noneSelected}
+use Rattle.model.specs.Alternative.{waiting, ready, noneSelected}
 use Rattle.model.specs.Scheme.{sizeEnable}
 use Rattle.model.specs.Occam.{Frame, Process, atInput, atOutput, atStop, atAlt, State, Sender}
 use Rattle.model.proofs.Quiet.Ways.{Mem}

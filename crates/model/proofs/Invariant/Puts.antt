@@ -28,7 +28,7 @@ some-process e = cc
 
 -- a state with another process at a path
 abbrev pub putting : List ℕ → Process → State → State
-putting path r st = record { process = put path r (st .process); store = st .store; offers = st .offers }
+putting path r st = record { process = put path r (st .process); store = st .store; offers = st .offers; clock = st .clock }
 
 module _ (L : Loaded) {st : State} {t : Tree (S L) (root L) (st .process)} {path : List ℕ} {q : Process} {b : Part} {i : Info}
     (at : LeafAt L st t path q b i) (r : Process) (leaf : Leaf r) (j : Info) (sits : Sits (S L) b j) where

@@ -37,7 +37,7 @@ module _ (L : Loaded) where
   mirrored r v h e = r .mirror v h ∙ e
 
   pub offer-same : {s : World} {st : State} {o : ℕ → Option ℕ} {k : ℕ} (σ : Store) (p : Process) → Offer L s st k
-      → st .offers k ≡ o k → Offer L s (record { process = p; store = σ; offers = o }) k
+      → st .offers k ≡ o k → Offer L s (record { process = p; store = σ; offers = o; clock = st .clock }) k
   offer-same σ p (no-offer h e) f = no-offer h (sym f ∙ e)
   offer-same σ p (held-offer v m h g e) f = held-offer v m h g (sym f ∙ e)
 
@@ -48,7 +48,7 @@ module _ (L : Loaded) where
 
   -- another process or store
   pub real-state : {s : World} {st : State} {μ : Mem} {ws : List ℕ} (p : Process) (σ : Store) → Real L s st μ ws
-      → Real L s (record { process = p; store = σ; offers = st .offers }) μ ws
+      → Real L s (record { process = p; store = σ; offers = st .offers; clock = st .clock }) μ ws
   real-state p σ r =
       record {
         setup-kept = r .setup-kept;
@@ -59,6 +59,7 @@ module _ (L : Loaded) where
         eight = r .eight;
         offers = λ k h. offer-same σ p (r .offers k h) refl;
         beyond = r .beyond;
+        timed = r .timed;
       }
 
   -- other registers
@@ -74,6 +75,7 @@ module _ (L : Loaded) where
         eight = r .eight;
         offers = λ n h. offer-world refl refl (r .offers n h);
         beyond = r .beyond;
+        timed = r .timed;
       }
 
   -- a word that is no link of the queue
@@ -89,6 +91,7 @@ module _ (L : Loaded) where
         eight = r .eight;
         offers = λ n h. offer-world refl refl (r .offers n h);
         beyond = r .beyond;
+        timed = r .timed;
       }
     where
       by : (a : ℕ) → a < size L → Dec (a ≡ v) → getD (set (s .memory) v z) a 0 ≡ upd μ v z a
@@ -154,6 +157,7 @@ module _ (L : Loaded) where
         eight = r .eight;
         offers = λ n h. offer-world refl refl (r .offers n h);
         beyond = r .beyond;
+        timed = r .timed;
       }
 
   -- another memory that is as long, and another queue
@@ -170,6 +174,7 @@ module _ (L : Loaded) where
         eight = r .eight;
         offers = λ n h. offer-world refl refl (r .offers n h);
         beyond = r .beyond;
+        timed = r .timed;
       }
 
   -- a communication is of no word
@@ -185,6 +190,7 @@ module _ (L : Loaded) where
         eight = r .eight;
         offers = λ n h. offer-world refl refl (r .offers n h);
         beyond = r .beyond;
+        timed = r .timed;
       }
 
   -- an offer that is held no more
@@ -193,7 +199,7 @@ module _ (L : Loaded) where
 
   pub real-dropped : {s : World} {st : State} {μ : Mem} {ws : List ℕ} (n : ℕ) → n < L .prog .inputs → Real L s st μ ws
       → Real L (withOffers (s .machine .offers) (set (s .machine .held) n false) s)
-      (record { process = st .process; store = st .store; offers = withoutOffer n (st .offers) }) μ ws
+      (record { process = st .process; store = st .store; offers = withoutOffer n (st .offers); clock = st .clock }) μ ws
   real-dropped {s} {st} n h r =
       record {
         setup-kept = r .setup-kept;
@@ -204,10 +210,11 @@ module _ (L : Loaded) where
         eight = (r .eight .0, length-set (s .machine .held) n false ∙ r .eight .1);
         offers = λ k l. by k (ℕ-discrete k n) (r .offers k l);
         beyond = λ k l. rw (ne-eqb k n (λ e. absurd (omega arith))) (r .beyond k l);
+        timed = r .timed;
       }
     where
       by : (k : ℕ) → Dec (k ≡ n) → Offer L s st k → Offer L (withOffers (s .machine .offers) (set (s .machine .held) n false) s)
-          (record { process = st .process; store = st .store; offers = withoutOffer n (st .offers) }) k
+          (record { process = st .process; store = st .store; offers = withoutOffer n (st .offers); clock = st .clock }) k
       by k (yes e) o =
           no-offer (rw e (getD-set-same (s .machine .held) n false false (omega (arith, r .eight .1, L .few-inputs)))) (rw (eq-eqb k n e))
       by k (no e) (no-offer f g) = no-offer (getD-set-other (s .machine .held) n k false false e ∙ f) (rw (ne-eqb k n e) g)

@@ -56,7 +56,9 @@ pub data Moves (st st′ : State) (cs : List Communication) : Type 0 where
 pub begins-as : {st : State} (path : List ℕ) {s : Stmt} {k : List Frame} {p : Process} → look path (st .process) ≡ some (before s k)
     → go s k (st .store) ≡ moved p (st .store) → Step st [] (putting path p st)
 begins-as {st} path e f =
-    subst (λ z. Step st [] (record { process = put path (z .process) (st .process); store = z .store; offers = st .offers })) f
+    subst
+    (λ z.
+    Step st [] (record { process = put path (z .process) (st .process); store = z .store; offers = st .offers; clock = st .clock })) f
     (begins path e)
 
 -- a statement whose step leads on at once, and what follows
@@ -66,7 +68,9 @@ one-more : {st : State} (q : Process) (path : List ℕ) (s : Stmt) (k : List Fra
 one-more {st} q path s k e f (moves g m) =
     moves (step [] (putting path (resume k) st) ∷ g)
     (t-step (begins-as path e f)
-    (subst (λ z. Trace (putting path (resume k) st) g (record { process = z; store = st .store; offers = st .offers }) [] [])
+    (subst
+    (λ z.
+    Trace (putting path (resume k) st) g (record { process = z; store = st .store; offers = st .offers; clock = st .clock }) [] [])
     (put-put-same path q (resume k) (st .process)) m))
 
 -- a process takes the steps without code that are next
@@ -75,7 +79,8 @@ pub skip-moves : {st : State} (path : List ℕ) {p q : Process} → look path (s
 unfolding go
 skip-moves {st} path e s-none = same-state (put-found path (st .process) e)
   where
-    same-state : {p : Process} → p ≡ st .process → Moves st (record { process = p; store = st .store; offers = st .offers }) []
+    same-state : {p : Process} → p ≡ st .process
+        → Moves st (record { process = p; store = st .store; offers = st .offers; clock = st .clock }) []
     same-state e = rw (e) (moves [] t-none)
 skip-moves {st} path e (s-skip {k} {q} s) =
     one-more q path SKIP k e refl (skip-moves path (look-put-same path (st .process) (resume k) e) s)

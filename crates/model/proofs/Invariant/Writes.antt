@@ -24,9 +24,13 @@ use Rattle.model.proofs.Invariant.Zones.{zoneOf, Distant, zones-distant
 use Rattle.model.proofs.Invariant.Stays.{Intact, held-stays}
 use Rattle.model.proofs.Invariant.Kernel.{Loaded, S, root, LeafAt, NodeAt, Owned, owned, Rest, whose, Lined}
 
--- a state with another store and other offers
+-- a state with another store, other offers and another clock
+abbrev pub stateWith : Store → (ℕ → Option ℕ) → Option ℕ → State → State
+stateWith σ o k st = record { process = st .process; store = σ; offers = o; clock = k }
+
+-- with another store and other offers
 abbrev pub changed : Store → (ℕ → Option ℕ) → State → State
-changed σ o st = record { process = st .process; store = σ; offers = o }
+changed σ o st = stateWith σ o (st .clock) st
 
 module _ (L : Loaded) where
   -- a process is a node
@@ -64,35 +68,37 @@ module _ (L : Loaded) where
   sits-at {t = t} {path} h = label-sits (S L) t path (h .label)
 
   -- where the processes are the same
-  module _ {st : State} {t : Tree (S L) (root L) (st .process)} {σ : Store} {o : ℕ → Option ℕ} where
-    again : {c : Site} {n k : ℕ} → k ≡ n → Owned L st t c n → Owned L (changed σ o st) t c k
+  module _ {st : State} {t : Tree (S L) (root L) (st .process)} {σ : Store} {o : ℕ → Option ℕ} {k : Option ℕ} where
+    again : {c : Site} {n m : ℕ} → m ≡ n → Owned L st t c n → Owned L (stateWith σ o k st) t c m
     again e (owned {b} h s o) = owned (record { found = h .found; leaf = h .leaf; label = h .label }) s (subst (Own b) (sym e) o)
 
-    before-leaf : {path : List ℕ} {q : Process} {b : Part} {i : Info} → LeafAt L (changed σ o st) t path q b i → LeafAt L st t path q b i
+    before-leaf : {path : List ℕ} {q : Process} {b : Part} {i : Info} → LeafAt L (stateWith σ o k st) t path q b i
+        → LeafAt L st t path q b i
     before-leaf h = record { found = h .found; leaf = h .leaf; label = h .label }
 
-    pub after-leaf : {path : List ℕ} {q : Process} {b : Part} {i : Info} → LeafAt L st t path q b i → LeafAt L (changed σ o st) t path q b i
+    pub after-leaf : {path : List ℕ} {q : Process} {b : Part} {i : Info} → LeafAt L st t path q b i
+        → LeafAt L (stateWith σ o k st) t path q b i
     after-leaf h = record { found = h .found; leaf = h .leaf; label = h .label }
 
-    pub after-lined : {Out : List ℕ → Type 0} {ws : List ℕ} → Lined L st t Out ws → Lined L (changed σ o st) t Out ws
+    pub after-lined : {Out : List ℕ → Type 0} {ws : List ℕ} → Lined L st t Out ws → Lined L (stateWith σ o k st) t Out ws
     after-lined h =
         record { each = λ w m. elim (h .each w m) [ whose k e n ↦ whose (after-leaf k) e n ]; once = h .once }
 
-    before-node : {path : List ℕ} {l : Label} → NodeAt L (changed σ o st) t path l → NodeAt L st t path l
+    before-node : {path : List ℕ} {l : Label} → NodeAt L (stateWith σ o k st) t path l → NodeAt L st t path l
     before-node h = record { label = h .label }
 
   module _ {st : State} {μ ν : Mem} {t : Tree (S L) (root L) (st .process)} {Out : List ℕ → Type 0} {ws : List ℕ} {σ : Store}
-      {o : ℕ → Option ℕ} where
+      {o : ℕ → Option ℕ} {k : Option ℕ} where
     pub rest-same : Rest L st μ t Out ws
         → ((path : List ℕ) (q : Process) (b : Part) (i : Info) → LeafAt L st t path q b i → (Out path → ⊥)
-        → Intact (S L) b i (linkWord (i .w)) st (changed σ o st) μ ν)
+        → Intact (S L) b i (linkWord (i .w)) st (stateWith σ o k st) μ ν)
         → ((path : List ℕ) (l : Label) → NodeAt L st t path l → (x : Site) → List·Memᴰ x (zoneOf l .vars)
         → st .store x ≡ μ (S L .word x) → st .store x < 2 ^ 32 → (σ x ≡ ν (S L .word x)) × (σ x < 2 ^ 32))
         → ((path : List ℕ) (l : Label) → NodeAt L st t path l → (c : Site) → List·Memᴰ c (zoneOf l .chans)
         → (ν (S L .word c) ≡ μ (S L .word c)) ⊎ ((ν (S L .word c) ≡ notProcess) ⊎ Owned L st t c (ν (S L .word c))))
         → ((path : List ℕ) (a : Part) (vs cs : List Site) (w onward : ℕ) → NodeAt L st t path (parted a vs cs w onward)
         → (ν w ≡ μ w) × (ν (w + 1) ≡ μ (w + 1)))
-        → Rest L (changed σ o st) ν t Out ws
+        → Rest L (stateWith σ o k st) ν t Out ws
     rest-same h intact vars chans par =
         record {
           vars = λ e x m. let k = before-node e in vars _ _ k x m (h .vars k x m .0) (h .vars k x m .1);
@@ -318,22 +324,22 @@ module _ (L : Loaded) where
               upd-other μ v z (w + 1) (λ e. far .chans-out y mine (omega (arith, e), omega (arith, e))),
             )
 
-  -- other offers
+  -- other offers, and another clock
   pub change-offers : {st : State} {μ : Mem} {t : Tree (S L) (root L) (st .process)} {Out : List ℕ → Type 0}
-      {ws : List ℕ} (o : ℕ → Option ℕ)
+      {ws : List ℕ} {k : Option ℕ} (o : ℕ → Option ℕ)
       → Rest L st μ t Out ws
       → ((other : List ℕ) (r : Process) (c : Part) (j : Info) → LeafAt L st t other r c j → (Out other → ⊥)
-      → ((d : Site) → List·Memᴰ d (c .inputs) → Sender st d → Sender (changed (st .store) o st) d)
-      × ((d : Site) → List·Memᴰ d (j .chans) → List·Memᴰ d (c .inputs) → Own c (μ (S L .word d)) → Sender (changed (st .store) o st) d
+      → ((d : Site) → List·Memᴰ d (c .inputs) → Sender st d → Sender (stateWith (st .store) o k st) d)
+      × ((d : Site) → List·Memᴰ d (j .chans) → List·Memᴰ d (c .inputs) → Own c (μ (S L .word d)) → Sender (stateWith (st .store) o k st) d
       → Sender st d))
-      → Rest L (changed (st .store) o st) μ t Out ws
+      → Rest L (stateWith (st .store) o k st) μ t Out ws
   change-offers {μ = μ} o h senders =
       rest-same h
-      (λ other r c j k n. record {
+      (λ other r c j l n. record {
         own = λ a lo hi d. refl;
         reads = λ x m g. refl;
         chans = λ d m. inl refl;
-        sends = senders other r c j k n .0;
-        none-sends = senders other r c j k n .1;
+        sends = senders other r c j l n .0;
+        none-sends = senders other r c j l n .1;
       })
       (λ other l n x m e k. (e, k)) (λ other l n c m. inl refl) (λ other a vs cs w onward n. (refl, refl))

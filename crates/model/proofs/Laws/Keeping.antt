@@ -4,9 +4,11 @@ use mathlib.Core.Path.{_≡_, refl}
 use mathlib.Core.Bool.{Bool, true, false, cond}
 use lib.Dec.{ltb, leb, eqb}
 use Rattle.model.specs.Machine.{World, Result, done, faults, Act, next, _>>=_, _>>_, return, setRegisters, memorySize, peek, poke}
-use Rattle.model.specs.Machine.{spaceOf, testPlace, queueing, resumeWord, linkWord, resume, takeFront, join}
+use Rattle.model.specs.Machine.{spaceOf, testPlace, queueing, resumeWord, linkWord, resume, takeFront, release, join}
 use Rattle.model.specs.declared.Cpu.{Cpu}
 use Rattle.model.proofs.Cases.{by-bool, of-cond}
+use Rattle.model.proofs.Laws.Made.{Made, binds, reads, sets, returns, fails, reads-setup, communicates, reads-clock, reads-timer}
+use Rattle.model.proofs.Laws.Made.{fronts, drops, asks, holds, outputs, peeks, pokes, tests, releases, joins}
 
 -- what an act comes to has such registers, or is a fault
 abbrev pub Left : (P : Cpu → Type 0) {A : Type 0} → Result A → Type 0
@@ -107,3 +109,26 @@ join-runs w =
           (λ e. rw e (picks (s .machine .cpu .queued) (seq (of-poke _ _) (setting _ refl)) (setting _ refl) .from _ refl))
           (λ e. rw e (resume-runs w .from _));
     }
+
+-- an act that is made of the few keeps what freeing the processor and joining keep
+module _ {P : Cpu → Type 0} {More : Type 0} (frees : More → Keeps P release) (joined : (w : ℕ) → Keeps P (join w)) where
+  pub keeps : {A : Type 0} {a : Act A} → Made P More A a → Keeps P a
+  keeps (binds h k) = bind (keeps h) (λ x. keeps (k x))
+  keeps (reads k) = record { from = λ s h. keeps (k (s .machine .cpu) h) .from s h }
+  keeps (sets r h) = setting r h
+  keeps (returns a) = returning a
+  keeps (fails k) = record { from = λ s h. tt }
+  keeps reads-setup = record { from = λ s h. h }
+  keeps (communicates t c v) = record { from = λ s h. h }
+  keeps (reads-clock t c) = record { from = λ s h. h }
+  keeps reads-timer = record { from = λ s h. h }
+  keeps (fronts f) = record { from = λ s h. h }
+  keeps (drops c) = record { from = λ s h. h }
+  keeps (asks c) = record { from = λ s h. h }
+  keeps (holds k v) = record { from = λ s h. h }
+  keeps (outputs k) = record { from = λ s h. h }
+  keeps (peeks a) = of-peek a
+  keeps (pokes a v) = of-poke a v
+  keeps (tests p) = of-testPlace p
+  keeps (releases h) = frees h
+  keeps (joins w) = joined w

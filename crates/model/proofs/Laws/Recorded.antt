@@ -8,22 +8,26 @@ use mathlib.Core.List.{List, [], _∷_, _++_, append-nil, append-assoc}
 use lib.ListN as L
 use lib.ListN.{length, drop, take-append-drop}
 use lib.Dec.{ltb}
-use Rattle.model.specs.Machine.{World, machineWith, done}
+use Rattle.model.specs.Word.{low}
+use Rattle.model.specs.Machine.{World, machineWith, done, faults}
 use Rattle.model.specs.Answers.{instructionsOf}
-use Rattle.model.specs.Run.{byte, ended, waits, keep, Finish, runFrom, shortMemory, After, unchanged, worldOf, finished, run}
-use Rattle.model.specs.History.{callRun, Moment, quietly, executed, bytes, during, call}
+use Rattle.model.specs.Run.{byte, ended, waits, beginning, earlierClock, keep, Finish, runFrom, shortMemory, After, unchanged}
+use Rattle.model.specs.Run.{worldOf, finished, run}
+use Rattle.model.specs.Occam.{ticks}
+use Rattle.model.specs.History.{callRun, Moment, quietly, executed, bytes, idle, begun, unlessKept, during, call}
 use Rattle.model.specs.Laws.{counted, afterBytes, talkIn, lastOf, leaving, executedIn, Recorded, Records, Continues}
 use Rattle.model.specs.declared.Machine.{Machine}
 use Rattle.model.specs.declared.FaultKind.{FaultKind}
-use Rattle.model.specs.declared.Kept.the-variants.{Fault as KeptFault}
+use Rattle.model.specs.declared.Kept.the-variants.{Nothing, Fault as KeptFault}
 use Rattle.model.specs.declared.Outcome.{Outcome}
 use Rattle.model.specs.declared.Outcome.the-variants.{Ended, Waiting, Spent, Fault as RunFault}
 use Rattle.model.specs.declared.RunAnswer.{RunAnswer}
-use Rattle.model.specs.declared.RunAnswer.the-variants.{Ran, Short as RunShort}
+use Rattle.model.specs.declared.RunAnswer.the-variants.{Ran, EarlierClock, Short as RunShort}
 use Rattle.model.proofs.Cases.{by-bool, never, or-left, or-right}
 use Rattle.model.proofs.Laws.Regular.{behind}
 use Rattle.model.proofs.Laws.RunSteps.{run-waits, run-ends, run-spent}
-use Rattle.model.proofs.Laws.Runs.{by-result, preceded, run-behind, TooLittle, Goes, run-goes, by-run}
+use Rattle.model.proofs.Laws.Silent.{beginning-silent}
+use Rattle.model.proofs.Laws.Runs.{by-result, preceded, run-behind, Refused, NoRun, Goes, run-goes, by-run}
 
 module _ (code : List ℕ) where
   -- a machine that has ended or waits runs no byte
@@ -141,88 +145,128 @@ module _ (code rest : List ℕ) where
       (λ k d. ([], rw (suc-add, e, d))))
 
 -- the moments of a run, as it is lent
-module _ (m : Machine) (code memory rest : List ℕ) where
-  pub during-short : TooLittle m code memory → (b : ℕ) → during m code memory rest b ≡ []
+module _ (m : Machine) (code memory rest : List ℕ) (c : ℕ) where
+  pub during-refused : Refused m code memory c → (b : ℕ) → during m code memory rest b c ≡ idle m memory rest
   unfolding during
-  during-short z b = rw z
+  during-refused z b = rw z
 
-  pub during-kept : {k : FaultKind} → m .fault ≡ KeptFault k → (b : ℕ) → during m code memory rest b ≡ []
+  pub during-kept : {k : FaultKind} → m .fault ≡ KeptFault k → (b : ℕ) → during m code memory rest b c ≡ idle m memory rest
   unfolding during
-  during-kept f b = by-bool (ltb (length code) (m .setup .code) || shortMemory m memory) (λ z. rw z) (λ z. rw (z, f))
+  during-kept f b =
+      by-bool (earlierClock m c || ltb (length code) (m .setup .code) || shortMemory m memory) (λ z. rw z) (λ z. rw (z, f))
 
-  pub during-goes : Goes m code memory → (b : ℕ) → during m code memory rest b ≡ bytes b code rest (worldOf m memory)
+  pub during-stays : {k : FaultKind} → (Refused m code memory c → ⊥) → m .fault ≡ Nothing → beginning c (worldOf m memory) ≡ faults k
+      → (b : ℕ)
+      → during m code memory rest b c ≡ idle m memory rest
   unfolding during
-  during-goes g b = rw (g .code-long, g .memory-long, g .no-fault)
+  during-stays i n f b =
+      by-bool (earlierClock m c || ltb (length code) (m .setup .code) || shortMemory m memory) (λ z. rw z)
+      (λ z.
+      rw z
+      (ap (λ e. unlessKept e (idle m memory rest) (begun (beginning c (worldOf m memory)) c b m code memory rest)) n
+      ∙ ap (λ r. begun r c b m code memory rest) f))
 
--- the moments at a run's beginning and end are no bytes and have no communications
-module _ (a b : Machine) (μ ν : List ℕ) (l : List Moment) where
-  abbrev Framed : List Moment
-  Framed = quietly a μ ∷ l ++ quietly b ν ∷ []
+  -- the moment after a run's beginning
+  abbrev pub opening : World → Moment
+  opening t = record { instruction = false; machine = t .machine; memory = t .memory ++ rest; talk = t .talk; events = ticks c ∷ [] }
 
-  framed-bytes : afterBytes Framed ≡ afterBytes l
-  framed-bytes = rw (after-append l (quietly b ν ∷ []), append-nil)
+  pub during-goes : (g : Goes m code memory c) (b : ℕ)
+      → let t = g .begun in
+      during m code memory rest b c ≡ opening t ∷ bytes b code rest (worldOf (t .machine) (t .memory))
+  unfolding during
+  during-goes g b =
+      rw (g .not-earlier, g .code-long, g .memory-long)
+      (ap (λ f. unlessKept f (idle m memory rest) (begun (beginning c (worldOf m memory)) c b m code memory rest)) (g .no-fault)
+      ∙ ap (λ r. begun r c b m code memory rest) (g .begins))
 
-  framed-talk : talkIn Framed ≡ talkIn l
-  framed-talk = rw (talk-append l (quietly b ν ∷ []), append-nil)
+-- the moment after a run is no byte and has no communications
+module _ (l : List Moment) (m : Machine) (μ : List ℕ) where
+  closing-bytes : afterBytes (l ++ quietly m μ ∷ []) ≡ afterBytes l
+  closing-bytes = rw (after-append l (quietly m μ ∷ []), append-nil)
+
+  closing-talk : talkIn (l ++ quietly m μ ∷ []) ≡ talkIn l
+  closing-talk = rw (talk-append l (quietly m μ ∷ []), append-nil)
 
 module _ (m : Machine) (memory rest full : List ℕ) (whole : full ≡ memory ++ rest) where
   abbrev Found-in : List Moment → After RunAnswer → Type 0
-  Found-in l f = Recorded (quietly m full ∷ l ++ quietly (f .machine) (f .memory ++ rest) ∷ []) (quietly m full) rest f
+  Found-in l f = Recorded (l ++ quietly (f .machine) (f .memory ++ rest) ∷ []) (quietly m full) rest f
 
   -- a run that executed nothing
-  recorded-none : (answer : RunAnswer) → executedIn answer ≡ 0 → leaving answer m ≡ m → Found-in [] (unchanged answer m memory)
-  recorded-none answer c e =
-      record { as-many = sym c; same-talk = refl; no-other-talk = refl; same-machine = e; same-memory = whole }
+  recorded-none : (answer : RunAnswer) (n : Machine) → executedIn answer ≡ 0 → leaving answer m ≡ n
+      → Found-in (idle m memory rest) (unchanged answer n memory)
+  recorded-none answer n c e =
+      record { as-many = sym c; same-talk = refl; no-other-talk = refl; same-machine = e; same-memory = refl }
 
-  recorded-found : (l : List Moment) (f : Finish) → Found l (quietly m full) rest f → Found-in l (finished f)
-  recorded-found l f h =
-      let bs = framed-bytes m (f .world .machine) full (f .world .memory ++ rest) l ∙ h .all-bytes in
+  recorded-found : (a : Moment) (l : List Moment) (f : Finish) → a .instruction ≡ false → a .talk ≡ [] → Found l a rest f
+      → Found-in (a ∷ l) (finished f)
+  recorded-found a l f i t h =
+      let w = f .world in
+      let skips : afterBytes (a ∷ l) ≡ afterBytes l = rw i in
+      let bs = closing-bytes (a ∷ l) (w .machine) (w .memory ++ rest) ∙ skips ∙ h .all-bytes in
       record {
         as-many = rw bs (h .as-many);
         same-talk = rw bs (h .same-talk);
-        no-other-talk = framed-talk m (f .world .machine) full (f .world .memory ++ rest) l ∙ h .same-talk;
+        no-other-talk = closing-talk (a ∷ l) (w .machine) (w .memory ++ rest) ∙ (rw t (h .same-talk));
         same-machine = rw bs (h .same-machine);
         same-memory = rw bs (h .same-memory);
       }
 
-  recorded : (code : List ℕ) (b : ℕ) → Found-in (during m code memory rest b) (run m code memory b)
-  recorded code b =
-      by-run m code memory
-      (λ k z e. rw (e b, during-short m code memory rest z b) (recorded-none (RunShort k) refl refl))
+  recorded : (code : List ℕ) (b c : ℕ) → Found-in (during m code memory rest b c) (run m code memory b c)
+  recorded code b c =
+      by-run m code memory c
+      (λ k i z e. rw (e b, during-refused m code memory rest c z b) (recorded-none k m (idle-count k i) (idle-machine k i)))
       (λ k f e.
       let same : keep k (worldOf m []) .machine ≡ m = ap (λ z. machineWith (m .cpu) (m .offers) (m .held) z m) (sym f) in
-      rw (e b, during-kept m code memory rest f b) (recorded-none (Ran (RunFault 0 k)) refl same))
+      rw (e b, during-kept m code memory rest c f b) (recorded-none (Ran (RunFault 0 k)) m refl same))
+      (λ k i n f e.
+      rw (e b, during-stays m code memory rest c i n f b) (recorded-none (Ran (RunFault 0 k)) (keep k (worldOf m []) .machine) refl refl))
       (λ g.
-      let s = worldOf m memory in
-      rw (run-goes g b, during-goes m code memory rest g b)
-      (recorded-found (bytes b code rest s) (runFrom b code 0 s) (found code rest b s (quietly m full) refl refl whole)))
+      let t = g .begun in
+      let silent : t .talk ≡ [] = beginning-silent c (worldOf m memory) (g .begins) in
+      let s = worldOf (t .machine) (t .memory) in
+      let again : t ≡ s = ap (λ z. record { machine = t .machine; memory = t .memory; talk = z }) silent in
+      rw (run-goes g b, during-goes m code memory rest c g b, again)
+      (recorded-found (opening m code memory rest c s) (bytes b code rest s) (runFrom b code 0 s) refl refl
+      (found code rest b s (opening m code memory rest c s) refl refl refl)))
+    where
+      idle-count : (k : RunAnswer) → NoRun k → executedIn k ≡ 0
+      idle-count EarlierClock i = refl
+      idle-count (RunShort n) i = refl
+      idle-count (Ran o) i = absurd i
+
+      idle-machine : (k : RunAnswer) → NoRun k → leaving k m ≡ m
+      idle-machine EarlierClock i = refl
+      idle-machine (RunShort n) i = refl
+      idle-machine (Ran o) i = absurd i
 
 pub run-records : Records
 unfolding call
-run-records m code behind memory codeLent lent b =
+run-records m code behind memory codeLent lent b c =
     recorded m (L.take lent memory) (drop lent memory) memory (sym (take-append-drop lent memory)) (L.take codeLent (code ++ behind)) b
+    (low c)
 
 -- with more to spend the moments go on
-longer : (m : Machine) (code memory rest : List ℕ) (a b : ℕ)
-    → (more : List Moment) × (afterBytes (during m code memory rest (a + b)) ≡ afterBytes (during m code memory rest a) ++ more)
-longer m code memory rest a b =
-    by-run m code memory
-    (λ k z e. ([], rw (during-short m code memory rest z (a + b), during-short m code memory rest z a)))
-    (λ k f e. ([], rw (during-kept m code memory rest f (a + b), during-kept m code memory rest f a)))
+longer : (m : Machine) (code memory rest : List ℕ) (a b c : ℕ)
+    → (more : List Moment) × (afterBytes (during m code memory rest (a + b) c) ≡ afterBytes (during m code memory rest a c) ++ more)
+longer m code memory rest a b c =
+    by-run m code memory c
+    (λ k i z e. ([], rw (during-refused m code memory rest c z (a + b), during-refused m code memory rest c z a)))
+    (λ k f e. ([], rw (during-kept m code memory rest c f (a + b), during-kept m code memory rest c f a)))
+    (λ k i n f e. ([], rw (during-stays m code memory rest c i n f (a + b), during-stays m code memory rest c i n f a)))
     (λ g.
-    let (more, h) = found-longer code rest a b (worldOf m memory) in
-    (afterBytes more, rw (during-goes m code memory rest g (a + b), during-goes m code memory rest g a, h, after-append)))
+    let (more, h) = found-longer code rest a b (worldOf (g .begun .machine) (g .begun .memory)) in
+    (afterBytes more, rw (during-goes m code memory rest c g (a + b), during-goes m code memory rest c g a, h, after-append)))
 
 pub run-continues : Continues
 unfolding call
-run-continues m code behind memory codeLent lent a b =
+run-continues m code behind memory codeLent lent a b c =
     let lent-code = L.take codeLent (code ++ behind) in
     let lent-memory = L.take lent memory in
     let rest = drop lent memory in
-    let (more, h) = longer m lent-code lent-memory rest a b in
-    let frame : (n : ℕ) → afterBytes (call code (callRun behind codeLent lent n) m memory .moments)
-    ≡ afterBytes (during m lent-code lent-memory rest n) =
+    let (more, h) = longer m lent-code lent-memory rest a b (low c) in
+    let frame : (n : ℕ) → afterBytes (call code (callRun behind codeLent lent n c) m memory .moments)
+    ≡ afterBytes (during m lent-code lent-memory rest n (low c)) =
     λ n.
-    let f = run m lent-code lent-memory n in
-    framed-bytes m (f .machine) memory (f .memory ++ rest) (during m lent-code lent-memory rest n) in
+    let f = run m lent-code lent-memory n (low c) in
+    closing-bytes (during m lent-code lent-memory rest n (low c)) (f .machine) (f .memory ++ rest) in
     (more, frame (a + b) ∙ h ∙ ap (λ z. z ++ more) (sym (frame a)))

@@ -12,7 +12,7 @@ use Rattle.model.specs.Answers.{refusal, refusedReading, refusedCompilin
 use Rattle.model.specs.Reader.{Read, program, refused as unread}
 use Rattle.model.specs.Accept.{answerOf}
 use Rattle.model.specs.Code.{Compilation, compiled, refused, compiledAnswer}
-use Rattle.model.specs.Run.{Finish, shortMemory, worldOf, keptOrRun, start, run}
+use Rattle.model.specs.Run.{Finish, shortMemory, worldOf, keptOrRun, start, run, earlierClock}
 use Rattle.model.specs.Outside.{offering, offerUnless, offer, taking, takeUnless, take}
 use Rattle.model.specs.Refusals.{readRefusal, compileRefusal, startRefusal, keptOr, ranInto, cameTo, runRefusal, offerRefusal}
 use Rattle.model.specs.Refusals.{takeRefusal}
@@ -81,11 +81,13 @@ run-kept Nothing m memory f = ran-into (f .outcome)
 run-kept (KeptFault k) m memory f = refl
 
 pub run-refuses :
-    (m : Machine) (code memory : List ℕ) (budget : ℕ) → refusedRun (run m code memory budget .answer) ≡ runRefusal m code memory budget
+    (m : Machine) (code memory : List ℕ) (budget c : ℕ)
+    → refusedRun (run m code memory budget c .answer) ≡ runRefusal m code memory budget c
 unfolding run runRefusal
-run-refuses m code memory budget =
-    by-bool (ltb (length code) (m .setup .code)) (λ s. rw s)
-    (λ s. by-bool (shortMemory m memory) (λ t. rw (s, t)) (λ t. rw (s, t) (run-kept (m .fault) m memory _)))
+run-refuses m code memory budget c =
+    by-bool (earlierClock m c) (λ e. rw e)
+    (λ e. by-bool (ltb (length code) (m .setup .code)) (λ s. rw (e, s))
+    (λ s. by-bool (shortMemory m memory) (λ t. rw (e, s, t)) (λ t. rw (e, s, t) (run-kept (m .fault) m memory _))))
 
 module _ (m : Machine) (memory : List ℕ) (k : ℕ) where
   offer-kept :

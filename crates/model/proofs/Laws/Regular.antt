@@ -1,4 +1,5 @@
--- A byte, an offer and a take keep the setup, the kept fault and the words beyond the machine's memory, and only add to the communications.
+-- A byte, an offer, a take and a run's waking keep the setup, the kept fault, the clock and the words beyond the machine's memory, and only
+-- add to the communications.
 use Prim.Native.Nat.{ℕ, _<_}
 use mathlib.Core.Path.{_≡_, refl, _∙_}
 use mathlib.Core.Bool.{Bool, cond}
@@ -7,18 +8,20 @@ use lib.ListN.{length, set, drop, length-set}
 use lib.Seq.{drop-set-lt}
 use lib.Dec.{ltb, leb, eqb}
 use borrow.Author.Tests.{ltb-true}
-use Rattle.model.specs.Machine.{Talk, World, Result, done, faults, Act, next, _>>=_, _>>_, return, fault, machineWith, withMemory}
-use Rattle.model.specs.Machine.{registers, setRegisters, setup, communicate, memorySize, peek, poke, testPlace, resume, takeFront}
-use Rattle.model.specs.Machine.{release, join}
-use Rattle.model.specs.Execute.{dropOffer, heldAt}
+use Rattle.model.specs.Machine.{Talk, World, Result, done, faults, Act, next, _>>=_, _>>_, return, fault, withMemory}
+use Rattle.model.specs.Machine.{registers, setRegisters, setup, timer, setFront, communicate, readClock, memorySize, peek, poke}
+use Rattle.model.specs.Machine.{testPlace, resume, takeFront, release, join, heldAt}
+use Rattle.model.specs.Execute.{dropOffer}
 use Rattle.model.specs.Run.{byte}
 use Rattle.model.specs.Outside.{hold, offering, outputWordOf, taking}
 use Rattle.model.specs.declared.Cpu.{Cpu}
+use Rattle.model.specs.declared.Timer.{Timer}
 use Rattle.model.specs.declared.FaultKind.{FaultKind}
 use Rattle.model.proofs.Cases.{by-bool, of-cond}
-use Rattle.model.proofs.Laws.Made.{Made, binds, reads, sets, returns, fails, reads-setup, communicates, drops, asks, holds, outputs}
-use Rattle.model.proofs.Laws.Made.{peeks, pokes, tests, releases, joins, of-byte as made-byte, of-offering as made-offering}
-use Rattle.model.proofs.Laws.Made.{of-taking as made-taking}
+use Rattle.model.proofs.Laws.Made.{Made, binds, reads, sets, returns, fails, reads-setup, communicates, reads-clock, reads-timer}
+use Rattle.model.proofs.Laws.Made.{fronts, drops, asks, holds, outputs, peeks, pokes, tests, releases, joins}
+use Rattle.model.proofs.Laws.Made.{of-byte as made-byte, of-offering as made-offering, of-taking as made-taking}
+use Rattle.model.proofs.Laws.Made.{begins, of-begins as made-begins}
 
 -- a world with the communications t before its own
 abbrev pub behind : List Talk → World → World
@@ -28,19 +31,30 @@ behind t s = record { machine = s .machine; memory = s .memory; talk = t ++ s .t
 pub record Same (s s′ : World) : Type 0 where
   pub setup-same : s′ .machine .setup ≡ s .machine .setup
   pub fault-same : s′ .machine .fault ≡ s .machine .fault
+  pub clock-same : s′ .machine .timer .clock ≡ s .machine .timer .clock
+  pub given-same : s′ .machine .timer .given ≡ s .machine .timer .given
   pub length-same : length (s′ .memory) ≡ length (s .memory)
   pub beyond-same : drop (memorySize (s .machine .setup)) (s′ .memory) ≡ drop (memorySize (s .machine .setup)) (s .memory)
 
--- registers, offers and communications may change
-same-rest : {r : Cpu} {o : List ℕ} {h : List Bool} {t : List Talk} {s : World}
-    → Same s (record { machine = machineWith r o h (s .machine .fault) (s .machine); memory = s .memory; talk = t })
-same-rest = record { setup-same = refl; fault-same = refl; length-same = refl; beyond-same = refl }
+-- registers, offers, clock, timer queue and communications may change
+same-rest : {r : Cpu} {o : List ℕ} {h : List Bool} {f : ℕ} {t : List Talk} {s : World}
+    → let m = s .machine in
+    let c : Timer = record { clock = m .timer .clock; given = m .timer .given; front = f } in
+    Same s (record {
+      machine = record { cpu = r; setup = m .setup; timer = c; offers = o; held = h; fault = m .fault };
+      memory = s .memory;
+      talk = t;
+    })
+same-rest =
+    record { setup-same = refl; fault-same = refl; clock-same = refl; given-same = refl; length-same = refl; beyond-same = refl }
 
 same-trans : {s s′ s″ : World} → Same s s′ → Same s′ s″ → Same s s″
 same-trans h k =
     record {
       setup-same = k .setup-same ∙ h .setup-same;
       fault-same = k .fault-same ∙ h .fault-same;
+      clock-same = k .clock-same ∙ h .clock-same;
+      given-same = k .given-same ∙ h .given-same;
       length-same = k .length-same ∙ h .length-same;
       beyond-same = (rw (h .setup-same) at (k .beyond-same)) ∙ h .beyond-same;
     }
@@ -98,6 +112,15 @@ of-setup = record { from = λ t s. both-done _ same-rest }
 of-communicate : (c v : ℕ) → Regular (communicate c v)
 of-communicate c v = record { from = λ t s. rw append-assoc (both-done tt same-rest) }
 
+of-readClock : (c : ℕ) → Regular (readClock c)
+of-readClock c = record { from = λ t s. rw append-assoc (both-done tt same-rest) }
+
+of-timer : Regular timer
+of-timer = record { from = λ t s. both-done _ same-rest }
+
+of-setFront : (f : ℕ) → Regular (setFront f)
+of-setFront f = record { from = λ t s. both-done tt same-rest }
+
 of-dropOffer : (c : ℕ) → Regular (dropOffer c)
 of-dropOffer c = record { from = λ t s. both-done _ same-rest }
 
@@ -125,6 +148,8 @@ of-poke a v =
         record {
           setup-same = refl;
           fault-same = refl;
+          clock-same = refl;
+          given-same = refl;
           length-same = length-set (s .memory) a v;
           beyond-same = drop-set-lt _ (s .memory) a v h;
         }
@@ -168,14 +193,17 @@ of-join w =
 abbrev AnyRegisters : Cpu → Type 0
 AnyRegisters r = Unit {0}
 
-regular : {A : Type 0} {a : Act A} → Made AnyRegisters A a → Regular a
+regular : {A : Type 0} {a : Act A} → Made AnyRegisters (Unit {0}) A a → Regular a
 regular (binds h k) = bind (regular h) (λ x. regular (k x))
 regular (reads k) = bind of-registers (λ r. regular (k r tt))
 regular (sets r h) = of-setRegisters r
 regular (returns a) = returned a
 regular (fails k) = failed k
 regular reads-setup = of-setup
-regular (communicates c v) = of-communicate c v
+regular (communicates h c v) = of-communicate c v
+regular (reads-clock h c) = of-readClock c
+regular reads-timer = of-timer
+regular (fronts f) = of-setFront f
 regular (drops c) = of-dropOffer c
 regular (asks c) = of-heldAt c
 regular (holds k v) = of-hold k v
@@ -183,14 +211,17 @@ regular (outputs k) = of-outputWordOf k
 regular (peeks a) = of-peek a
 regular (pokes a v) = of-poke a v
 regular (tests p) = of-testPlace p
-regular releases = of-release
+regular (releases h) = of-release
 regular (joins w) = of-join w
 
 pub of-byte : (code : List ℕ) → Regular (byte code)
-of-byte code = regular (made-byte (λ r q h e f. tt) code)
+of-byte code = regular (made-byte (λ r q h e f. tt) tt code)
 
 pub of-offering : (k v : ℕ) → Regular (offering k v)
-of-offering k v = regular (made-offering (λ r q h e f. tt) k v)
+of-offering k v = regular (made-offering (λ r q h e f. tt) tt k v)
 
 pub of-taking : (k : ℕ) → Regular (taking k)
-of-taking k = regular (made-taking (λ r q h e f. tt) k)
+of-taking k = regular (made-taking (λ r q h e f. tt) tt k)
+
+pub of-begins : (r : Cpu) → Regular (begins r)
+of-begins r = regular (made-begins (λ r q h e. tt) tt r)

@@ -4,7 +4,7 @@ use Prim.Native.Nat.{ℕ, zero, suc, _+_, _-_, _≤_}
 use native.Mathlib.Omega.{arith}
 use mathlib.Core.Path.{_≡_, refl, sym, ap, _∙_}
 use mathlib.Core.Logic.{_⊎_, inl, inr, ⊎-elim}
-use mathlib.Core.Bool.{false, not}
+use mathlib.Core.Bool.{Bool, true, false, cond, not}
 use mathlib.Core.List.{List, [], _∷_, _++_, append-nil, append-assoc}
 use mathlib.Core.Option.{Option, none, some}
 use lib.ListN.{length, drop, replicate, length-append, length-replicate}
@@ -16,13 +16,13 @@ use Rattle.model.specs.Syntax.{Program}
 use Rattle.model.specs.Accept.{memoryWords}
 use Rattle.model.specs.Layout.{base}
 use Rattle.model.specs.Code.{Compilation, compiled, refused, compile}
-use Rattle.model.specs.Machine.{World, done, Act, peek, poke, stateWord, spaceOf}
+use Rattle.model.specs.Machine.{World, done, Act, return, release, peek, poke, stateWord, spaceOf}
 use Rattle.model.specs.Execute.{receive, received}
 use Rattle.model.specs.Run.{land, byte, ended, waits, runFrom, shortMemory, After, unchanged, worldOf, finished, fresh, blank}
-use Rattle.model.specs.Run.{cleared, start}
-use Rattle.model.specs.Outside.{waking, outputWordOf, looking, taken, taking, took as tookBy, take}
+use Rattle.model.specs.Run.{cleared, start, waking, beginning, earlierClock}
+use Rattle.model.specs.Outside.{outputWordOf, looking, taken, taking, took as tookBy, take}
 use Rattle.model.specs.Bench.{line, codeLine, outLine, tookOne, takes, benchBudget, benchSlice, onTakes, onRun, rounds, ofCompilation}
-use Rattle.model.specs.Bench.{bench}
+use Rattle.model.specs.Bench.{bench, benchClock}
 use Rattle.model.specs.Laws.{Out, outLines, Standing, ended as stoodEnded, waiting, spent, fault, standingName, Report, one-refusal}
 use Rattle.model.specs.Laws.{full, counted, Took, AlwaysReports}
 use Rattle.model.specs.declared.Cpu.{Cpu}
@@ -33,10 +33,13 @@ use Rattle.model.specs.declared.StartAnswer.{StartAnswer}
 use Rattle.model.specs.declared.TakeAnswer.{TakeAnswer}
 use Rattle.model.specs.declared.TakeAnswer.the-variants.{Taken, Nothing, Short as TakeShort, Fault as TakeFault, NoChannel}
 use Rattle.model.proofs.Cases.{by-bool, by-option, never}
-use Rattle.model.proofs.Laws.Keeping.{Keeps, Brings, brings-keeps, bind, at-first, at-last, returning, picks, of-peek, of-testPlace}
-use Rattle.model.proofs.Laws.Keeping.{Runs, join-runs}
-use Rattle.model.proofs.Laws.Regular.{by-alike, of-taking as regular-taking}
-use Rattle.model.proofs.Laws.Runs.{by-result, run-goes, by-run, took, bytes-same, NoValue, by-take, by-start}
+use Rattle.model.proofs.Laws.Keeping.{Left, Keeps, Brings, brings-keeps, bind, at-first, at-last, returning, picks, of-peek}
+use Rattle.model.proofs.Laws.Keeping.{of-testPlace}
+use Rattle.model.proofs.Laws.Keeping.{Runs, join-runs, keeps}
+use Rattle.model.proofs.Laws.Made.{begins, clocked, beginning-is, of-wakeSleepers}
+use Rattle.model.proofs.Laws.Regular.{Same, by-alike, of-taking as regular-taking}
+use Rattle.model.proofs.Laws.Runs.{by-result, not-after-itself, Goes, run-goes, by-run, begun-same, took, bytes-same, NoValue}
+use Rattle.model.proofs.Laws.Runs.{by-take, by-start}
 use Rattle.model.proofs.Laws.Recorded.{run-anew}
 
 -- lines of outputs, and at the end how the machine stood
@@ -54,12 +57,35 @@ ends-behind outs (ends more stood n b) = rw (← append-assoc, ← out-lines-app
 
 -- code and memory as a run asks for them
 record Lent (prog : List ℕ) (m : Machine) (memory : List ℕ) : Type 0 where
+  not-earlier : earlierClock m benchClock ≡ false
   code-long : ltb (length prog) (m .setup .code) ≡ false
   memory-long : shortMemory m memory ≡ false
 
-lent-same : {prog : List ℕ} {m m′ : Machine} {memory memory′ : List ℕ} → m′ .setup ≡ m .setup → length memory′ ≡ length memory
+-- what a take leaves of a machine
+record Fixed (m m′ : Machine) : Type 0 where
+  setup-same : m′ .setup ≡ m .setup
+  clock-same : m′ .timer .clock ≡ m .timer .clock
+  given-same : m′ .timer .given ≡ m .timer .given
+
+fixed : {s t : World} → Same s t → Fixed (s .machine) (t .machine)
+fixed h = record { setup-same = h .setup-same; clock-same = h .clock-same; given-same = h .given-same }
+
+fixed-trans : {m m′ m″ : Machine} → Fixed m m′ → Fixed m′ m″ → Fixed m m″
+fixed-trans h k =
+    record {
+      setup-same = k .setup-same ∙ h .setup-same;
+      clock-same = k .clock-same ∙ h .clock-same;
+      given-same = k .given-same ∙ h .given-same;
+    }
+
+lent-same : {prog : List ℕ} {m m′ : Machine} {memory memory′ : List ℕ} → Fixed m m′ → length memory′ ≡ length memory
     → Lent prog m memory → Lent prog m′ memory′
-lent-same e f h = record { code-long = rw e (h .code-long); memory-long = rw (e, f) (h .memory-long) }
+lent-same e f h =
+    record {
+      not-earlier = rw (e .clock-same, e .given-same) (h .not-earlier);
+      code-long = rw (e .setup-same) (h .code-long);
+      memory-long = rw (e .setup-same, f) (h .memory-long);
+    }
 
 -- a take that finds a sender wakes it, and then a process has the processor
 of-land : Keeps Runs land
@@ -112,15 +138,18 @@ taken-runs k s t v e =
 record Printed (m : Machine) (memory lines : List ℕ) (m′ : Machine) (memory′ : List ℕ) : Type 0 where
   outs : List Out
   are : lines ≡ outLines outs
-  setup-same : m′ .setup ≡ m .setup
+  fixes : Fixed m m′
   length-same : length memory′ ≡ length memory
   busy : Runs (m .cpu) → Runs (m′ .cpu)
   woken : (outs ≡ []) ⊎ Runs (m′ .cpu)
 
 -- a take without a value leaves registers and setup
-printed-none : (m m′ : Machine) {memory : List ℕ} → m′ .cpu ≡ m .cpu → m′ .setup ≡ m .setup → Printed m memory [] m′ memory
+printed-none : (m m′ : Machine) {memory : List ℕ} → m′ .cpu ≡ m .cpu → Fixed m m′ → Printed m memory [] m′ memory
 printed-none m m′ e f =
-    record { outs = []; are = refl; setup-same = f; length-same = refl; busy = λ h. ap (λ (r : Cpu). r .running) e ∙ h; woken = inl refl }
+    record { outs = []; are = refl; fixes = f; length-same = refl; busy = λ h. ap (λ (r : Cpu). r .running) e ∙ h; woken = inl refl }
+
+fixed-still : {m : Machine} → Fixed m m
+fixed-still = record { setup-same = refl; clock-same = refl; given-same = refl }
 
 both : {A B : Type 0} (l k : List Out) → (l ≡ []) ⊎ A → (k ≡ []) ⊎ B → (A → B) → (l ++ k ≡ []) ⊎ B
 both l k (inl e) (inl f) on = inl (rw (e, f))
@@ -133,7 +162,7 @@ printed-more h k =
     record {
       outs = h .outs ++ k .outs;
       are = rw (h .are, k .are) (sym (out-lines-append (h .outs) (k .outs)));
-      setup-same = k .setup-same ∙ h .setup-same;
+      fixes = fixed-trans (h .fixes) (k .fixes);
       length-same = k .length-same ∙ h .length-same;
       busy = λ r. k .busy (h .busy r);
       woken = both (h .outs) (k .outs) (h .woken) (k .woken) (k .busy);
@@ -153,7 +182,7 @@ module _ (m : Machine) (memory : List ℕ) (k : ℕ) where
       (λ e. rw (p, e) (record {
         outs = [];
         are = refl;
-        setup-same = h .setup-same;
+        fixes = fixed h;
         length-same = h .length-same;
         busy = stay;
         woken = inl refl;
@@ -161,20 +190,20 @@ module _ (m : Machine) (memory : List ℕ) (k : ℕ) where
       (λ x e. rw (p, e) (record {
         outs = record { number = k; value = x } ∷ [];
         are = sym (append-nil (outLine k x));
-        setup-same = h .setup-same;
+        fixes = fixed h;
         length-same = h .length-same;
         busy = stay;
         woken = inr (taken-runs k w s x (rw e at p));
       })))
-      (λ f p q. rw p (printed-none m _ refl refl))
+      (λ f p q. rw p (printed-none m _ refl (record { setup-same = refl; clock-same = refl; given-same = refl })))
 
   -- a take that is refused
   refused-prints : (a : TakeAnswer) → NoValue a → Prints (unchanged a m memory)
   refused-prints (Taken v) h = absurd h
-  refused-prints Nothing h = printed-none m m refl refl
-  refused-prints (TakeShort n) h = printed-none m m refl refl
-  refused-prints (TakeFault f) h = printed-none m m refl refl
-  refused-prints NoChannel h = printed-none m m refl refl
+  refused-prints Nothing h = printed-none m m refl fixed-still
+  refused-prints (TakeShort n) h = printed-none m m refl fixed-still
+  refused-prints (TakeFault f) h = printed-none m m refl fixed-still
+  refused-prints NoChannel h = printed-none m m refl fixed-still
 
   take-prints : Prints (take m memory k)
   take-prints = by-take m memory k Prints refused-prints took-prints
@@ -182,7 +211,7 @@ module _ (m : Machine) (memory : List ℕ) (k : ℕ) where
 takes-print : (n k : ℕ) (m : Machine) (memory : List ℕ)
     → let t = takes n k m memory in Printed m memory (t .lines) (t .machine) (t .memory)
 unfolding takes
-takes-print zero k m memory = printed-none m m refl refl
+takes-print zero k m memory = printed-none m m refl fixed-still
 takes-print (suc n) k m memory =
     let t = take m memory k in
     printed-more (take-prints m memory k) (takes-print n (suc k) (t .machine) (t .memory))
@@ -212,6 +241,31 @@ by-list : {R : Type 0} (l : List ℕ) → (l ≡ [] → R) → ((x : ℕ) (k : L
 by-list [] n c = n refl
 by-list (x ∷ k) n c = c x k refl
 
+-- a process that has the processor keeps it through a run's beginning
+keeps-begins : (r : Cpu) → Keeps Runs (begins r)
+keeps-begins r =
+    bind (bind (keeps (λ n. absurd n) (λ w. brings-keeps (join-runs w)) (of-wakeSleepers {Fine = Runs} {More = ⊥} (λ r q h e. e ∙ h)))
+    (λ u. record { from = λ s h. settles (s .machine .cpu .running) s h h }))
+    (λ u. picks (r .running) (returning tt) of-land)
+  where
+    settles : (b : Bool) (s : World) → Runs (s .machine .cpu) → b ≡ true → Left Runs (cond b (return tt) release s)
+    settles true s h e = h
+    settles false s h e = never (cc)
+
+begun-runs : (c : ℕ) (s : World) {t : World} → beginning c s ≡ done tt t → Runs (s .machine .cpu) → Runs (t .machine .cpu)
+begun-runs c s e h = rw (← beginning-is c s, e) at (keeps-begins (s .machine .cpu) .from (clocked c s) h)
+
+-- what a run is lent after its beginning
+lent-begun : {prog memory : List ℕ} {m : Machine} (g : Goes m prog memory benchClock) → Lent prog m memory
+    → Lent prog (g .begun .machine) (g .begun .memory)
+lent-begun {prog} {memory} {m} g h =
+    let same = begun-same benchClock (worldOf m memory) (g .begins) in
+    record {
+      not-earlier = rw (same .clock-same, same .given-same) (not-after-itself benchClock);
+      code-long = rw (same .setup-same) (h .code-long);
+      memory-long = rw (same .setup-same, same .length-same) (h .memory-long);
+    }
+
 -- so many rounds are enough after so many instructions: one more than instructions are left, or two where no process runs yet
 abbrev Enough : (rounds total : ℕ) → Machine → Type 0
 Enough f total m = (benchBudget - total + 2 ≤ f) ⊎ (Runs (m .cpu) × (benchBudget - total + 1 ≤ f))
@@ -224,7 +278,7 @@ enough-next f total n m (inr (r, b)) h later =
 
 module _ (prog : List ℕ) (outs : ℕ) where
   -- how a run stood: the last line, or takes and what comes after them
-  module _ (total : ℕ) (inside : total ≤ benchBudget) (m : Machine) (memory : List ℕ) (h : Lent prog m memory)
+  module _ (total : ℕ) (inside : total ≤ benchBudget) (m : Machine)
       (more : ℕ → Machine → List ℕ → List ℕ)
       (next : (n : ℕ) (m′ : Machine) (memory′ : List ℕ) → n ≤ benchBudget - total → (Runs (m .cpu) → n ≡ 0 → _≡_ {A = ℕ} 0 1)
       → Lent prog m′ memory′ → Runs (m′ .cpu) → Ends (more (total + n) m′ memory′)) where
@@ -237,19 +291,19 @@ module _ (prog : List ℕ) (outs : ℕ) where
         by-list (s .lines) (λ e. rw e (ends [] waiting (total + n) (omega arith)))
         (λ x k e.
         let woken : Runs (s .machine .cpu) = ⊎-elim (λ z. never (cc (p .are, ap outLines z))) (λ r. r) (p .woken) in
-        let rest = next n (s .machine) (s .memory) few later (lent-same (p .setup-same) (p .length-same) g) woken in
+        let rest = next n (s .machine) (s .memory) few later (lent-same (p .fixes) (p .length-same) g) woken in
         let all : Ends (s .lines ++ more (total + n) (s .machine) (s .memory)) = rw (p .are) (ends-behind (p .outs) rest) in
         rw e (rw e at all))
 
-    run-ends : (o : Outcome) (t : World) → Took prog (benchBudget - total) (worldOf m memory) t o
+    run-ends : (s : World) → Lent prog (s .machine) (s .memory) → (o : Outcome) (t : World) → Took prog (benchBudget - total) s t o
         → (Runs (m .cpu) → o ≡ Waiting 0 → _≡_ {A = ℕ} 0 1)
         → Ends (onRun (finished (record { outcome = o; world = t })) outs total more)
-    run-ends (Ended n) t (d, few) later = ends [] stoodEnded (total + n) (omega arith)
-    run-ends (Spent n) t (d, few) later = ends [] spent (total + n) (omega arith)
-    run-ends (RunFault n f) t (u, d, e, w, few) later = ends [] fault (total + n) (omega arith)
-    run-ends (Waiting n) t (d, few) later =
+    run-ends s h (Ended n) t (d, few) later = ends [] stoodEnded (total + n) (omega arith)
+    run-ends s h (Spent n) t (d, few) later = ends [] spent (total + n) (omega arith)
+    run-ends s h (RunFault n f) t (u, d, e, w, few) later = ends [] fault (total + n) (omega arith)
+    run-ends s h (Waiting n) t (d, few) later =
         let same = bytes-same prog n d in
-        takes-end n t (lent-same (same .setup-same) (same .length-same) h) few (λ r z. later r (ap Waiting z))
+        takes-end n t (lent-same (fixed same) (same .length-same) h) few (λ r z. later r (ap Waiting z))
 
   rounds-end : (f total : ℕ) → total ≤ benchBudget → (m : Machine) (memory : List ℕ) → Lent prog m memory → Enough f total m
       → Ends (rounds f prog outs total m memory)
@@ -258,24 +312,32 @@ module _ (prog : List ℕ) (outs : ℕ) where
   rounds-end zero total inside m memory h (inr (r, b)) = absurd (omega arith)
   rounds-end (suc f) total inside m memory h left =
       let b = benchBudget - total in
-      let w = worldOf m memory in
-      let F = runFrom b prog 0 w in
-      by-run m prog memory
-      (λ k z e. never (cc (rw (h .code-long, h .memory-long) at z)))
+      by-run m prog memory benchClock
+      (λ k i z e. never (cc (rw (h .not-earlier, h .code-long, h .memory-long) at z)))
       (λ k f e. rw (e b) (ends [] fault (total + 0) (omega arith)))
-      (λ g. rw (run-goes g b)
-      (run-ends total inside m memory h (λ n m2 memory2. rounds f prog outs n m2 memory2)
+      (λ k i n f e. rw (e b) (ends [] fault (total + 0) (omega arith)))
+      (λ g.
+      let w = g .begun in
+      let F = runFrom b prog 0 w in
+      rw (run-goes g b)
+      (run-ends total inside m (λ n m2 memory2. rounds f prog outs n m2 memory2)
       (λ n m′ memory′ few later g′ r.
       rounds-end f (total + n) (omega arith) m′ memory′ g′ (inr (r, enough-next f total n m left few later)))
-      (F .outcome) (F .world) (took prog b w) (λ r e. waits-later prog b w r e)))
+      w (lent-begun g h) (F .outcome) (F .world) (took prog b w)
+      (λ r e. waits-later prog b w (begun-runs benchClock (worldOf m memory) (g .begins) r) e)))
 
 -- a started machine is lent what it needs, and so is one whose start was refused: it needs nothing
 start-lent : (code memory : List ℕ) (w i o q : ℕ) → let s = start code memory w i o q in Lent code (s .machine) (s .memory)
 unfolding fresh blank cleared
 start-lent code memory w i o q =
     by-start code memory w i o q (λ (f : After StartAnswer). Lent code (f .machine) (f .memory))
-    (λ a. record { code-long = le-ltb (length code) 0 (omega arith); memory-long = le-ltb (length memory) 0 (omega arith) })
+    (λ a. record {
+      not-earlier = refl;
+      code-long = le-ltb (length code) 0 (omega arith);
+      memory-long = le-ltb (length memory) 0 (omega arith);
+    })
     (record {
+      not-earlier = refl;
       code-long = le-ltb (length code) (length code) (omega arith);
       memory-long = le-ltb _ (w + i + o)
           (omega (

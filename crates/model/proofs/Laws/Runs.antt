@@ -1,26 +1,28 @@
 -- The laws of specs/Laws.antt.
-use Prim.Native.Nat.{ℕ, zero, suc, _+_}
+use Prim.Native.Nat.{ℕ, zero, suc, _+_, _-_, _^_}
 use native.Mathlib.Omega.{arith}
 use native.Mathlib.Nat.{zero-add, suc-add, add-suc, add-zero}
-use mathlib.Core.Path.{_≡_, refl, ap, _∙_}
+use mathlib.Core.Path.{_≡_, refl, ap, _∙_, subst}
 use mathlib.Core.Bool.{true, false, _&&_, _||_}
 use mathlib.Core.List.{List, [], append-nil}
 use lib.ListN.{length, getD, drop}
 use lib.Dec.{ltb, leb}
+use Rattle.model.specs.Word.{signed, after}
 use Rattle.model.specs.Limits.{codeLimit, wordLimit, channelLimit, sliceLimit}
 use Rattle.model.specs.Machine.{Talk, World, Result, done, faults, memorySize}
-use Rattle.model.specs.Run.{byte, ended, waits, Finish, runFrom, shortMemory, After, unchanged, worldOf, finished, run, fresh, blank}
-use Rattle.model.specs.Run.{cleared, start}
+use Rattle.model.specs.Run.{byte, ended, waits, beginning, keep, Finish, runFrom, shortMemory, After, unchanged, worldOf, finished}
+use Rattle.model.specs.Run.{keptOrRun, begunRun, earlierClock, run, fresh, blank, cleared, start}
 use Rattle.model.specs.Outside.{offering, offered, offerUnless, offer, taking, took as tookBy, takeUnless, take}
 use Rattle.model.specs.Laws.{counted, andThen, Splits, Beyond, KeepsBeyond, OfferKeepsBeyond, TakeKeepsBeyond, bytes, Took}
-use Rattle.model.specs.Laws.{CountsSteps}
+use Rattle.model.specs.Laws.{WakesNobody, CountsSteps, begun, not-begun}
 use Rattle.model.specs.declared.Machine.{Machine}
 use Rattle.model.specs.declared.FaultKind.{FaultKind}
 use Rattle.model.specs.declared.Kept.{Kept}
 use Rattle.model.specs.declared.Kept.the-variants.{Nothing, Fault as KeptFault}
 use Rattle.model.specs.declared.Outcome.{Outcome}
 use Rattle.model.specs.declared.Outcome.the-variants.{Ended, Waiting, Spent, Fault as RunFault}
-use Rattle.model.specs.declared.RunAnswer.the-variants.{Ran, Short as RunShort}
+use Rattle.model.specs.declared.RunAnswer.{RunAnswer}
+use Rattle.model.specs.declared.RunAnswer.the-variants.{Ran, EarlierClock, Short as RunShort}
 use Rattle.model.specs.declared.Setup.{Setup}
 use Rattle.model.specs.declared.StartAnswer.{StartAnswer}
 use Rattle.model.specs.declared.StartAnswer.the-variants.{Started}
@@ -29,7 +31,8 @@ use Rattle.model.specs.declared.TakeAnswer.{TakeAnswer}
 use Rattle.model.specs.declared.TakeAnswer.the-variants.{Taken, Nothing as TakeNothing, Short as TakeShort, Fault as TakeFault}
 use Rattle.model.specs.declared.TakeAnswer.the-variants.{NoChannel}
 use Rattle.model.proofs.Cases.{by-bool, of-cond, never}
-use Rattle.model.proofs.Laws.Regular.{behind, Same, Regular, by-alike, seq, returned, of-byte, of-offering, of-taking}
+use Rattle.model.proofs.Laws.Made.{clocked, beginning-is}
+use Rattle.model.proofs.Laws.Regular.{behind, Same, Regular, by-alike, seq, returned, of-byte, of-offering, of-taking, of-begins}
 
 pub by-result : {A R : Type 0} (r : Result A) → ((a : A) (s : World) → r ≡ done a s → R) → ((k : FaultKind) → r ≡ faults k → R) → R
 by-result (done a s) d f = d a s refl
@@ -123,71 +126,145 @@ module _ (code : List ℕ) where
   took-beyond b s t (Spent n) (h, l) = let same = bytes-same n h in (same .length-same, same .beyond-same)
   took-beyond b s t (RunFault n k) (u, h, f, w, l) = let same = bytes-same n h in rw w (same .length-same, same .beyond-same)
 
--- a run that is not refused, with no fault kept
-pub record Goes (m : Machine) (code memory : List ℕ) : Type 0 where
+-- a clock is not after itself
+pub not-after-itself : (c : ℕ) → after c c ≡ false
+unfolding after signed
+not-after-itself c =
+    let e : c + 2 ^ 32 - c ≡ 2 ^ 32 = omega arith in
+    rw e
+
+-- a run that is not refused, with no fault kept, and what its beginning comes to
+pub record Goes (m : Machine) (code memory : List ℕ) (c : ℕ) : Type 0 where
+  pub not-earlier : earlierClock m c ≡ false
   pub code-long : ltb (length code) (m .setup .code) ≡ false
   pub memory-long : shortMemory m memory ≡ false
   pub no-fault : m .fault ≡ Nothing
+  pub begun : World
+  pub begins : beginning c (worldOf m memory) ≡ done tt begun
 
-pub run-goes : {m : Machine} {code memory : List ℕ} → Goes m code memory → (b : ℕ)
-    → run m code memory b ≡ finished (runFrom b code 0 (worldOf m memory))
+-- a run that is not refused comes to what its beginning comes to
+module _ (b : ℕ) (code : List ℕ) (c : ℕ) (s : World) where
+  begins-run : {t : World} → beginning c s ≡ done tt t → begunRun b code c s ≡ runFrom b code 0 t
+  unfolding begunRun
+  begins-run e = rw e
+
+  begins-fault : {k : FaultKind} → beginning c s ≡ faults k → begunRun b code c s ≡ record { outcome = RunFault 0 k; world = keep k s }
+  unfolding begunRun
+  begins-fault e = rw e
+
+comes-to :
+    (m : Machine) (code memory : List ℕ) (b c : ℕ) {f : Finish} → earlierClock m c ≡ false → ltb (length code) (m .setup .code) ≡ false
+    → shortMemory m memory ≡ false → m .fault ≡ Nothing → begunRun b code c (worldOf m memory) ≡ f → run m code memory b c ≡ finished f
 unfolding run
-run-goes g b = rw (g .code-long, g .memory-long, g .no-fault)
+comes-to m code memory b c w s l n e =
+    rw (w, s, l) (ap (λ f. keptOrRun f m memory (begunRun b code c (worldOf m memory))) n ∙ ap finished e)
 
--- a run is lent too little
-abbrev pub TooLittle : Machine → (code memory : List ℕ) → Type 0
-TooLittle m code memory = (ltb (length code) (m .setup .code) || shortMemory m memory) ≡ true
+pub run-goes : {m : Machine} {code memory : List ℕ} {c : ℕ} (g : Goes m code memory c) (b : ℕ)
+    → run m code memory b c ≡ finished (runFrom b code 0 (g .begun))
+run-goes {m} {code} {memory} {c} g b =
+    comes-to m code memory b c (g .not-earlier) (g .code-long) (g .memory-long) (g .no-fault) (begins-run b code c _ (g .begins))
 
--- whatever its budget, a run is refused, answers the kept fault, or goes
-pub by-run : {R : Type 0} (m : Machine) (code memory : List ℕ)
-    → ((k : ℕ) → TooLittle m code memory → ((b : ℕ) → run m code memory b ≡ unchanged (RunShort k) m memory) → R)
-    → ((k : FaultKind) → m .fault ≡ KeptFault k → ((b : ℕ) → run m code memory b ≡ unchanged (Ran (RunFault 0 k)) m memory) → R)
-    → (Goes m code memory → R) → R
+pub run-stays :
+    (m : Machine) (code memory : List ℕ) (c : ℕ) → earlierClock m c ≡ false → ltb (length code) (m .setup .code) ≡ false
+    → shortMemory m memory ≡ false → m .fault ≡ Nothing → {k : FaultKind} → beginning c (worldOf m memory) ≡ faults k → (b : ℕ)
+    → run m code memory b c ≡ finished (record { outcome = RunFault 0 k; world = keep k (worldOf m memory) })
+run-stays m code memory c w s l n e b = comes-to m code memory b c w s l n (begins-fault b code c _ e)
+
+-- a run brings an earlier clock, or is lent too little
+abbrev pub Refused : Machine → (code memory : List ℕ) → (clock : ℕ) → Type 0
+Refused m code memory c = (earlierClock m c || ltb (length code) (m .setup .code) || shortMemory m memory) ≡ true
+
+-- an answer that says so
+abbrev pub NoRun : RunAnswer → Type 0
+NoRun (Ran o) = ⊥
+NoRun EarlierClock = Unit {0}
+NoRun (RunShort k) = Unit {0}
+
+-- whatever its budget, a run is refused, answers the kept fault, cannot begin, or goes
+pub by-run : {R : Type 0} (m : Machine) (code memory : List ℕ) (c : ℕ)
+    → ((a : RunAnswer) → NoRun a → Refused m code memory c → ((b : ℕ) → run m code memory b c ≡ unchanged a m memory) → R)
+    → ((k : FaultKind) → m .fault ≡ KeptFault k → ((b : ℕ) → run m code memory b c ≡ unchanged (Ran (RunFault 0 k)) m memory) → R)
+    → ((k : FaultKind) → (Refused m code memory c → ⊥) → m .fault ≡ Nothing → beginning c (worldOf m memory) ≡ faults k
+    → ((b : ℕ) → run m code memory b c ≡ finished (record { outcome = RunFault 0 k; world = keep k (worldOf m memory) })) → R)
+    → (Goes m code memory c → R) → R
 unfolding run
-by-run m code memory short kept goes =
-    by-bool (ltb (length code) (m .setup .code)) (λ c. short (m .setup .code) (rw c) (λ b. rw c))
-    (λ c. by-bool (shortMemory m memory) (λ l. short (memorySize (m .setup)) (rw (c, l)) (λ b. rw (c, l)))
-    (λ l. by-kept (m .fault) (λ n. goes (record { code-long = c; memory-long = l; no-fault = n })) (λ k f. kept k f (λ b. rw (c, l, f)))))
+by-run m code memory c refused kept stays goes =
+    by-bool (earlierClock m c) (λ w. refused EarlierClock tt (rw w) (λ b. rw w))
+    (λ w. by-bool (ltb (length code) (m .setup .code)) (λ s. refused (RunShort (m .setup .code)) tt (rw (w, s)) (λ b. rw (w, s)))
+    (λ s. by-bool (shortMemory m memory) (λ l. refused (RunShort (memorySize (m .setup))) tt (rw (w, s, l)) (λ b. rw (w, s, l)))
+    (λ l. by-kept (m .fault)
+    (λ n. by-result (beginning c (worldOf m memory))
+    (λ u t e. goes (record { not-earlier = w; code-long = s; memory-long = l; no-fault = n; begun = t; begins = e }))
+    (λ k e. stays k (λ z. never (cc (rw (w, s, l) at z))) n e (run-stays m code memory c w s l n e)))
+    (λ k f. kept k f (λ b. rw (w, s, l, f))))))
 
--- where a spent run stopped, another goes
-splits-at : {m : Machine} {code memory : List ℕ} → Goes m code memory → (a b : ℕ) (o : Outcome) (w : World)
-    → Took code a (worldOf m memory) w o
-    → finished (extended b code o w) ≡ andThen (finished (record { outcome = o; world = w })) (run (w .machine) code (w .memory) b)
-splits-at g a b (Ended n) w h = refl
-splits-at g a b (Waiting n) w h = refl
-splits-at g a b (RunFault n k) w h = refl
-splits-at {code} g a b (Spent n) w (h, l) =
+-- what a run's beginning keeps, once it has its clock
+pub begun-same : (c : ℕ) (s : World) {t : World} → beginning c s ≡ done tt t → Same (clocked c s) t
+begun-same c s {t} e =
+    by-alike (of-begins (s .machine .cpu) .from [] (clocked c s))
+    (λ a s′ p q h. let w : s′ ≡ t = cc (beginning-is c s) in rw w at h) (λ k p q. never (cc (beginning-is c s)))
+
+-- where a spent run stopped, another goes under the same clock
+splits-at : {m : Machine} {code memory : List ℕ} {c : ℕ} (g : Goes m code memory c) (a b : ℕ) (o : Outcome) (w : World)
+    → Took code a (g .begun) w o → WakesNobody c (w .machine) (w .memory)
+    → finished (extended b code o w) ≡ andThen (finished (record { outcome = o; world = w })) (run (w .machine) code (w .memory) b c)
+splits-at g a b (Ended n) w h z = refl
+splits-at g a b (Waiting n) w h z = refl
+splits-at g a b (RunFault n k) w h z = refl
+splits-at {m} {code} {memory} {c} g a b (Spent n) w (h, l) z =
+    let first = begun-same c (worldOf m memory) (g .begins) in
     let same = bytes-same code n h in
-    let goes : Goes (w .machine) code (w .memory) = record {
-      code-long = rw (same .setup-same) (g .code-long);
-      memory-long = rw (same .setup-same, same .length-same) (g .memory-long);
-      no-fault = same .fault-same ∙ g .no-fault;
+    let clock : w .machine .timer .clock ≡ c = same .clock-same ∙ first .clock-same in
+    let goes : Goes (w .machine) code (w .memory) c = record {
+      not-earlier = rw (clock, same .given-same, first .given-same) (not-after-itself c);
+      code-long = rw (same .setup-same, first .setup-same) (g .code-long);
+      memory-long = rw (same .setup-same, same .length-same, first .setup-same, first .length-same) (g .memory-long);
+      no-fault = same .fault-same ∙ first .fault-same ∙ g .no-fault;
+      begun = worldOf (w .machine) (w .memory);
+      begins = z;
     } in
     rw (run-goes goes b) (ap finished (rw (add-zero, append-nil) at (run-behind code b n 0 (w .talk) (worldOf (w .machine) (w .memory)))))
 
+-- a run that was refused does not go on
+refused-stays : (a : RunAnswer) → NoRun a → (m : Machine) (memory : List ℕ) (g : After RunAnswer)
+    → unchanged a m memory ≡ andThen (unchanged a m memory) g
+refused-stays EarlierClock i m memory g = refl
+refused-stays (RunShort k) i m memory g = refl
+refused-stays (Ran o) i m memory g = absurd i
+
 pub run-splits : Splits
-run-splits m code memory a b =
-    by-run m code memory (λ k z e. rw (e (a + b), e a)) (λ k f e. rw (e (a + b), e a))
-    (λ g.
-    let s = worldOf m memory in
-    let f = runFrom a code 0 s in
-    rw (run-goes g (a + b), run-goes g a, run-extended code a b 0 s) (splits-at g a b (f .outcome) (f .world) (took code a s)))
+run-splits m code memory a b c =
+    by-run m code memory c (λ k i z e h. rw (e (a + b), e a) (refused-stays k i m memory _)) (λ k f e h. rw (e (a + b), e a))
+    (λ k i n f e h. rw (e (a + b), e a))
+    (λ g h.
+    let f = runFrom a code 0 (g .begun) in
+    rw (run-goes g (a + b), run-goes g a, run-extended code a b 0 (g .begun))
+    (splits-at g a b (f .outcome) (f .world) (took code a (g .begun)) (rw (run-goes g a) at h)))
 
 pub run-keeps-beyond : KeepsBeyond
-run-keeps-beyond m code memory b =
-    by-run m code memory (λ k z e. rw (e b) (refl, refl)) (λ k f e. rw (e b) (refl, refl))
+run-keeps-beyond m code memory b c =
+    by-run m code memory c (λ k i z e. rw (e b) (refl, refl)) (λ k f e. rw (e b) (refl, refl)) (λ k i n f e. rw (e b) (refl, refl))
     (λ g.
-    let s = worldOf m memory in
-    let f = runFrom b code 0 s in
-    rw (run-goes g b) (took-beyond code b s (f .world) (f .outcome) (took code b s)))
+    let f = runFrom b code 0 (g .begun) in
+    let first = begun-same c (worldOf m memory) (g .begins) in
+    let (long, same) = took-beyond code b (g .begun) (f .world) (f .outcome) (took code b (g .begun)) in
+    let here = subst (λ u. drop (memorySize u) (f .world .memory) ≡ drop (memorySize u) (g .begun .memory)) (first .setup-same) same in
+    rw (run-goes g b) (long ∙ first .length-same, here ∙ first .beyond-same))
 
 pub run-counts : CountsSteps
-run-counts m code memory b o n e =
-    by-run m code memory (λ k z r. never (cc (r b))) (λ k f r. never (cc))
+run-counts m code memory b c o n e =
+    by-run m code memory c (λ k i z r. never (no-run k i (cc (r b)))) (λ k f r. never (cc))
+    (λ k i z f r.
+    let is : o ≡ RunFault 0 k = cc (r b) in
+    rw (r b, is) (not-begun k f refl))
     (λ g.
-    let s = worldOf m memory in
-    let is : o ≡ runFrom b code 0 s .outcome = cc (run-goes g b) in
-    rw (run-goes g b, is) (took code b s))
+    let is : o ≡ runFrom b code 0 (g .begun) .outcome = cc (run-goes g b) in
+    rw (run-goes g b, is) (begun (g .begun) (g .begins) (took code b (g .begun))))
+  where
+    no-run : (a : RunAnswer) → NoRun a → a ≡ Ran o → _≡_ {A = ℕ} 0 1
+    no-run EarlierClock i z = cc
+    no-run (RunShort k) i z = cc
+    no-run (Ran p) i z = absurd i
 
 -- an offer or take that came to a result
 offer-beyond : (k v : ℕ) (m : Machine) (memory : List ℕ) → Beyond m memory (offered (offering k v (worldOf m memory)) m memory)

@@ -2,14 +2,15 @@
 use Prim.Native.Nat.{ℕ, zero, suc, _+_}
 use mathlib.Core.Path.{_≡_, refl, sym, _∙_}
 use mathlib.Core.Logic.{⊎-elim}
-use mathlib.Core.Bool.{false, _||_}
+use mathlib.Core.Bool.{Bool, true, false, cond, _||_}
 use mathlib.Core.List.{List, [], _∷_, _++_, List·Memᴰ, List·Memᴰ·cases-cons, List·Memᴰ·not-nil}
 use mathlib.Core.Option.{Option}
 use lib.ListN as L
 use lib.ListN.{drop}
 use Rattle.model.specs.Word.{low}
-use Rattle.model.specs.Machine.{World, Result, done, faults, Act, release}
-use Rattle.model.specs.Run.{byte, ended, waits, runFrom, After, worldOf, run, fresh, blank, start}
+use Rattle.model.specs.Machine.{World, Result, done, faults, Act, return, release}
+use Rattle.model.specs.Timer.{wakeSleepers}
+use Rattle.model.specs.Run.{byte, ended, waits, beginning, runFrom, After, worldOf, run, fresh, blank, start}
 use Rattle.model.specs.Outside.{offering, offered, offer, taking, took, take}
 use Rattle.model.specs.History.{Call, callRun, callOffer, callTake, Moment, bytes, during, call, history}
 use Rattle.model.specs.Laws.{WaitsWithEmptyQueue}
@@ -19,12 +20,11 @@ use Rattle.model.specs.declared.StartAnswer.{StartAnswer}
 use Rattle.model.specs.declared.OfferAnswer.{OfferAnswer}
 use Rattle.model.specs.declared.TakeAnswer.{TakeAnswer}
 use Rattle.model.proofs.Cases.{by-bool, never}
-use Rattle.model.proofs.Laws.Keeping.{Left, Keeps, brings-keeps, bind, returning, setting, of-peek, of-poke, of-testPlace}
-use Rattle.model.proofs.Laws.Keeping.{brings-weaker, Runs, takeFront-runs, join-runs}
-use Rattle.model.proofs.Laws.Made.{Made, binds, reads, sets, returns, fails, reads-setup, communicates, drops, asks, holds, outputs}
-use Rattle.model.proofs.Laws.Made.{peeks, pokes, tests, releases, joins, of-byte, of-offering, of-taking}
+use Rattle.model.proofs.Laws.Keeping.{Left, Keeps, Brings, brings-keeps, at-first, at-last, returning, picks, brings-weaker, Runs}
+use Rattle.model.proofs.Laws.Keeping.{takeFront-runs, join-runs, keeps}
+use Rattle.model.proofs.Laws.Made.{Made, of-byte, of-offering, of-taking, of-land, begins, clocked, beginning-is}
 use Rattle.model.proofs.Laws.Runs.{by-result, run-goes, by-run, by-offer, by-take, by-start}
-use Rattle.model.proofs.Laws.Recorded.{during-short, during-kept, during-goes}
+use Rattle.model.proofs.Laws.Recorded.{during-refused, during-kept, during-stays, during-goes}
 
 -- a processor without a process has an empty queue
 abbrev Settled : Cpu → Type 0
@@ -34,32 +34,17 @@ Settled r = r .running ≡ false → r .queued ≡ false
 busy : (r : Cpu) → Runs r → Settled r
 busy r e z = never (cc)
 
-of-release : Keeps Settled release
+release-settles : Brings Settled release
 unfolding release
-of-release =
+release-settles =
     record {
-      from = λ s h.
+      from = λ s.
           by-bool (s .machine .cpu .queued) (λ e. rw e (brings-weaker busy takeFront-runs .from _)) (λ e. rw e (λ z. refl));
     }
 
--- every act of the machine is made of these
-keeps : {A : Type 0} {a : Act A} → Made Settled A a → Keeps Settled a
-keeps (binds h k) = bind (keeps h) (λ x. keeps (k x))
-keeps (reads k) = record { from = λ s h. keeps (k (s .machine .cpu) h) .from s h }
-keeps (sets r h) = setting r h
-keeps (returns a) = returning a
-keeps (fails k) = record { from = λ s h. tt }
-keeps reads-setup = record { from = λ s h. h }
-keeps (communicates c v) = record { from = λ s h. h }
-keeps (drops c) = record { from = λ s h. h }
-keeps (asks c) = record { from = λ s h. h }
-keeps (holds k v) = record { from = λ s h. h }
-keeps (outputs k) = record { from = λ s h. h }
-keeps (peeks a) = of-peek a
-keeps (pokes a v) = of-poke a v
-keeps (tests p) = of-testPlace p
-keeps releases = of-release
-keeps (joins w) = brings-keeps (brings-weaker busy (join-runs w))
+-- every act of the machine keeps it
+kept : {A : Type 0} {a : Act A} → Made Settled (Unit {0}) A a → Keeps Settled a
+kept h = keeps (λ u. brings-keeps release-settles) (λ w. brings-keeps (brings-weaker busy (join-runs w))) h
 
 flags : (r q : Cpu) → Settled r → q .running ≡ r .running → q .queued ≡ r .queued → Settled q
 flags r q h e f z = f ∙ h (sym e ∙ z)
@@ -83,7 +68,7 @@ all-each (b ∷ l) (x, h) a m = ⊎-elim (λ e. rw e x) (λ t. all-each l h a t)
 
 module _ (code : List ℕ) where
   byte-settled : (s : World) → Settled (s .machine .cpu) → Left Settled (byte code s)
-  byte-settled s h = keeps (of-byte flags code) .from s h
+  byte-settled s h = kept (of-byte flags tt code) .from s h
 
   run-settled : (b n : ℕ) (s : World) → Settled (s .machine .cpu) → Rests (runFrom b code n s .world .machine)
   unfolding runFrom
@@ -107,17 +92,33 @@ module _ (code : List ℕ) where
       rw (e, d) (g, bytes-settled b rest (worldOf (t .machine) (t .memory)) g))
       (λ k d. rw (e, d) tt))
 
+-- a run's beginning leaves registers that are settled, whatever they were while it woke sleepers
+settled-begins : (r : Cpu) → Brings Settled (begins r)
+settled-begins r =
+    at-first (at-last wakeSleepers _ (λ u. record { from = λ s. settles (s .machine .cpu .running) s (λ e. busy (s .machine .cpu) e) }))
+    (λ u. picks (r .running) (returning tt) (kept of-land))
+  where
+    settles : (b : Bool) (s : World) → (b ≡ true → Settled (s .machine .cpu)) → Left Settled (cond b (return tt) release s)
+    settles true s h = h refl
+    settles false s h = release-settles .from s
+
+begun-settled : (c : ℕ) (s : World) {t : World} → beginning c s ≡ done tt t → Settled (t .machine .cpu)
+begun-settled c s e = let h = settled-begins (s .machine .cpu) .from (clocked c s) in rw (← beginning-is c s, e) at h
+
 -- a run, an offer and a take, whatever they are lent
 module _ (m : Machine) (h : Rests m) (memory : List ℕ) where
-  run-rests : (code : List ℕ) (b : ℕ) → Rests (run m code memory b .machine)
-  run-rests code b =
-      by-run m code memory (λ k z e. rw (e b) h) (λ k f e. rw (e b) h)
-      (λ g. rw (run-goes g b) (run-settled code b 0 (worldOf m memory) h))
+  run-rests : (code : List ℕ) (b c : ℕ) → Rests (run m code memory b c .machine)
+  run-rests code b c =
+      by-run m code memory c (λ k i z e. rw (e b) h) (λ k f e. rw (e b) h) (λ k i n f e. rw (e b) h)
+      (λ g. rw (run-goes g b) (run-settled code b 0 (g .begun) (begun-settled c (worldOf m memory) (g .begins))))
 
-  during-rests : (code rest : List ℕ) (b : ℕ) → All (during m code memory rest b)
-  during-rests code rest b =
-      by-run m code memory (λ k z e. rw (during-short m code memory rest z b) tt) (λ k f e. rw (during-kept m code memory rest f b) tt)
-      (λ g. rw (during-goes m code memory rest g b) (bytes-settled code b rest (worldOf m memory) h))
+  during-rests : (code rest : List ℕ) (b c : ℕ) → All (during m code memory rest b c)
+  during-rests code rest b c =
+      by-run m code memory c (λ k i z e. rw (during-refused m code memory rest c z b) (h, tt))
+      (λ k f e. rw (during-kept m code memory rest c f b) (h, tt)) (λ k i n f e. rw (during-stays m code memory rest c i n f b) (h, tt))
+      (λ g.
+      let s = begun-settled c (worldOf m memory) (g .begins) in
+      rw (during-goes m code memory rest c g b) (s, bytes-settled code b rest (worldOf (g .begun .machine) (g .begun .memory)) s))
 
   offered-rests : (r : Result (Unit {0})) → Left Settled r → Rests (offered r m memory .machine)
   offered-rests (done a s) g = g
@@ -127,7 +128,7 @@ module _ (m : Machine) (h : Rests m) (memory : List ℕ) where
   offer-rests k v =
       let w = worldOf m memory in
       by-offer m memory k v (λ (f : After OfferAnswer). Rests (f .machine)) (λ a. h)
-      (offered-rests (offering k v w) (keeps (of-offering flags k v) .from w h))
+      (offered-rests (offering k v w) (kept (of-offering flags tt k v) .from w h))
 
   took-rests : (r : Result (Option ℕ)) → Left Settled r → Rests (took r m memory .machine)
   took-rests (done a s) g = g
@@ -137,17 +138,17 @@ module _ (m : Machine) (h : Rests m) (memory : List ℕ) where
   take-rests k =
       let w = worldOf m memory in
       by-take m memory k (λ (f : After TakeAnswer). Rests (f .machine)) (λ a n. h)
-      (took-rests (taking k w) (keeps (of-taking flags k) .from w h))
+      (took-rests (taking k w) (kept (of-taking flags tt k) .from w h))
 
 call-rests : (code : List ℕ) (c : Call) (m : Machine) (memory : List ℕ) → Rests m
     → let r = call code c m memory in All (r .moments) × Rests (r .machine)
 unfolding call
-call-rests code (callRun behind codeLent lent b) m memory h =
+call-rests code (callRun behind codeLent lent b c) m memory h =
     let lent-code = L.take codeLent (code ++ behind) in
     let lent-memory = L.take lent memory in
-    let g = run-rests m h lent-memory lent-code b in
-    let found = during-rests m h lent-memory lent-code (drop lent memory) b in
-    ((h, all-append (during m lent-code lent-memory (drop lent memory) b) _ found (g, tt)), g)
+    let g = run-rests m h lent-memory lent-code b (low c) in
+    let found = during-rests m h lent-memory lent-code (drop lent memory) b (low c) in
+    (all-append (during m lent-code lent-memory (drop lent memory) b (low c)) _ found (g, tt), g)
 call-rests code (callOffer lent k v) m memory h = let g = offer-rests m h (L.take lent memory) k (low v) in ((g, tt), g)
 call-rests code (callTake lent k) m memory h = let g = take-rests m h (L.take lent memory) k in ((g, tt), g)
 

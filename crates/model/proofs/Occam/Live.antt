@@ -12,7 +12,7 @@ use Rattle.model.specs.Occam.{Store, isTrue, Frame, inSeq, inVar, inWhil
 use Rattle.model.specs.Occam.{Process, before, atInput, atOutput, atStop, atAlt, inPar, finished, Branches, noBranch, branch, over}
 use Rattle.model.specs.Occam.{branchAt, setBranch, endBranch, allOver, closed, branchesOf, framesOf, look, put, State, Communication}
 use Rattle.model.specs.Occam.{branchOf, Choice, first-guard, later-guard, Step, begins, ends, chooses, communicates, receives, Event}
-use Rattle.model.specs.Occam.{Outside, offered, held, taken, nobody, initial}
+use Rattle.model.specs.Occam.{Outside, offered, held, taken, nobody, ticked, initial}
 use Rattle.model.proofs.Cases.{never, of-cond}
 use Rattle.model.proofs.Occam.Paths.{under, look-under, put-in, par-whole, l-input, l-output, leaves-differ, look-put-other}
 
@@ -239,6 +239,7 @@ outside-most (offered e) = omega arith
 outside-most (held e) = omega arith
 outside-most {st} (taken path {f} e) = most-put path (st .process) (resume f) e (most-resume f)
 outside-most (nobody n) = omega arith
+outside-most (ticked h) = omega arith
 
 -- a program begins with no more than its processes
 pub initial-most : (p : Program) → most (initial p .process) ≤ processes (p .body)

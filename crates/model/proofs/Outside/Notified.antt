@@ -9,7 +9,7 @@ use mathlib.Core.List.{List, List·Memᴰ}
 use Rattle.model.specs.Limits.{wordLimit}
 use Rattle.model.specs.Syntax.{Site, inputOf, Guards}
 use Rattle.model.specs.Machine.{stateWord, nameOf}
-use Rattle.model.specs.Execute.{enabling, ready}
+use Rattle.model.specs.Alternative.{enabling, ready}
 use Rattle.model.specs.Occam.{store, Frame, Process, State, Sender, offers}
 use Rattle.model.proofs.Quiet.Names.{name-back, name-injective}
 use Rattle.model.proofs.Quiet.Ways.{upd-other, upd, Regs, Mem, way-stable}

@@ -15,7 +15,8 @@ use Rattle.model.specs.Word.{notProcess}
 use Rattle.model.specs.Syntax.{Site, inputOf}
 use Rattle.model.specs.Layout.{base}
 use Rattle.model.specs.Machine.{World, done, withOffers, join, stateWord, nameOf}
-use Rattle.model.specs.Execute.{isAltState, notify, deliver}
+use Rattle.model.specs.Alternative.{isAltState, notify}
+use Rattle.model.specs.Execute.{deliver}
 use Rattle.model.specs.Run.{land}
 use Rattle.model.specs.Outside.{offering}
 use Rattle.model.specs.Occam.{store, State, Sender, process, outside, offers}
@@ -121,6 +122,7 @@ module _ (L : Loaded) where
         eight = r .eight;
         offers = λ n h. offer-same L (st .store) (st .process) (r .offers n h) (e n);
         beyond = λ n h. sym (e n) ∙ r .beyond n h;
+        timed = r .timed;
       }
 
   -- and where one is held
@@ -136,6 +138,7 @@ module _ (L : Loaded) where
         eight = (length-set (s .machine .offers) k v ∙ r .eight .0, length-set (s .machine .held) k true ∙ r .eight .1);
         offers = λ n l. by n (ℕ-discrete n k) (r .offers n l);
         beyond = λ n l. rw (ne-eqb n k (λ e. absurd (omega arith))) (r .beyond n l);
+        timed = r .timed;
       }
     where
       by : (n : ℕ) → Dec (n ≡ k) → Offer L s st n → Offer L (holding k v s) (changed (st .store) (withOffer k v (st .offers)) st) n

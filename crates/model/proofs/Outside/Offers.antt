@@ -15,7 +15,7 @@ use Rattle.model.specs.Syntax.{Site, inputOf, Guards}
 use Rattle.model.specs.Layout.{base}
 use Rattle.model.specs.Scheme.{sizeEnable}
 use Rattle.model.specs.Machine.{World, done, resumeWord, stateWord, nameOf}
-use Rattle.model.specs.Execute.{isAltState, notify, waiting, ready, noneSelected}
+use Rattle.model.specs.Alternative.{isAltState, notify, waiting, ready, noneSelected}
 use Rattle.model.specs.Run.{land}
 use Rattle.model.specs.Outside.{offering}
 use Rattle.model.specs.Occam.{store, Frame, Process, atInput, atAlt, resume, State, over-channel, process, outside, receives, offers}

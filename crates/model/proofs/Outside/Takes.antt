@@ -12,10 +12,10 @@ use borrow.Author.Tests.{ne-eqb}
 use Rattle.model.specs.Word.{notProcess}
 use Rattle.model.specs.Syntax.{Site, outputOf}
 use Rattle.model.specs.Layout.{base}
-use Rattle.model.specs.Machine.{World, done, Act, return, join, resumeWord, stateWord, nameOf}
+use Rattle.model.specs.Machine.{World, done, Act, return, join, resumeWord, stateWord, nameOf, talks}
 use Rattle.model.specs.Execute.{receive, received}
-use Rattle.model.specs.Run.{land}
-use Rattle.model.specs.Outside.{waking, looking, taking}
+use Rattle.model.specs.Run.{land, waking}
+use Rattle.model.specs.Outside.{looking, taking}
 use Rattle.model.specs.Occam.{Frame, Process, atOutput, resume, State, Sender, takes, taken}
 use Rattle.model.specs.declared.Setup.{Setup}
 use Rattle.model.specs.declared.TakeAnswer.the-variants.{Taken}
@@ -53,7 +53,7 @@ waking-does act s u e f =
 
 -- the channel is empty again, and the process that waited is woken
 abbrev pub communicated : ℕ → ℕ → World → World
-communicated c v u = record { machine = u .machine; memory = u .memory; talk = u .talk ++ record { channel = c; value = v } ∷ [] }
+communicated c v u = record { machine = u .machine; memory = u .memory; talk = u .talk ++ talks c v ∷ [] }
 
 pub received-does : (c p v : ℕ) (s u : World) → c < sizeOf s → join p (stored c notProcess s) ≡ done tt u
     → received c p v s ≡ done tt (communicated c v u)

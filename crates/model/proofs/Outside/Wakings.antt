@@ -12,7 +12,7 @@ use Rattle.model.specs.Word.{notProcess}
 use Rattle.model.specs.Syntax.{Site, inputOf, outputOf, Stmts}
 use Rattle.model.specs.Reader.{numbered}
 use Rattle.model.specs.Usage.{same}
-use Rattle.model.specs.Machine.{Talk, World, done, return, testPlace, join, resumeWord, nameOf}
+use Rattle.model.specs.Machine.{Talk, World, done, return, testPlace, join, resumeWord, nameOf, talks}
 use Rattle.model.specs.Run.{land}
 use Rattle.model.specs.Occam.{store, Frame, Process, Branches, atOutput, framesOf, put, resume, State, Sender, process, Communication}
 use Rattle.model.specs.Occam.{over-channel, Event}
@@ -35,7 +35,8 @@ use Rattle.model.proofs.Effects.OneWord.{cpuOf}
 use Rattle.model.proofs.Effects.Acts.{when-true, when-false, testPlace-in}
 use Rattle.model.proofs.Effects.Queues.{joined, released, join-queue-free, free-queue}
 use Rattle.model.proofs.Invariant.Kernel.{Loaded, S, root, size, LeafAt, Owned, Rest, Lined, Real}
-use Rattle.model.proofs.Invariant.Writes.{changed, node, apart-zones, apart-parts, part-small, sits-at, sender-stored, sender-kept}
+use Rattle.model.proofs.Invariant.Writes.{changed, stateWith, node, apart-zones, apart-parts, part-small, sits-at, sender-stored}
+use Rattle.model.proofs.Invariant.Writes.{sender-kept}
 use Rattle.model.proofs.Invariant.Puts.{putting, treeThen, here-then, other-then, lined-then, rest-then, moved, sender-then}
 use Rattle.model.proofs.Invariant.Puts.{sender-before}
 use Rattle.model.proofs.Invariant.Grounds.{chan-in, small-size, sound-at, code-end}
@@ -177,12 +178,12 @@ module _ (L : Loaded) where
           none-sends = λ c m g o s. sender-before L writer p l i′ sits c (λ v k e. quiet c v k e) s;
         }
 
-  -- other offers
-  pub intact-offers : {b : Part} {i : Info} {skip : ℕ} {st : State} {μ : Mem} (o : ℕ → Option ℕ)
-      → ((c : Site) → List·Memᴰ c (b .inputs) → Sender st c → Sender (changed (st .store) o st) c)
-      → ((c : Site) → List·Memᴰ c (i .chans) → List·Memᴰ c (b .inputs) → Own b (μ (S L .word c)) → Sender (changed (st .store) o st) c
-      → Sender st c)
-      → Intact (S L) b i skip st (changed (st .store) o st) μ μ
+  -- other offers, and another clock
+  pub intact-offers : {b : Part} {i : Info} {skip : ℕ} {st : State} {μ : Mem} {k : Option ℕ} (o : ℕ → Option ℕ)
+      → ((c : Site) → List·Memᴰ c (b .inputs) → Sender st c → Sender (stateWith (st .store) o k st) c)
+      → ((c : Site) → List·Memᴰ c (i .chans) → List·Memᴰ c (b .inputs) → Own b (μ (S L .word c))
+      → Sender (stateWith (st .store) o k st) c → Sender st c)
+      → Intact (S L) b i skip st (stateWith (st .store) o k st) μ μ
   intact-offers o more fewer =
       record { own = λ a lo hi d. refl; reads = λ x m g. refl; chans = λ d m. inl refl; sends = more; none-sends = fewer }
 
@@ -302,7 +303,7 @@ module _ (L : Loaded) where
 
   -- with its communication
   abbrev pub talked : Site → ℕ → World → World
-  talked c v u = record { machine = u .machine; memory = u .memory; talk = u .talk ++ record { channel = S L .word c; value = v } ∷ [] }
+  talked c v u = record { machine = u .machine; memory = u .memory; talk = u .talk ++ talks (S L .word c) v ∷ [] }
 
   -- a process was woken by a communication
   pub answers-talk : {did : World → Type 0} {s₀ s : World} {st₀ st : State} {e : Event} {c : Site} {v w n : ℕ} {g : Segment}
@@ -310,9 +311,9 @@ module _ (L : Loaded) where
       → ((u : World) → join (nameOf w) s ≡ done tt u → land (talked c v u) ≡ done tt (talked c v u) → did (talked c v u)) → Joins w s st n
       → Answers did s₀ st₀ e n
   answers-talk {c = c} {v} {g = g} ms talk ran (joins u h e f ns inv) =
-      let inv′ = inv-talk (u .talk ++ record { channel = S L .word c; value = v } ∷ []) inv in
+      let inv′ = inv-talk (u .talk ++ talks (S L .word c) v ∷ []) inv in
       answers (talked c v u) (g ++ h) (ran u e (inv-lands inv′)) (trace-then ms ns)
-      (ap (λ z. z ++ record { channel = S L .word c; value = v } ∷ []) (f ∙ talk)) inv′ (omega arith)
+      (ap (λ z. z ++ talks (S L .word c) v ∷ []) (f ∙ talk)) inv′ (omega arith)
 
   -- without one
   pub answers-silent : {did : World → Type 0} {s₀ s : World} {st₀ st : State} {e : Event} {w n : ℕ} {g : Segment}

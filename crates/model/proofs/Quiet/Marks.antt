@@ -14,7 +14,7 @@ use Rattle.model.specs.Instruction as I
 use Rattle.model.specs.Scheme.{howMany, size, code, codeStarts, codeEnds, codeEnable, codeDisable, codeBranches, sizeEnable}
 use Rattle.model.specs.Scheme.{sizeDisable, inputSize}
 use Rattle.model.specs.Code.{operandIn}
-use Rattle.model.specs.Execute.{enabling, ready, noneSelected}
+use Rattle.model.specs.Alternative.{enabling, ready, noneSelected}
 use Rattle.model.specs.Machine.{stateWord, nameOf, spaceOf}
 use Rattle.model.specs.Occam.{Store, eval, isTrue, Frame, inWhile, Process, before, atInput, atOutput, atStop, atAlt, inPar, finished}
 use Rattle.model.specs.Occam.{resume, begin, firstTrue, State, Sender, branchOf, Ready}

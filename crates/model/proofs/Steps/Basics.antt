@@ -14,8 +14,7 @@ use Rattle.model.specs.Instruction.{Instruction, plain, distance, operat
 use Rattle.model.specs.Instruction as I
 use Rattle.model.specs.Code.{functionIn, operandIn}
 use Rattle.model.specs.Scheme.{code}
-use Rattle.model.specs.Machine.{World, withCpu, goto, resumeWord}
-use Rattle.model.specs.Execute.{pop}
+use Rattle.model.specs.Machine.{World, withCpu, goto, resumeWord, pop}
 use Rattle.model.specs.Occam.{eval, store, Frame, inWhile, Process, before, atStop, resume, begin, moved, go, firstTrue, framesOf}
 use Rattle.model.specs.Occam.{State, begins}
 use Rattle.model.specs.Demand.{liveIn}

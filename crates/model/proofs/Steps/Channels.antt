@@ -12,7 +12,7 @@ use Rattle.model.specs.Syntax.{Site, inputOf, outputOf, Guards}
 use Rattle.model.specs.Scheme.{sizeEnable}
 use Rattle.model.specs.Layout.{base, wordOf}
 use Rattle.model.specs.Machine.{World, isHeld, stateWord, nameOf}
-use Rattle.model.specs.Execute.{waiting, ready, noneSelected}
+use Rattle.model.specs.Alternative.{waiting, ready, noneSelected}
 use Rattle.model.specs.Occam.{Frame, Process, atInput, atOutput, atAlt, look, State, Sender, process, outside}
 use Rattle.model.specs.declared.Setup.{Setup}
 use Rattle.model.proofs.Cases.{never}

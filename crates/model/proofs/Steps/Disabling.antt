@@ -15,7 +15,7 @@ use Rattle.model.specs.Instruction as I
 use Rattle.model.specs.Code.{functionIn, operandIn}
 use Rattle.model.specs.Scheme.{sizeEnable, codeDisable}
 use Rattle.model.specs.Machine.{World, withCpu, withMemory, stack, goto, isHeld, stateWord, nameOf}
-use Rattle.model.specs.Execute.{ready, noneSelected}
+use Rattle.model.specs.Alternative.{ready, noneSelected}
 use Rattle.model.specs.Occam.{Store, eval, isTrue, Frame, Process, before, atAlt, framesOf, begin, State, Sender, Ready, by-input}
 use Rattle.model.specs.Occam.{by-skip, chooses}
 use Rattle.model.specs.Demand.{liveIn}

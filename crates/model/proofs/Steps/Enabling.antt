@@ -17,7 +17,7 @@ use Rattle.model.specs.Instruction as I
 use Rattle.model.specs.Code.{functionIn, operandIn}
 use Rattle.model.specs.Scheme.{sizeEnable, codeEnable}
 use Rattle.model.specs.Machine.{World, withCpu, withMemory, stack, resumeWord, stateWord, isHeld, nameOf}
-use Rattle.model.specs.Execute.{enabling, waiting, ready, noneSelected}
+use Rattle.model.specs.Alternative.{enabling, waiting, ready, noneSelected}
 use Rattle.model.specs.Occam.{Store, eval, isTrue, Frame, Process, before, atAlt, look, State, Sender, process, outside, by-input}
 use Rattle.model.specs.Occam.{by-skip, Step, begins, go}
 use Rattle.model.specs.Demand.{step}

@@ -17,7 +17,7 @@ use Rattle.model.specs.Instruction.{operation}
 use Rattle.model.specs.Instruction as I
 use Rattle.model.specs.Code.{functionIn, operandIn}
 use Rattle.model.specs.Layout.{base}
-use Rattle.model.specs.Machine.{World, isHeld, resumeWord, stateWord, nameOf}
+use Rattle.model.specs.Machine.{World, isHeld, resumeWord, stateWord, nameOf, talks}
 use Rattle.model.specs.Occam.{store, Frame, before, atInput, atOutput, resume, go, look, put, State, over-channel, Sender, process}
 use Rattle.model.specs.Occam.{outside, Step, begins, communicates, receives}
 use Rattle.model.specs.Demand.{step, talkOf}
@@ -132,14 +132,14 @@ module _ (L : Loaded) {s : World} {st : State} {μ : Mem} {t : Tree (S L) (root 
     told = stored (S L .word x) v (dropped (S L .word c) s)
 
     abbrev u : World
-    u = record { machine = told .machine; memory = told .memory; talk = told .talk ++ record { channel = S L .word c; value = v } ∷ [] }
+    u = record { machine = told .machine; memory = told .memory; talk = told .talk ++ talks (S L .word c) v ∷ [] }
 
     real₀ : Real L u st₀ ν ws
     real₀ =
         let k : S L .word c - s .machine .setup .base ≡ n = omega (arith, ap (λ (u : Setup). u .base) (A .real .setup-kept)) in
         let dropped-real : Real L (dropped (S L .word c) s) (changed (st .store) offers₀ st) μ ws =
         rw k (real-dropped L n below (A .real)) in
-        real-talk L (told .talk ++ record { channel = S L .word c; value = v } ∷ [])
+        real-talk L (told .talk ++ talks (S L .word c) v ∷ [])
         (real-state L (st .process) (store x v (st .store))
         (real-stored L (S L .word x) v x-in (link-var L (A .lined) (A .leaf) refl x (f .1 .0)) dropped-real))
 
@@ -153,12 +153,15 @@ module _ (L : Loaded) {s : World} {st : State} {μ : Mem} {t : Tree (S L) (root 
     took =
         t-step coming
         (t-step
-        (subst (λ z. Step st₁ (over-channel c v) (record { process = z; store = store x v (st .store); offers = offers₀ }))
+        (subst
+        (λ z.
+        Step st₁ (over-channel c v) (record { process = z; store = store x v (st .store); offers = offers₀; clock = st .clock }))
         (put-put-same path (resume k) (atInput c x k) (st .process))
         (subst (λ d. Step st₁ (over-channel d v) (record {
           process = put path (resume k) (put path (atInput c x k) (st .process));
           store = store x v (st .store);
           offers = offers₀;
+          clock = st .clock;
         })) (sym named)
         (receives path (subst (λ d. look path (put path (atInput c x k) (st .process)) ≡ some (atInput d x k)) named
         (look-put-same path (st .process) (atInput c x k) (A .leaf .found))) there)))
@@ -376,7 +379,9 @@ module _ (L : Loaded) {s : World} {st : State} {μ : Mem} {t : Tree (S L) (root 
     meets =
         t-step coming
         (t-step
-        (subst (λ z. Step st₁ (over-channel c v) (record { process = z; store = store x v (st .store); offers = st .offers }))
+        (subst
+        (λ z.
+        Step st₁ (over-channel c v) (record { process = z; store = store x v (st .store); offers = st .offers; clock = st .clock }))
         (ap (put other (resume l)) (put-put-same path (resume k) (atInput c x k) (st .process))
         ∙ put-put-apart (resume l) (resume k) (st .process) apart-paths)
         (communicates other path
@@ -387,7 +392,7 @@ module _ (L : Loaded) {s : World} {st : State} {μ : Mem} {t : Tree (S L) (root 
     abbrev u₃ : World
     u₃ =
         let y = joined (j .w) ws s₂ in
-        record { machine = y .machine; memory = y .memory; talk = y .talk ++ record { channel = S L .word c; value = v } ∷ [] }
+        record { machine = y .machine; memory = y .memory; talk = y .talk ++ talks (S L .word c) v ∷ [] }
 
     executed₃ : Executes L (operation I.«in») s u₃
     unfolding functionIn operandIn

@@ -14,8 +14,7 @@ use Rattle.model.specs.Instruction.{Instruction, plain, operation}
 use Rattle.model.specs.Instruction as I
 use Rattle.model.specs.Code.{functionIn, operandIn}
 use Rattle.model.specs.Scheme.{code}
-use Rattle.model.specs.Machine.{World, withCpu}
-use Rattle.model.specs.Execute.{pop}
+use Rattle.model.specs.Machine.{World, withCpu, pop}
 use Rattle.model.specs.Occam.{Store, zeros, Frame, inVar, Process, before, begin, go, State, process, Step, begins}
 use Rattle.model.proofs.Cases.{by-bool}
 use Rattle.model.proofs.Tables.Sites.{isIn-mem, mem-isIn}

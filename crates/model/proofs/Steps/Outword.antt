@@ -13,7 +13,7 @@ use Rattle.model.specs.Syntax.{Site, Expr, Guard, Guards, output}
 use Rattle.model.specs.Instruction.{plain, operation}
 use Rattle.model.specs.Instruction as I
 use Rattle.model.specs.Code.{functionIn, operandIn}
-use Rattle.model.specs.Machine.{World, release, _>>_, resumeWord, stateWord, nameOf}
+use Rattle.model.specs.Machine.{World, release, _>>_, resumeWord, stateWord, nameOf, talks}
 use Rattle.model.specs.Occam.{eval, isTrue, store, Frame, Process, before, atInput, atOutput, atAlt, resume, go, put, State}
 use Rattle.model.specs.Occam.{over-channel, Sender, process, Ready, by-input, by-skip, Step, begins, communicates}
 use Rattle.model.specs.Demand.{step}
@@ -51,7 +51,8 @@ use Rattle.model.proofs.Steps.Meets.{Both, not-own, clear-chan, mark-ch
 use Rattle.model.proofs.Steps.Meets.{partner-goes}
 use Rattle.model.proofs.Invariant.Moving.{same-leaf, rest-in, rest-out, lined-in, lined-out, unqueued}
 use Rattle.model.proofs.Steps.In.{output-channel}
-use Rattle.model.specs.Execute.{execute, notify, isAltState, enabling, waiting, ready, noneSelected}
+use Rattle.model.specs.Alternative.{notify, isAltState, enabling, waiting, ready, noneSelected}
+use Rattle.model.specs.Execute.{execute}
 use Rattle.model.proofs.Quiet.Onwards.{guarded-ready}
 use Rattle.model.specs.Scheme.{sizeEnable}
 use Rattle.model.proofs.Invariant.Zones.{zoneOf, Distant}
@@ -351,7 +352,9 @@ module _ (L : Loaded) {s : World} {st : State} {μ : Mem} {t : Tree (S L) (root 
     meets =
         t-step coming
         (t-step
-        (subst (λ y. Step st₁ (over-channel c z) (record { process = y; store = store x z (st .store); offers = st .offers }))
+        (subst
+        (λ y.
+        Step st₁ (over-channel c z) (record { process = y; store = store x z (st .store); offers = st .offers; clock = st .clock }))
         (ap (put path (resume k)) (put-put-apart (resume l) (atOutput c z k) (st .process) (path-apart-sym apart-paths))
         ∙ put-put-same path (resume k) (atOutput c z k) (put other (resume l) (st .process)))
         (communicates path other (look-put-same path (st .process) (atOutput c z k) (A .leaf .found))
@@ -361,7 +364,7 @@ module _ (L : Loaded) {s : World} {st : State} {μ : Mem} {t : Tree (S L) (root 
     abbrev u₃ : World
     u₃ =
         let y = joined (j .w) ws s₂ in
-        record { machine = y .machine; memory = y .memory; talk = y .talk ++ record { channel = S L .word c; value = z } ∷ [] }
+        record { machine = y .machine; memory = y .memory; talk = y .talk ++ talks (S L .word c) z ∷ [] }
 
     executed₃ : Executes L (operation I.outword) s u₃
     unfolding functionIn operandIn

@@ -14,8 +14,7 @@ use Rattle.model.specs.Scheme.{howMany, size, sizeEnds, code, codeStarts
 use Rattle.model.specs.Instruction.{plain, operation}
 use Rattle.model.specs.Instruction as I
 use Rattle.model.specs.Code.{functionIn, operandIn}
-use Rattle.model.specs.Machine.{World, withCpu}
-use Rattle.model.specs.Execute.{pop}
+use Rattle.model.specs.Machine.{World, withCpu, pop}
 use Rattle.model.specs.Occam.{Store, Frame, Process, before, inPar, begin, branches, go, put, State, Step, begins}
 use Rattle.model.specs.Demand.{step}
 use Rattle.model.proofs.Quiet.Ways.{upd-same, upd-other, upd, pushing, Mem, arrived, quiet, quiet-ldc}

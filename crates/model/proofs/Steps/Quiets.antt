@@ -13,9 +13,8 @@ use Rattle.model.specs.Syntax.{Site}
 use Rattle.model.specs.Instruction.{Instruction, plain, distance}
 use Rattle.model.specs.Instruction as I
 use Rattle.model.specs.Code.{functionIn, operandIn}
-use Rattle.model.specs.Machine.{World, withCpu, goto, resumeWord}
+use Rattle.model.specs.Machine.{World, withCpu, goto, resumeWord, push, pop}
 use Rattle.model.specs.declared.Cpu.{Cpu}
-use Rattle.model.specs.Execute.{push, pop}
 use Rattle.model.specs.Occam.{Process, State}
 use Rattle.model.proofs.Quiet.Ways.{upd-same, upd-other, upd, Regs, regsOf, load, Quiet, pushing, popping, Mem}
 use Rattle.model.proofs.Quiet.CodeParts.{inside}

@@ -1,7 +1,7 @@
 -- `alternative::disable::disable_channel` meets its contract. Assumes nothing.
 use borrow.Author.Needs.{needs}
 use borrow.Author.Tests.{eq-eqb, ne-eqb}
-use Rattle.model.specs.Execute.{disableChannel, disableReady}
+use Rattle.model.specs.Alternative.{disableChannel, disableReady}
 use Rattle.processor.proofs.Laws.{ends, faulty}
 use Rattle.processor.proofs.Talking.{lands, takes-none, silent}
 use Rattle.processor.specs.Quiet.{offering}

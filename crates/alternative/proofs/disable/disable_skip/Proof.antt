@@ -1,7 +1,7 @@
 -- `alternative::disable::disable_skip` meets its contract. Assumes nothing.
 use borrow.Author.Needs.{needs}
 use borrow.Author.Tests.{eq-eqb, ne-eqb}
-use Rattle.model.specs.Execute.{disableSkip}
+use Rattle.model.specs.Alternative.{disableSkip}
 use Rattle.processor.proofs.Laws.{like, ends}
 use Rattle.processor.proofs.Talking.{lands}
 use Rattle.alternative.proofs.Staying.{selects, chooses}

@@ -1,6 +1,6 @@
 -- `alternative::disable::end_alt` meets its contract. Assumes nothing.
 use borrow.Author.Needs.{needs}
-use Rattle.model.specs.Execute.{endAlt}
+use Rattle.model.specs.Alternative.{endAlt}
 use Rattle.processor.proofs.Laws.{like, faulty}
 use Rattle.alternative.proofs.disable.end_alt.Statement.{statement}
 use Rattle.alternative.proofs.disable.end_alt.Tie as tie

@@ -2,7 +2,7 @@
 use borrow.Author.Needs.{needs}
 use mathlib.Core.Path.{refl}
 use borrow.Author.Tests.{eq-eqb, ne-eqb}
-use Rattle.model.specs.Execute.{select}
+use Rattle.model.specs.Alternative.{select}
 use Rattle.processor.proofs.Laws.{like, ends, faulty, next-next}
 use Rattle.alternative.proofs.Staying.{poke-changing}
 use Rattle.alternative.proofs.disable.select.Statement.{statement}

@@ -1,6 +1,6 @@
 -- `alternative::enable::begin_alt` meets its contract. Assumes nothing.
 use borrow.Author.Needs.{needs}
-use Rattle.model.specs.Execute.{beginAlt}
+use Rattle.model.specs.Alternative.{beginAlt}
 use Rattle.processor.proofs.Laws.{like}
 use Rattle.alternative.proofs.Staying.{pokes, stays}
 use Rattle.alternative.proofs.enable.begin_alt.Statement.{statement}

@@ -2,7 +2,7 @@
 use borrow.Author.Needs.{needs}
 use mathlib.Core.Path.{refl}
 use borrow.Author.Tests.{eq-eqb, ne-eqb}
-use Rattle.model.specs.Execute.{enableChannel, enableReady, setReady}
+use Rattle.model.specs.Alternative.{enableChannel, enableReady, setReady}
 use Rattle.processor.proofs.Laws.{ends}
 use Rattle.processor.proofs.Talking.{lands, takes-none, silent}
 use Rattle.alternative.proofs.Staying.{readies, enables, moves, sees}

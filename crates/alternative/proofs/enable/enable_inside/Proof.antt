@@ -2,7 +2,7 @@
 use borrow.Author.Needs.{needs}
 use borrow.Author.Tests.{eq-eqb, ne-eqb}
 use Rattle.model.specs.Machine.{nameOf}
-use Rattle.model.specs.Execute.{setReady}
+use Rattle.model.specs.Alternative.{setReady}
 use Rattle.processor.proofs.Laws.{like, ends, faulty}
 use Rattle.alternative.proofs.enable.enable_inside.Statement.{statement}
 use Rattle.alternative.proofs.enable.enable_inside.Tie as tie

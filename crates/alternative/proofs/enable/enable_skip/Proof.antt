@@ -1,7 +1,7 @@
 -- `alternative::enable::enable_skip` meets its contract. Assumes nothing.
 use borrow.Author.Needs.{needs}
 use borrow.Author.Tests.{eq-eqb, ne-eqb}
-use Rattle.model.specs.Execute.{enableSkip, setReady}
+use Rattle.model.specs.Alternative.{enableSkip, setReady}
 use Rattle.processor.proofs.Laws.{like, ends}
 use Rattle.processor.proofs.Talking.{lands}
 use Rattle.alternative.proofs.Staying.{pokes, stays}

@@ -4,7 +4,7 @@ use mathlib.Core.Path.{refl}
 use Rattle.model.specs.Instruction.{operationCode, endp, «in», startp, outword, stopp}
 use Rattle.model.specs.Execute.{operate, startProcess}
 use Rattle.processor.proofs.Laws.{like}
-use Rattle.processor.proofs.Talking.{takes-none, poke-join-lands}
+use Rattle.processor.proofs.Talking.{takes-none, poke-join-lands, untimed}
 use Rattle.executor.proofs.Executes.{operates, done-as}
 use Rattle.executor.proofs.execute.operate_process.Statement.{statement}
 use Rattle.executor.proofs.execute.operate_process.Tie as tie
@@ -15,13 +15,13 @@ returns c =
     let args = c .before .before .before .before .before .before .args in
     let pre = c .before .before .before .before .before .before .pre in
     let match = c .before .before .before .before .match in
-    done-as _ _ (operates endp (match .keys1)) (c .before .before .end-process .ensures (args .setup) (pre .0 .2) refl)
+    done-as _ _ _ _ (operates endp (match .keys1)) (c .before .before .end-process .ensures (args .setup) (pre .0 .2) refl)
 
 returns-2 : tie.Need-returns-2
 unfolding operationCode operate
 returns-2 c =
     let match = c .before .before .before .before .before .match in
-    rw (operates «in» (match .keys2)) (c .before .before .input .ensures)
+    rw (operates «in» (match .keys2)) (untimed _ _ (c .before .before .input .ensures))
 
 returns-3 : tie.Need-returns-3
 unfolding operationCode operate startProcess
@@ -29,7 +29,7 @@ returns-3 c =
     let args = c .before .before .before .before .before .before .args in
     let pre = c .before .before .before .before .before .before .pre in
     let match = c .before .before .before .before .match in
-    done-as _ _ (operates startp (match .keys3))
+    done-as _ _ _ _ (operates startp (match .keys3))
     (like (c .before .before .start-process .ensures (args .setup) (pre .0 .2))
     (λ x. poke-join-lands x _ _ _ (pre .0 .1) (pre .0 .3) _ _ _))
 
@@ -39,7 +39,7 @@ returns-4 c =
     let args = c .before .before .before .before .before .before .args in
     let pre = c .before .before .before .before .before .before .pre in
     let match = c .before .before .before .before .match in
-    rw (operates outword (match .keys4)) (takes-none _ _ (c .before .before .output .ensures (args .setup) (pre .0 .2) refl))
+    rw (operates outword (match .keys4)) (untimed _ _ (takes-none _ _ (c .before .before .output .ensures (args .setup) (pre .0 .2) refl)))
 
 returns-5 : tie.Need-returns-5
 unfolding operationCode operate
@@ -47,7 +47,7 @@ returns-5 c =
     let args = c .before .before .before .before .before .before .args in
     let pre = c .before .before .before .before .before .before .pre in
     let match = c .before .before .before .before .match in
-    done-as _ _ (operates stopp (match .keys5)) (c .before .before .stop-process .ensures (args .setup) (pre .0 .2) refl)
+    done-as _ _ _ _ (operates stopp (match .keys5)) (c .before .before .stop-process .ensures (args .setup) (pre .0 .2) refl)
 
 returns-6 : tie.Need-returns-6
 returns-6 c = c .before .before .operate-alt .ensures _

@@ -1,8 +1,8 @@
 -- `executor::execute::store_local` meets its contract. Assumes nothing.
 use borrow.Author.Needs.{needs}
 use mathlib.Core.Path.{_∙_, ap}
-use Rattle.model.specs.Machine.{next}
-use Rattle.model.specs.Execute.{storeLocal, pop}
+use Rattle.model.specs.Machine.{next, pop}
+use Rattle.model.specs.Execute.{storeLocal}
 use Rattle.model.specs.Run.{land}
 use Rattle.processor.proofs.Laws.{like, poke-registers}
 use Rattle.processor.proofs.Talking.{poke-lands}

@@ -3,7 +3,8 @@ use borrow.Author.Needs.{needs}
 use native.Mathlib.Omega.{arith}
 use mathlib.Core.Path.{refl, sym, _∙_}
 use Rattle.model.specs.Machine.{spaceOf}
-use Rattle.machine.proofs.Offers.{restOf, offer-tells, offer-hands, offer-fault}
+use Rattle.machine.specs.Runs.{restOf}
+use Rattle.machine.proofs.Offers.{offer-tells, offer-hands, offer-fault}
 use Rattle.machine.proofs.outside.offer_to.Statement.{statement}
 use Rattle.machine.proofs.outside.offer_to.Tie as tie
 

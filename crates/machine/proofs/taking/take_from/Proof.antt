@@ -2,7 +2,7 @@
 use borrow.Author.Needs.{needs}
 use native.Mathlib.Omega.{arith}
 use mathlib.Core.Path.{refl}
-use Rattle.machine.proofs.Offers.{restOf}
+use Rattle.machine.specs.Runs.{restOf}
 use Rattle.machine.proofs.Takes.{take-wakes, take-fault}
 use Rattle.machine.proofs.taking.take_from.Statement.{statement}
 use Rattle.machine.proofs.taking.take_from.Tie as tie

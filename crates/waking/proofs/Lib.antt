@@ -1,0 +1,4 @@
+pub mod Along
+pub mod Begun
+pub mod Roughly
+pub mod Waking
