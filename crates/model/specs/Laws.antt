@@ -1,14 +1,15 @@
 -- Laws of the definitions, for every machine, code, memory and budget. 1 to 3 are of runs, the second also of offers and takes
 -- (proofs/Laws/Runs.antt); 4 and 5 tie the history to the run (proofs/Laws/Recorded.antt); 6 is 01's waiting (proofs/Laws/Settled.antt); 7
--- is of prefixes (proofs/Coding/Shortest.antt); 8 is of the bench program's text (proofs/Laws/Reported.antt).
-use Prim.Native.Nat.{ℕ, zero, suc, _+_, _≤_, _<_}
+-- is of prefixes (proofs/Coding/Shortest.antt); 8 is of the bench program's text (proofs/Laws/Reported.antt); 9 is of the timer queue
+-- (proofs/Laws/Walks.antt).
+use Prim.Native.Nat.{ℕ, zero, suc, _+_, _^_, _≤_, _<_}
 use Prim.Native.String.{String}
 use mathlib.Core.Path.{_≡_}
-use mathlib.Core.Bool.{true, false}
+use mathlib.Core.Bool.{Bool, true, false}
 use mathlib.Core.List.{List, [], _∷_, _++_, List·Memᴰ}
-use mathlib.Core.Option.{some}
+use mathlib.Core.Option.{none, some}
 use lib.ListN as L
-use lib.ListN.{length, drop}
+use lib.ListN.{length, getD, drop}
 use Rattle.model.specs.Word.{low}
 use Rattle.model.specs.Limits.{codeLimit}
 use Rattle.model.specs.Syntax.{Program}
@@ -16,7 +17,8 @@ use Rattle.model.specs.Accept.{memoryWords}
 use Rattle.model.specs.Instruction.{Function, functionCode}
 use Rattle.model.specs.Prefix.{withPrefixes, fewest, decode}
 use Rattle.model.specs.Code.{Compilation, compiled, refused, compile}
-use Rattle.model.specs.Machine.{Talk, World, done, faults, Act, _>>_, return, memorySize}
+use Rattle.model.specs.Machine.{Talk, World, Result, done, faults, Act, _>>_, return, memorySize}
+use Rattle.model.specs.Timer.{along, walk}
 use Rattle.model.specs.Answers.{instructionsOf}
 use Rattle.model.specs.Run.{byte, waits, beginning, keep, After, worldOf, start, run}
 use Rattle.model.specs.Outside.{offer, take}
@@ -186,6 +188,23 @@ abbrev pub WritesShortest : Type 0
 WritesShortest = (f : Function) (operand : ℕ) (bytes rest : List ℕ)
     → decode 0 bytes ≡ some (record { function = functionCode f; operand = operand; rest = rest })
     → length (withPrefixes (fewest operand) f operand) + length rest ≤ length bytes
+
+-- every word of a memory is one of 32 bits, as lent words are
+abbrev pub AreWords : List ℕ → Type 0
+AreWords l = (a : ℕ) → getD l a 0 < 2 ^ 32
+
+-- a test of processes that changes nothing
+pub data Tests (s : World) : Result Bool → Type 0 where
+  tells : (b : Bool) → Tests s (done b s)
+  breaks-off : (k : FaultKind) → Tests s (faults k)
+
+-- law 9, 02: "until it comes back on itself". A walk along the timer queue ends or comes back within one step more than there are words:
+-- with more steps it comes to the same, so that `walk` does not end for want of steps
+abbrev pub WalksEnd : Type 0
+WalksEnd = (s : World) (stops : ℕ → Act Bool) (more : ℕ) → ((p : ℕ) → Tests s (stops p s)) → AreWords (s .memory)
+    → s .machine .timer .front < 2 ^ 32
+    → let f = s .machine .timer .front in
+    walk stops s ≡ along (suc (memorySize (s .machine .setup)) + more) stops f [] none f s
 
 -- an output's line: its number and its value
 pub record Out : Type 0 where

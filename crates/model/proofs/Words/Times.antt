@@ -1,0 +1,61 @@
+-- Clock words wrap, so `after` is no order. Of times that lie near one clock word it is: that of their distances from it, moved up so that
+-- they are numbers (02, order 4: a time must lie less than 2^30 ticks before or after every clock word in force).
+use Prim.Native.Nat.{ℕ, _+_, _-_, _^_, _≤_, _<_}
+use native.Mathlib.Omega.{arith}
+use mathlib.Core.Path.{_≡_, refl, sym, _∙_}
+use mathlib.Core.Bool.{Bool, true, false, cond}
+use lib.Dec.{ltb}
+use lib.IntN.{ℤ, pos, negsuc}
+use lib.Signed.{ltZ}
+use borrow.Author.Tests.{lt-ltb, le-ltb, ltb-true, ltb-false}
+use Rattle.model.specs.Word.{low, less, signed, after}
+use Rattle.model.proofs.Cases.{by-bool, never}
+
+-- one time is after another where their difference is above 0 and below 2^31
+pub is-after : (x y : ℕ) → 0 < less x y → less x y < 2 ^ 31 → after x y ≡ true
+unfolding after signed
+is-after x y a b = rw (lt-ltb (less x y) (2 ^ 31) b) (lt-ltb 0 (less x y) a)
+
+pub not-after : (x y : ℕ) → (0 < less x y → less x y < 2 ^ 31 → ⊥) → after x y ≡ false
+unfolding after signed
+not-after x y h =
+    by-bool (ltb (less x y) (2 ^ 31))
+    (λ b. rw b (by-bool (ltb 0 (less x y)) (λ a. absurd (h (ltb-true 0 (less x y) a) (ltb-true (less x y) (2 ^ 31) b))) (λ a. a)))
+    (λ b. rw b)
+
+-- a time's distance from a clock word, with 2^30 added: below 2^31, and not 0, where the time is near
+abbrev pub distance : (clock time : ℕ) → ℕ
+distance c t = low (t + 2 ^ 30 + 2 ^ 32 - c)
+
+pub record Near (c t : ℕ) : Type 0 where
+  pub before : 0 < distance c t
+  pub behind : distance c t < 2 ^ 31
+
+module _ {c t u : ℕ} (c-word : c < 2 ^ 32) (t-word : t < 2 ^ 32) (u-word : u < 2 ^ 32) (n : Near c t) (m : Near c u) where
+  -- the later of two near times is the one at the larger distance
+  pub later-after : distance c u < distance c t → after t u ≡ true
+  later-after h =
+      is-after t u (omega (arith, n .before, n .behind, m .before, m .behind)) (omega (arith, n .before, n .behind, m .before, m .behind))
+
+  pub earlier-not : distance c t ≤ distance c u → after t u ≡ false
+  earlier-not h = not-after t u (λ a b. absurd (omega (arith, n .before, n .behind, m .before, m .behind)))
+
+-- a near time is past where its distance is below 2^30
+module _ {c t : ℕ} (c-word : c < 2 ^ 32) (t-word : t < 2 ^ 32) (n : Near c t) where
+  pub past-near : after c t ≡ true → distance c t < 2 ^ 30
+  past-near e = by-bool (ltb (distance c t) (2 ^ 30)) (λ d. ltb-true _ _ d)
+      (λ d. never (cc (not-after c t (λ a b. absurd (omega (arith, ltb-false (distance c t) (2 ^ 30) d, n .behind))))))
+
+  pub near-past : distance c t < 2 ^ 30 → after c t ≡ true
+  near-past h = is-after c t (omega (arith, n .before)) (omega (arith, n .before))
+
+-- what is past stays past while the clock does not go back and the time stays near
+pub stays-past : {c d t : ℕ} → c < 2 ^ 32 → d < 2 ^ 32 → t < 2 ^ 32 → Near c t → Near d t → after c d ≡ false → after c t ≡ true
+    → after d t ≡ true
+stays-past {c} {d} {t} cw dw tw n m e p =
+    let a = past-near cw tw n p in
+    near-past dw tw m
+    (by-bool (ltb (distance d t) (2 ^ 30)) (λ g. ltb-true _ _ g)
+    (λ g.
+    let b = ltb-false (distance d t) (2 ^ 30) g in
+    never (cc (is-after c d (omega (arith, n .before, m .behind)) (omega (arith, n .before, m .behind))))))
