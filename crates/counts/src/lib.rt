@@ -1,6 +1,6 @@
 // What is counted of the parts of a program, for the reader and for the compiler: registers and stored values (document 02, order 2), and
-// words (document 01, "Workspace and code"). Stored values are at most 255 where they are summed: an expression of 32 levels has fewer than
-// 32, and an entry of the compiler's plan has 8 bits for them.
+// words (document 01, "Workspace and code"; 02, order 4). Stored values are at most 255 where they are summed: an expression of 32 levels
+// has fewer than 32, and an entry of the compiler's plan has 8 bits for them.
 ghost use mathlib.Core.Path.{_≡_};
 ghost use Prim.Native.Nat.{_≤_, max};
 ghost use Rattle.model.specs.Counts.{sidesNeed, orderOf, sidesHold};
@@ -8,18 +8,20 @@ ghost use Rattle.counts.specs.Words.{asked, leastWords};
 use model::kinds::Order;
 use numbers::kinds::Head;
 
-// The words of SKIP and STOP, of an input, and of a PAR beside its branches.
+// The words of SKIP, STOP and TIME, of an input, and of a PAR beside its branches.
 pub const IDLE_WORDS: u32 = 2;
 
 pub const INPUT_WORDS: u32 = 3;
 
 pub const PAR_WORDS: u32 = 2;
 
-// What an expression that stands in no other is: a value or a condition, what is output, or a guard's condition.
+// What an expression that stands in no other is: a value or a condition, what is output, a guard's condition, or a time that is waited
+// for.
 pub enum Role {
     Value,
     Output,
     Guard,
+    Wait,
 }
 
 // The larger of two.
@@ -77,6 +79,7 @@ pub fn ask(role: Role, stored: u32) -> u32
         Role::Value => stored + 2,
         Role::Output => larger(4, stored + 3),
         Role::Guard => { if stored == 0 { 0 } else { stored + 8 } }
+        Role::Wait => larger(5, stored + 2),
     }
 }
 

@@ -3,7 +3,7 @@ ghost use mathlib.Core.Path.{_≡_};
 ghost use Rattle.expressions.specs.Emits.{at as standing};
 ghost use Rattle.expressions.specs.Names.{WithVariables, WithNames};
 ghost use Rattle.expressions.specs.Exprs.{wrote};
-ghost use Rattle.expressions.specs.Simples.{inputInto, outputInto, assignInto, inInto, outInto, simpleInto};
+ghost use Rattle.expressions.specs.Simples.{inputInto, outputInto, assignInto, inInto, outInto, timeInto, waitInto, simpleInto};
 use crate::emit::Cursor;
 use crate::words::Scope;
 use numbers::kinds::Simple;
@@ -108,6 +108,50 @@ fn gen_output(
     }
 }
 
+// TIME (02, order 4): LDTIMER, STL.
+fn gen_time(
+    table: &[u8],
+    cursor: Cursor,
+    scope: Scope,
+    words: &[u32; 2112],
+    list: &mut [u64; 16384],
+) -> Cursor
+    ensures { λ r.
+        ⌜ WithVariables (scope .variables) (now (words .entry)) (λ vs. wrote r (now (list .exit))
+        ≡ timeInto (scope .w) vs (now (table .entry)) (cursor .at) (standing (cursor .here) (now (list .entry)))) ⌝ }
+{
+    let name = numbers::value_at(table, cursor.at);
+    let to = crate::words::variable(words, scope.variables, name.value, scope.w);
+    let read = crate::emit::operation(list, cursor.here, instruction::codes::LDTIMER);
+    let end = crate::emit::plain(list, read, instruction::codes::STL, to);
+    Cursor {
+        at: name.next,
+        here: end,
+    }
+}
+
+// WAIT (02, order 4): the time, TIN.
+fn gen_wait(
+    table: &[u8],
+    plan: &[u32; 16384],
+    cursor: Cursor,
+    scope: Scope,
+    words: &[u32; 2112],
+    list: &mut [u64; 16384],
+) -> Cursor
+    ensures { λ r.
+        ⌜ WithVariables (scope .variables) (now (words .entry)) (λ vs. wrote r (now (list .exit))
+        ≡ waitInto (scope .depth) (scope .w) vs (now (plan .entry)) (now (table .entry)) (cursor .at)
+        (standing (cursor .here) (now (list .entry)))) ⌝ }
+{
+    let time = crate::expr::gen_whole(table, plan, cursor, 0, scope, words, list);
+    let end = crate::emit::operation(list, time.here, instruction::codes::TIN);
+    Cursor {
+        at: time.at,
+        here: end,
+    }
+}
+
 // What follows the kind of a statement without statements inside.
 pub fn gen_simple(
     table: &[u8],
@@ -135,5 +179,7 @@ pub fn gen_simple(
         Simple::Assign => gen_assign(table, plan, cursor, scope, words, list),
         Simple::Input => gen_input(table, cursor, scope, words, list),
         Simple::Output => gen_output(table, plan, cursor, scope, words, list),
+        Simple::Time => gen_time(table, cursor, scope, words, list),
+        Simple::Wait => gen_wait(table, plan, cursor, scope, words, list),
     }
 }

@@ -94,3 +94,10 @@ OR = 0x4b
 
 abbrev pub SUM : ℕ
 SUM = 0x52
+
+-- 02, order 4: of the clock
+abbrev pub LDTIMER : ℕ
+LDTIMER = 0x22
+
+abbrev pub TIN : ℕ
+TIN = 0x2b

@@ -4,6 +4,8 @@
 pub mod Quiets
 pub mod Advance
 pub mod Basics
+pub mod Times
+pub mod Tin
 pub mod Channels
 pub mod Meets
 pub mod In

@@ -6,7 +6,8 @@ use Rattle.model.specs.Limits.{registerLimit}
 use Rattle.model.specs.declared.kinds.Order.{Order}
 use Rattle.model.specs.declared.kinds.Order.the-variants.{LeftFirst, RightFirst, RightStored}
 use Rattle.model.specs.Syntax.{Expr, constant, variable, NOT, binary, Stmt, SKIP, STOP, assign, input, output, VAR, CHAN, SEQ, PAR}
-use Rattle.model.specs.Syntax.{IF, WHILE, ALT, Stmts, noStmt, stmt, Pairs, noPair, pair, condition, Guards, noGuard, guard}
+use Rattle.model.specs.Syntax.{IF, WHILE, ALT, TIME, WAIT, Stmts, noStmt, stmt, Pairs, noPair, pair, condition, Guards, noGuard}
+use Rattle.model.specs.Syntax.{guard}
 
 -- 02, order 2: an operator whose sides need the same number needs one more, otherwise the larger, and never over 3
 unfoldable pub sidesNeed : (left right : ℕ) → ℕ
@@ -56,6 +57,8 @@ unfoldable mutual
   processes (IF ps) = max 1 (pairProcesses ps)
   processes (WHILE e s) = processes s
   processes (ALT gs) = max 1 (guardProcesses gs)
+  processes (TIME x) = 1
+  processes (WAIT e) = 1
 
   -- SEQ: the largest part
   pub mostProcesses : Stmts → ℕ
@@ -84,7 +87,7 @@ guardWords (suc t) = suc t + 8
 
 -- words that a statement needs below its workspace pointer. 01: SKIP, STOP, assignment 2; input 3; output 4; VAR or CHAN count + body;
 -- SEQ, IF, WHILE the most of the parts, at least 2; ALT likewise, at least 4; PAR 2 + the sum of branches.
--- 02, order 2: a statement with a stored expression needs at least t + 2 words; an output t + 3; an ALT t + 8
+-- 02, order 2: a statement with a stored expression needs at least t + 2 words; an output t + 3; an ALT t + 8. Order 4: TIME 2; WAIT 5
 unfoldable mutual
   pub need : Stmt → ℕ
   need SKIP = 2
@@ -99,6 +102,8 @@ unfoldable mutual
   need (IF ps) = max 2 (pairNeed ps)
   need (WHILE e s) = max (temporaries e + 2) (need s)
   need (ALT gs) = max 4 (guardNeed gs)
+  need (TIME x) = 2
+  need (WAIT e) = max 5 (temporaries e + 2)
 
   -- SEQ: the most of the parts
   pub mostNeed : Stmts → ℕ

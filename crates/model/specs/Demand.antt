@@ -1,20 +1,22 @@
 -- Demand 3 as one statement.
-use Prim.Native.Nat.{ℕ, suc, _+_, _*_, _<_}
+use Prim.Native.Nat.{ℕ, suc, _+_, _*_, _^_, _<_}
 use mathlib.Core.Path.{_≡_}
-use mathlib.Core.Bool.{Bool, true, false}
+use mathlib.Core.Bool.{Bool, true, false, cond, _&&_}
 use mathlib.Core.List.{List, [], _∷_, _++_, map, List·Memᴰ}
 use mathlib.Core.Option.{some}
 use lib.ListN.{length, getD}
+use lib.IntN.{pos, negℤ}
+use lib.Signed.{ltZ}
+use Rattle.model.specs.Word.{less, signed, after}
 use Rattle.model.specs.Syntax.{Site, Program}
 use Rattle.model.specs.Accept.{limit}
 use Rattle.model.specs.Layout.{base, wordOf}
 use Rattle.model.specs.Code.{compiled, compile}
-use Rattle.model.specs.Machine.{Talk, talks as heard}
+use Rattle.model.specs.Machine.{Talk, talks as heard, reads as clocked}
 use Rattle.model.specs.Run.{After, start, ended, waits}
-use Rattle.model.specs.Occam.{Frame, inSeq, inVar, inWhile, Process, finished, framesOf, look, State, Communication, talks, Step}
-use Rattle.model.specs.Occam.{Event}
-use Rattle.model.specs.Occam.{Outside, initial, Stuck}
-use Rattle.model.specs.History.{Call, Moment, quietly, history}
+use Rattle.model.specs.Occam.{Frame, inSeq, inVar, inWhile, Process, finished, framesOf, look, State, Communication, talks, reads}
+use Rattle.model.specs.Occam.{Step, Event, Outside, initial, Stuck}
+use Rattle.model.specs.History.{Note, waitsFor, Call, Moment, quietly, history}
 use Rattle.model.specs.declared.Machine.{Machine}
 use Rattle.model.specs.declared.Kept.the-variants.{Nothing}
 use Rattle.model.specs.declared.StartAnswer.{StartAnswer}
@@ -49,10 +51,16 @@ abbrev pub reaches : State → Segment → State
 reaches st [] = st
 reaches st (m ∷ ms) = reaches (left m) ms
 
--- how many moves are steps; offers and takes are none
+-- 02, order 4: TIME is one step, with its STL; reading the clock for it counts none
+abbrev pub counts : List Communication → ℕ
+counts [] = 1
+counts (talks c v ∷ cs) = 1
+counts (reads v ∷ cs) = 0
+
+-- how many moves are steps; offers, takes and the clock's moves are none
 abbrev pub steps : Segment → ℕ
 steps [] = 0
-steps (step cs st ∷ ms) = suc (steps ms)
+steps (step cs st ∷ ms) = counts cs + steps ms
 steps (outside e cs st ∷ ms) = steps ms
 
 -- the offers and takes, with their answers
@@ -79,9 +87,10 @@ abbrev pub Live : Process → Site → Type 0
 Live p x = (path : List ℕ) × (q : Process) × (look path p ≡ some q) × List·Memᴰ x (liveIn (framesOf q))
 
 module _ (p : Program) where
-  -- a communication is compared by its channel's word and its value
+  -- a communication is compared by its channel's word and its value; a reading of the clock by its value
   abbrev pub talkOf : Communication → Talk
   talkOf (talks c v) = heard (wordOf p c) v
+  talkOf (reads v) = clocked v
 
   -- what is found in the machine is no fault but what the run leaves by then: the same live variables, ended if the machine ended,
   -- unable to go on though not ended exactly if the machine waits
@@ -127,13 +136,48 @@ total (n ∷ l) = n + total l
 abbrev pub Progress : ℕ → List ℕ → Type 0
 Progress n l = (before window after : List ℕ) → l ≡ before ++ window ++ after → length window ≡ n → 0 < total window
 
--- a program that was started afresh: for every list of calls, one run by Occam's own rules that grows with the list. Any 64 times the
--- code's bytes, plus one, of instructions hold a step of it
+-- 02, order 4: a time lies, read signed, less than 2^30 ticks before or after a clock word
+abbrev pub near : (time clock : ℕ) → Bool
+near t c = let d = signed (less t c) in ltZ (negℤ (pos (2 ^ 30))) d && ltZ d (pos (2 ^ 30))
+
+-- a time that a process waits for, and the process's workspace
+pub record Watch : Type 0 where
+  pub workspace : ℕ
+  pub time : ℕ
+
+-- the times after what a byte told
+abbrev pub noting : List Note → List Watch → List Watch
+noting [] xs = xs
+noting (waitsFor w t ∷ ns) xs = noting ns (record { workspace = w; time = t } ∷ xs)
+
+-- all of them are near a clock word
+abbrev pub allNear : (clock : ℕ) → List Watch → Bool
+allNear c [] = true
+allNear c (x ∷ xs) = near (x .time) c && allNear c xs
+
+-- those whose processes have not gone on: one goes on as soon as the clock is after its time, at its TIN or at a run's beginning
+abbrev pub unpassed : (clock : ℕ) → List Watch → List Watch
+unpassed c [] = []
+unpassed c (x ∷ xs) = cond (after c (x .time)) (unpassed c xs) (x ∷ unpassed c xs)
+
+-- 02, order 4: "a time waited for ... must lie, read signed, less than 2^30 ticks before or after every clock word in force from its TIN
+-- ... until its process goes on". `xs` are the times that are waited for before these moments
+unfoldable pub keeps : List Watch → List Moment → Bool
+keeps xs [] = true
+keeps xs (m ∷ ms) =
+    let c = m .machine .timer .clock in
+    let ys = noting (m .notes) xs in
+    allNear c ys && keeps (unpassed c ys) ms
+
+-- a program that was started afresh: for every list of calls that keeps to this, one run by Occam's own rules that grows with the list.
+-- Any 64 times the code's bytes, plus one, of instructions hold a step of it
 pub record Faithful (p : Program) (code : List ℕ) (m : Machine) (memory : List ℕ) : Type 0 where
   pub run : List Call → List Segment
-  pub grows : (cs : List Call) (c : Call) → (more : List Segment) × (run (cs ++ c ∷ []) ≡ run cs ++ more)
-  pub matches : (cs : List Call) → Matches p (quietly m memory ∷ history code cs m memory) (initial p) (run cs)
-  pub progress : (cs : List Call)
+  pub grows : (cs : List Call) (c : Call) → keeps [] (quietly m memory ∷ history code (cs ++ c ∷ []) m memory) ≡ true
+      → (more : List Segment) × (run (cs ++ c ∷ []) ≡ run cs ++ more)
+  pub matches : (cs : List Call) → keeps [] (quietly m memory ∷ history code cs m memory) ≡ true
+      → Matches p (quietly m memory ∷ history code cs m memory) (initial p) (run cs)
+  pub progress : (cs : List Call) → keeps [] (quietly m memory ∷ history code cs m memory) ≡ true
       → Progress (suc (limit * length code)) (perInstruction (quietly m memory ∷ history code cs m memory) (run cs))
 
 -- demand 3 for one table: any code buffer in which it compiles, any slice and memory with which it starts

@@ -1,17 +1,20 @@
 -- What is found in the machine over a list of calls (demand 3): a moment after each run's beginning, after each byte executed and after
 -- each call. The moment after the start is put in front of them in Demand.antt. Each call has the state, code and memory as the one
 -- before left them.
-use Prim.Native.Nat.{ℕ, zero, suc}
+use Prim.Native.Nat.{ℕ, zero, suc, _/_}
 use mathlib.Core.Bool.{Bool, true, false, cond, _||_}
 use mathlib.Core.List.{List, [], _∷_, _++_}
 use lib.ListN as L
-use lib.ListN.{length, drop}
-use lib.Dec.{ltb}
+use lib.ListN.{length, getD, drop}
+use lib.Dec.{ltb, eqb}
 use Rattle.model.specs.Word.{low}
+use Rattle.model.specs.Instruction.{functionCode, operationCode, opr, tin}
+use Rattle.model.specs.Prefix.{gathered}
 use Rattle.model.specs.Machine.{Talk, World, Result, done, faults}
 use Rattle.model.specs.Run.{After, worldOf, shortMemory, byte, ended, waits, beginning, earlierClock, run}
 use Rattle.model.specs.Outside.{offer, take}
 use Rattle.model.specs.Occam.{Event, offers, takes, ticks}
+use Rattle.model.specs.declared.Cpu.{Cpu}
 use Rattle.model.specs.declared.Machine.{Machine}
 use Rattle.model.specs.declared.Kept.{Kept}
 use Rattle.model.specs.declared.Kept.the-variants.{Nothing as NoFault, Fault as KeptFault}
@@ -29,22 +32,39 @@ pub data Call : Type 0 where
   callOffer : (memoryLent k value : ℕ) → Call
   callTake : (memoryLent k : ℕ) → Call
 
--- what is found at a moment, with the communications, and the offer or take with its answer or the clock word, since the moment before.
--- `instruction` says whether the moment is after a byte executed
+-- what a byte tells of times, for the condition on them alone (Demand.antt): a process begins to wait for a time
+pub data Note : Type 0 where
+  waitsFor : (workspace time : ℕ) → Note
+
+-- what the operation of a number tells, by the registers before it: TIN
+abbrev pub noteOf : (number : ℕ) → Cpu → List Note
+noteOf n r = cond (eqb n (operationCode tin)) (waitsFor (r .workspace) (r .a) ∷ []) []
+
+-- what the byte at a machine's place tells: one that completes an operation
+unfoldable pub notes : (code : List ℕ) → Machine → List Note
+notes code m =
+    let r = m .cpu in
+    let b = getD code (r .place) 0 in
+    cond (eqb (b / 16) (functionCode opr)) (noteOf (gathered (r .operand) b) r) []
+
+-- what is found at a moment, with the communications, and the offer or take with its answer or the clock word, since the moment before,
+-- and what a byte told of times. `instruction` says whether the moment is after a byte executed
 pub record Moment : Type 0 where
   pub instruction : Bool
   pub machine : Machine
   pub memory : List ℕ
   pub talk : List Talk
   pub events : List Event
+  pub notes : List Note
 
 -- a moment without communication, offer, take or clock word
 abbrev pub quietly : Machine → List ℕ → Moment
-quietly m memory = record { instruction = false; machine = m; memory = memory; talk = []; events = [] }
+quietly m memory = record { instruction = false; machine = m; memory = memory; talk = []; events = []; notes = [] }
 
--- the moment after a byte
-abbrev pub executed : World → (rest : List ℕ) → Moment
-executed t rest = record { instruction = true; machine = t .machine; memory = t .memory ++ rest; talk = t .talk; events = [] }
+-- the moment after a byte that told something of times
+abbrev pub executed : List Note → World → (rest : List ℕ) → Moment
+executed ns t rest =
+    record { instruction = true; machine = t .machine; memory = t .memory ++ rest; talk = t .talk; events = []; notes = ns }
 
 -- a byte that would fault is not begun: no moment comes after it
 abbrev onward : Result (Unit {0}) → (World → List Moment) → List Moment
@@ -55,7 +75,8 @@ onward (faults k) more = []
 unfoldable pub bytes : (budget : ℕ) → (code rest : List ℕ) → World → List Moment
 bytes zero code rest s = []
 bytes (suc n) code rest s =
-    let more = onward (byte code s) (λ t. executed t rest ∷ bytes n code rest (worldOf (t .machine) (t .memory))) in
+    let more = onward (byte code s) (λ t. executed (notes code (s .machine)) t rest ∷ bytes n code rest
+    (worldOf (t .machine) (t .memory))) in
     cond (ended (s .machine) || waits (s .machine)) [] more
 
 -- a run that is refused, keeps a fault or cannot begin executes nothing, and its clock is not in force
@@ -66,7 +87,7 @@ idle m memory rest = quietly m (memory ++ rest) ∷ []
 abbrev pub begun : Result (Unit {0}) → (clock budget : ℕ) → Machine → (code memory rest : List ℕ) → List Moment
 begun (faults k) c budget m code memory rest = idle m memory rest
 begun (done u t) c budget m code memory rest =
-    record { instruction = false; machine = t .machine; memory = t .memory ++ rest; talk = t .talk; events = ticks c ∷ [] }
+    record { instruction = false; machine = t .machine; memory = t .memory ++ rest; talk = t .talk; events = ticks c ∷ []; notes = [] }
     ∷ bytes budget code rest (worldOf (t .machine) (t .memory))
 
 -- a kept fault
@@ -107,7 +128,15 @@ pub record Called : Type 0 where
 abbrev answered : {Answer : Type 0} → After Answer → (rest : List ℕ) → (Answer → List Event) → Called
 answered r rest said =
     record {
-      moments = record { instruction = false; machine = r .machine; memory = r .memory ++ rest; talk = r .talk; events = said (r .answer) }
+      moments =
+          record {
+            instruction = false;
+            machine = r .machine;
+            memory = r .memory ++ rest;
+            talk = r .talk;
+            events = said (r .answer);
+            notes = [];
+          }
           ∷ [];
       machine = r .machine;
       memory = r .memory ++ rest;

@@ -4,7 +4,7 @@ use mathlib.Core.Bool.{true, false}
 use mathlib.Core.List.{List, [], _∷_, _++_}
 use lib.Dec.{eqb}
 use Rattle.model.specs.Syntax.{Site, inputOf, outputOf, declared, Stmt, SKIP, STOP, assign, input, output, VAR, CHAN, SEQ, PAR, IF}
-use Rattle.model.specs.Syntax.{WHILE, ALT, Stmts, noStmt, stmt, Pairs, noPair, pair, Guards, noGuard, guard, Program}
+use Rattle.model.specs.Syntax.{WHILE, ALT, TIME, WAIT, Stmts, noStmt, stmt, Pairs, noPair, pair, Guards, noGuard, guard, Program}
 use Rattle.model.specs.Counts.{need}
 
 -- a VAR or CHAN, by its place, and the W of its body
@@ -27,6 +27,8 @@ unfoldable mutual
   layout w (IF ps) = layoutPairs w ps
   layout w (WHILE e s) = layout w s
   layout w (ALT gs) = layoutGuards w gs
+  layout w (TIME x) = []
+  layout w (WAIT e) = []
 
   pub layoutAll : (w : ℕ) → Stmts → List Laid
   layoutAll w noStmt = []

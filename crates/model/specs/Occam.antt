@@ -9,8 +9,8 @@ use lib.Dec.{eqb}
 use lib.Signed.{ltZ}
 use Rattle.model.specs.Word.{low, less, signed, after, truth}
 use Rattle.model.specs.Syntax.{Site, inputOf, outputOf, Expr, constant, variable, NOT, binary, Stmt, SKIP, STOP, assign, input}
-use Rattle.model.specs.Syntax.{output, VAR, CHAN, SEQ, PAR, IF, WHILE, ALT, Stmts, noStmt, stmt, Pairs, noPair, pair, Guard}
-use Rattle.model.specs.Syntax.{inputGuard, skipGuard, Guards, guard, Program}
+use Rattle.model.specs.Syntax.{output, VAR, CHAN, SEQ, PAR, IF, WHILE, ALT, TIME, WAIT, Stmts, noStmt, stmt, Pairs, noPair, pair}
+use Rattle.model.specs.Syntax.{Guard, inputGuard, skipGuard, Guards, guard, Program}
 use Rattle.model.specs.declared.kinds.Operator.{Operator}
 use Rattle.model.specs.declared.kinds.Operator.the-variants.{Plus as PLUS, Minus as MINUS, Times as TIMES, Gt as GT, Eq as EQ}
 use Rattle.model.specs.declared.kinds.Operator.the-variants.{And as AND, Or as OR, Xor as XOR}
@@ -65,8 +65,9 @@ pub data Frame : Type 0 where
   inVar : List Site → Frame
   inWhile : Expr → Stmt → Frame
 
--- a process, and what it goes on with. `before`: about to begin a statement. The next four: waiting there; an output holds its value.
--- In a PAR, a branch whose process is finished has not yet taken the step of its end; after it, it is over
+-- a process, and what it goes on with. `before`: about to begin a statement. The next five: waiting there; an output holds its value, a
+-- wait for the clock its time. 02, order 4: before TIME a process is about to read the clock; it holds what it read until the statement's
+-- step stores it. In a PAR, a branch whose process is finished has not yet taken the step of its end; after it, it is over
 mutual
   pub data Process : Type 0 where
     before : Stmt → List Frame → Process
@@ -74,6 +75,9 @@ mutual
     atOutput : (channel : Site) (value : ℕ) → List Frame → Process
     atStop : List Frame → Process
     atAlt : Guards → List Frame → Process
+    atWait : (time : ℕ) → List Frame → Process
+    toRead : (variable : Site) → List Frame → Process
+    hasRead : (variable : Site) (reading : ℕ) → List Frame → Process
     inPar : Branches → List Frame → Process
     finished : Process
 
@@ -98,6 +102,8 @@ unfoldable mutual
   enter (IF ps) k after = before (IF ps) k
   enter (WHILE e s) k after = before (WHILE e s) k
   enter (ALT gs) k after = before (ALT gs) k
+  enter (TIME x) k after = toRead x k
+  enter (WAIT e) k after = before (WAIT e) k
 
   pub enterAll : Stmts → List Frame → (after : Process) → Process
   enterAll noStmt k after = after
@@ -134,7 +140,7 @@ pub record Moved : Type 0 where
 abbrev pub moved : Process → Store → Moved
 moved p σ = record { process = p; store = σ }
 
--- the step that begins a statement. A PAR of none is over with its start. SEQ has no step of its own: `enter` goes into it
+-- the step that begins a statement. A PAR of none is over with its start. SEQ and TIME have none here: `enter` goes into them
 unfoldable pub go : Stmt → List Frame → Store → Moved
 go SKIP k σ = moved (resume k) σ
 go STOP k σ = moved (atStop k) σ
@@ -149,6 +155,8 @@ go (PAR p (stmt s ss)) k σ = moved (inPar (branches (stmt s ss)) k) σ
 go (IF ps) k σ = moved (firstTrue σ ps k) σ
 go (WHILE e s) k σ = moved (cond (isTrue σ e) (begin s (inWhile e s ∷ k)) (resume k)) σ
 go (ALT gs) k σ = moved (atAlt gs k) σ
+go (TIME x) k σ = moved (toRead x k) σ
+go (WAIT e) k σ = moved (atWait (eval σ e) k) σ
 
 -- the process of a branch that is not over
 unfoldable pub branchAt : ℕ → Branches → Option Process
@@ -191,6 +199,9 @@ branchesOf (atInput c x k) = noBranch
 branchesOf (atOutput c v k) = noBranch
 branchesOf (atStop k) = noBranch
 branchesOf (atAlt gs k) = noBranch
+branchesOf (atWait t k) = noBranch
+branchesOf (toRead x k) = noBranch
+branchesOf (hasRead x v k) = noBranch
 branchesOf (inPar bs k) = bs
 branchesOf finished = noBranch
 
@@ -201,6 +212,9 @@ framesOf (atInput c x k) = k
 framesOf (atOutput c v k) = k
 framesOf (atStop k) = k
 framesOf (atAlt gs k) = k
+framesOf (atWait t k) = k
+framesOf (toRead x k) = k
+framesOf (hasRead x v k) = k
 framesOf (inPar bs k) = k
 framesOf finished = []
 
@@ -221,9 +235,14 @@ pub record State : Type 0 where
   pub offers : ℕ → Option ℕ
   pub clock : Option ℕ
 
--- what a step shows: a communication, with its channel and its value
+-- the clock: the last word given. Before the first run there is none, and nothing is read
+abbrev pub now : State → ℕ
+now st = elim (st .clock) [ none ↦ 0 | some c ↦ c ]
+
+-- what a step shows: a communication, with its channel and its value; or what was read of the clock
 pub data Communication : Type 0 where
   talks : (channel : Site) (value : ℕ) → Communication
+  reads : (clock : ℕ) → Communication
 
 -- the one communication of a step
 abbrev pub over-channel : Site → ℕ → List Communication
@@ -270,6 +289,15 @@ module _ (st : State) where
     -- an ALT takes a guard
     chooses : (path : List ℕ) {gs : Guards} {k : List Frame} {p : Process} → look path (st .process) ≡ some (atAlt gs k) → Choice k gs p
         → Step [] (replaced path p (st .store))
+    -- 02, order 4: a process that waits for the clock goes on once the clock is after its time
+    goesOn : (path : List ℕ) {t : ℕ} {k : List Frame} → look path (st .process) ≡ some (atWait t k) → after (now st) t ≡ true
+        → Step [] (replaced path (resume k) (st .store))
+    -- 02, order 4: a process reads the clock for TIME. It belongs to the statement's one step, which stores what was read, also where the
+    -- clock has moved between
+    reading : (path : List ℕ) {x : Site} {k : List Frame} → look path (st .process) ≡ some (toRead x k)
+        → Step (reads (now st) ∷ []) (replaced path (hasRead x (now st) k) (st .store))
+    stores : (path : List ℕ) {x : Site} {v : ℕ} {k : List Frame} → look path (st .process) ≡ some (hasRead x v k)
+        → Step [] (replaced path (resume k) (store x v (st .store)))
     -- a communication, when sender and receiver are both there, as one step of both
     communicates : (sender receiver : List ℕ) {c x : Site} {v : ℕ} {k l : List Frame} → look sender (st .process) ≡ some (atOutput c v k)
         → look receiver (st .process) ≡ some (atInput c x l)

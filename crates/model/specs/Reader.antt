@@ -9,7 +9,8 @@ use lib.Dec.{leb}
 use Rattle.model.specs.Number.{Number, number}
 use Rattle.model.specs.Limits.{tableLimit, depthLimit, channelLimit, nameLimit, partLimit, branchLimit}
 use Rattle.model.specs.Syntax.{Site, inputOf, outputOf, declared, Expr, constant, variable, NOT, binary, Stmt, SKIP, STOP, assign}
-use Rattle.model.specs.Syntax.{input, output, VAR, CHAN, SEQ, PAR, IF, WHILE, ALT, noStmt, stmt, Pairs, noPair, pair, Guard}
+use Rattle.model.specs.Syntax.{input, output, VAR, CHAN, SEQ, PAR, IF, WHILE, ALT, TIME, WAIT, noStmt, stmt, Pairs, noPair, pair}
+use Rattle.model.specs.Syntax.{Guard}
 use Rattle.model.specs.Syntax.{inputGuard, skipGuard, Guards, noGuard, guard, Program}
 use Rattle.model.specs.declared.kinds.Operator.{Operator}
 use Rattle.model.specs.declared.kinds.Operator.the-variants.{Plus as PLUS, Minus as MINUS, Times as TIMES, Gt as GT, Eq as EQ}
@@ -18,6 +19,7 @@ use Rattle.model.specs.declared.kinds.ExprKind.{ExprKind}
 use Rattle.model.specs.declared.kinds.ExprKind.the-variants.{Constant, Variable, Not, Binary}
 use Rattle.model.specs.declared.kinds.StmtKind.{StmtKind}
 use Rattle.model.specs.declared.kinds.StmtKind.the-variants.{Skip, Stop, Assign, Input, Output, Var, Chan, Seq, Par, If, While, Alt}
+use Rattle.model.specs.declared.kinds.StmtKind.the-variants.{Time, Wait}
 use Rattle.model.specs.declared.kinds.GuardKind.{GuardKind}
 use Rattle.model.specs.declared.kinds.GuardKind.the-variants.{Input as InputGuard, Skip as SkipGuard}
 
@@ -183,9 +185,10 @@ readMany empty more part (suc n) = do
   rest ← readMany empty more part n
   pure (more a rest)
 
--- 0 SKIP, 1 STOP, 2 assign, 3 input, 4 output, 5 VAR, 6 CHAN, 7 SEQ, 8 PAR, 9 IF, 10 WHILE, 11 ALT
+-- 0 SKIP, 1 STOP, 2 assign, 3 input, 4 output, 5 VAR, 6 CHAN, 7 SEQ, 8 PAR, 9 IF, 10 WHILE, 11 ALT; 02, order 4: 12 TIME,
+-- 13 WAIT
 abbrev pub stmtKinds : List StmtKind
-stmtKinds = Skip ∷ Stop ∷ Assign ∷ Input ∷ Output ∷ Var ∷ Chan ∷ Seq ∷ Par ∷ If ∷ While ∷ Alt ∷ []
+stmtKinds = Skip ∷ Stop ∷ Assign ∷ Input ∷ Output ∷ Var ∷ Chan ∷ Seq ∷ Par ∷ If ∷ While ∷ Alt ∷ Time ∷ Wait ∷ []
 
 -- 01: a guard is 0 (waits for input) or 1 (SKIP guard)
 abbrev pub guardKinds : List GuardKind
@@ -220,7 +223,8 @@ readGuard scope inner = do
 abbrev pub applied : {L : Type 0} → (L → L) → L → L
 applied f l = f l
 
--- what follows a statement's kind, for a statement at a place: the column "then" of 01's table
+-- what follows a statement's kind, for a statement at a place: the column "then" of 01's table; 02, order 4: a variable, or an
+-- expression
 unfoldable pub stmtOf : (place : ℕ) → Scope → Inner → StmtKind → Reader Stmt
 stmtOf p scope inner Skip = pure SKIP
 stmtOf p scope inner Stop = pure STOP
@@ -234,6 +238,8 @@ stmtOf p scope inner Par = do n ← readCount 0 branchLimit; ss ← readMany noS
 stmtOf p scope inner If = do n ← readCount 0 partLimit; ps ← readMany noPair applied (readPair scope inner) n; pure (IF ps)
 stmtOf p scope inner While = do e ← inner .expr; s ← inner .stmt scope; pure (WHILE e s)
 stmtOf p scope inner Alt = do n ← readCount 0 partLimit; gs ← readMany noGuard applied (readGuard scope inner) n; pure (ALT gs)
+stmtOf p scope inner Time = do x ← readVariable scope; pure (TIME x)
+stmtOf p scope inner Wait = do e ← inner .expr; pure (WAIT e)
 
 -- a statement, with the depths left from it on; each statement or expression inside it is one deeper
 unfoldable pub readStmt : ℕ → Scope → Reader Stmt

@@ -3,7 +3,9 @@ use Prim.Native.Nat.{ℕ, zero, suc, _+_, _-_, _*_}
 use mathlib.Core.List.{List, [], _∷_, _++_}
 use Rattle.model.specs.Word.{less, minus}
 use Rattle.model.specs.Syntax.{Site, Expr, constant, variable, NOT, binary, Stmt, SKIP, STOP, assign, input, output, VAR, CHAN, SEQ}
-use Rattle.model.specs.Syntax.{PAR, IF, WHILE, ALT, Stmts, noStmt, stmt, Pairs, noPair, pair, Guard, inputGuard, skipGuard, Guards}
+use Rattle.model.specs.Syntax.{PAR, IF, WHILE, ALT, TIME, WAIT, Stmts, noStmt, stmt, Pairs, noPair, pair, Guard, inputGuard}
+use Rattle.model.specs.Syntax.{skipGuard}
+use Rattle.model.specs.Syntax.{Guards}
 use Rattle.model.specs.Syntax.{noGuard, guard, Program}
 use Rattle.model.specs.declared.kinds.Operator.{Operator}
 use Rattle.model.specs.declared.kinds.Operator.the-variants.{Plus as PLUS, Minus as MINUS, Times as TIMES, Gt as GT, Eq as EQ}
@@ -14,7 +16,7 @@ use Rattle.model.specs.declared.kinds.Order.the-variants.{LeftFirst, Rig
 use Rattle.model.specs.Layout.{base, wordOf}
 use Rattle.model.specs.Instruction as I
 use Rattle.model.specs.Instruction.{Instruction, plain, distance, operation, ldlp, ldc, ldl, cj, ajw, eqc, stl, rev, endp, diff, «in»}
-use Rattle.model.specs.Instruction.{prod, startp, outword, stopp, ldpi, disc, diss, mint, altwt, altend, enbc, enbs}
+use Rattle.model.specs.Instruction.{prod, startp, outword, stopp, ldpi, disc, diss, mint, altwt, altend, enbc, enbs, ldtimer, tin}
 
 -- 01: SUM, DIFF, PROD, GT, AND, OR, XOR; EQ is DIFF, EQC 0
 unfoldable pub operatorCode : Operator → List Instruction
@@ -115,6 +117,8 @@ unfoldable mutual
   size (IF ps) = sizePairs ps
   size (WHILE e s) = wholeSize e + 1 + size s + 1
   size (ALT gs) = 2 + sizeEnable gs + 1 + sizeDisable gs + 1 + sizeBranches gs
+  size (TIME x) = 2
+  size (WAIT e) = wholeSize e + 1
 
   pub sizeAll : Stmts → ℕ
   sizeAll noStmt = 0
@@ -189,7 +193,8 @@ module _ (word : Site → ℕ) where
 
   -- 01's listings. STOP: STOPP. Assign: value, STL. Output: value, LDLP channel, REV, AJW -1, OUTWORD, AJW 1.
   -- VAR n: AJW -n, then LDC 0, STL j for each j, body, AJW n. CHAN: the same with MINT. WHILE: condition, CJ end, body, J start.
-  -- ALT: AJW -1, ALT, the enabling, ALTWT, the disabling, ALTEND, the branches
+  -- ALT: AJW -1, ALT, the enabling, ALTWT, the disabling, ALTEND, the branches. 02, order 4, TIME: LDTIMER, STL. WAIT:
+  -- the time, TIN
   unfoldable mutual
     pub code : (w i : ℕ) → Stmt → List Instruction
     code w i SKIP = []
@@ -218,6 +223,8 @@ module _ (word : Site → ℕ) where
         ∷ codeDisable (w - 1) choice (choice + 1) gs
         ++ operation altend
         ∷ codeBranches w (choice + 1) (choice + 1 + sizeBranches gs) gs
+    code w i (TIME x) = operation ldtimer ∷ plain stl (local w x) ∷ []
+    code w i (WAIT e) = wholeCode w e ++ operation tin ∷ []
 
     -- SEQ: the parts, one after the other
     pub codeAll : (w i : ℕ) → Stmts → List Instruction

@@ -29,7 +29,7 @@ condition (skipGuard e) = e
 
 -- VAR, CHAN and PAR have the place of their first byte: it tells declarations apart, and refusal 7 returns it
 mutual
-  -- a statement: 01's kinds 0 SKIP to 11 ALT
+  -- a statement: 01's kinds 0 SKIP to 11 ALT; 02's 12, TIME into a variable, and 13, wait until after a time (order 4)
   pub data Stmt : Type 0 where
     SKIP STOP : Stmt
     assign : Site → Expr → Stmt
@@ -41,6 +41,8 @@ mutual
     IF : Pairs → Stmt
     WHILE : Expr → Stmt → Stmt
     ALT : Guards → Stmt
+    TIME : (variable : Site) → Stmt
+    WAIT : (time : Expr) → Stmt
 
   -- the statements of a SEQ or PAR
   pub data Stmts : Type 0 where

@@ -6,7 +6,9 @@ use mathlib.Core.List.{List, [], _∷_, _++_}
 use mathlib.Core.Option.{Option, none, some}
 use lib.Dec.{eqb}
 use Rattle.model.specs.Syntax.{Site, inputOf, outputOf, declared, Expr, constant, variable, NOT, binary, Stmt, SKIP, STOP, assign}
-use Rattle.model.specs.Syntax.{input, output, VAR, CHAN, SEQ, PAR, IF, WHILE, ALT, Stmts, noStmt, stmt, Pairs, noPair, pair, Guard}
+use Rattle.model.specs.Syntax.{input, output, VAR, CHAN, SEQ, PAR, IF, WHILE, ALT, TIME, WAIT, Stmts, noStmt, stmt, Pairs, noPair}
+use Rattle.model.specs.Syntax.{pair}
+use Rattle.model.specs.Syntax.{Guard}
 use Rattle.model.specs.Syntax.{inputGuard, skipGuard, Guards, noGuard, guard}
 
 -- what a part of the program does to names. Names that it declares itself are among them, and in no other part
@@ -42,7 +44,7 @@ reads (binary op l r) = reads l ++ reads r
 abbrev pub reading : Expr → Usage
 reading e = record { changes = []; uses = reads e; inputs = []; outputs = [] }
 
--- assigning or inputting a variable, which also uses it
+-- assigning or inputting a variable, or reading the time into it, which also uses it
 abbrev pub changing : Site → Usage
 changing x = record { changes = x ∷ []; uses = x ∷ []; inputs = []; outputs = [] }
 
@@ -59,7 +61,8 @@ abbrev pub guardUsage : Guard → Usage
 guardUsage (inputGuard e c x) = reading e ⊕ inputting c ⊕ changing x
 guardUsage (skipGuard e) = reading e
 
--- what a statement does to names, and the parts of a SEQ or PAR, an IF and an ALT
+-- what a statement does to names, and the parts of a SEQ or PAR, an IF and an ALT. 02, order 4: TIME is an input to the check; the clock
+-- is no channel
 unfoldable mutual
   pub usage : Stmt → Usage
   usage SKIP = nothing
@@ -74,6 +77,8 @@ unfoldable mutual
   usage (IF ps) = usagePairs ps
   usage (WHILE e s) = reading e ⊕ usage s
   usage (ALT gs) = usageGuards gs
+  usage (TIME x) = changing x
+  usage (WAIT e) = reading e
 
   pub usageAll : Stmts → Usage
   usageAll noStmt = nothing
@@ -144,6 +149,8 @@ unfoldable mutual
   firstClash (IF ps) = firstClashPairs ps
   firstClash (WHILE e s) = firstClash s
   firstClash (ALT gs) = firstClashGuards gs
+  firstClash (TIME x) = none
+  firstClash (WAIT e) = none
 
   pub firstClashAll : Stmts → Option ℕ
   firstClashAll noStmt = none

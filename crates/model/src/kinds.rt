@@ -1,5 +1,5 @@
-// The kinds and operators of document 01's table ("The program table"), whose numbers stand in specs/Reader.antt and, for the code, in
-// crate `numbers`; and how an operator's sides are brought in.
+// The kinds and operators of document 01's table ("The program table") and of document 02's orders, whose numbers stand in
+// specs/Reader.antt and, for the code, in crate `numbers`; and how an operator's sides are brought in.
 
 // Statements.
 pub enum StmtKind {
@@ -15,6 +15,8 @@ pub enum StmtKind {
     If,
     While,
     Alt,
+    Time,
+    Wait,
 }
 
 // Expressions.

@@ -11,6 +11,7 @@ use Rattle.model.specs.declared.kinds.ExprKind.{ExprKind}
 use Rattle.model.specs.declared.kinds.ExprKind.the-variants.{Constant, Variable, Not, Binary}
 use Rattle.model.specs.declared.kinds.StmtKind.{StmtKind}
 use Rattle.model.specs.declared.kinds.StmtKind.the-variants.{Skip, Stop, Assign, Input, Output, Var, Chan, Seq, Par, If, While, Alt}
+use Rattle.model.specs.declared.kinds.StmtKind.the-variants.{Time, Wait}
 use Rattle.model.specs.declared.kinds.GuardKind.{GuardKind}
 use Rattle.model.specs.declared.kinds.GuardKind.the-variants.{Input as InputGuard, Skip as SkipGuard}
 use Rattle.model.specs.declared.kinds.Operator.{Operator}
@@ -21,7 +22,7 @@ use Rattle.numbers.specs.declared.Item.the-variants.{Item as Found}
 use Rattle.numbers.specs.declared.Value.{Value}
 use Rattle.numbers.specs.declared.kinds.Simple.{Simple}
 use Rattle.numbers.specs.declared.kinds.Simple.the-variants.{Skip as Idle, Stop as Stopping, Assign as Assigning, Input as Inputting}
-use Rattle.numbers.specs.declared.kinds.Simple.the-variants.{Output as Outputting}
+use Rattle.numbers.specs.declared.kinds.Simple.the-variants.{Output as Outputting, Time as Timing, Wait as Waiting}
 use Rattle.numbers.specs.declared.kinds.Declared.{Declared}
 use Rattle.numbers.specs.declared.kinds.Declared.the-variants.{Variables, Channels}
 use Rattle.numbers.specs.declared.kinds.Head.{Head}
@@ -84,6 +85,8 @@ shapeOf Par = Branches (UpTo branchLimit)
 shapeOf If = Parts Condition (UpTo partLimit)
 shapeOf While = Parts Condition (Fixed 1)
 shapeOf Alt = Parts Guard (UpTo partLimit)
+shapeOf Time = Bare Timing
+shapeOf Wait = Bare Waiting
 
 -- by what stands before the statement of a part, by what is declared, by the shape and by how parts are counted
 abbrev pub byHead : {R : Type 0} → Head → (nothing condition guard : R) → R

@@ -1,4 +1,5 @@
-// The kinds and operators of document 01's table by their numbers, and how statements of a kind are laid out ("The program table").
+// The kinds and operators of document 01's table by their numbers, and how statements of a kind are laid out ("The program table"); 02,
+// order 4: TIME and WAIT.
 ghost use mathlib.Core.Path.{_≡_};
 ghost use Rattle.numbers.specs.Kinds.{stmtKind, exprKind, guardKind, operatorOf, shapeOf, countAt, countIn};
 use model::kinds::ExprKind;
@@ -7,7 +8,7 @@ use model::kinds::Operator;
 use model::kinds::StmtKind;
 
 // In the order of their numbers, from 0.
-const STATEMENTS: [StmtKind; 12] = [
+const STATEMENTS: [StmtKind; 14] = [
     StmtKind::Skip,
     StmtKind::Stop,
     StmtKind::Assign,
@@ -20,6 +21,8 @@ const STATEMENTS: [StmtKind; 12] = [
     StmtKind::If,
     StmtKind::While,
     StmtKind::Alt,
+    StmtKind::Time,
+    StmtKind::Wait,
 ];
 
 const EXPRESSIONS: [ExprKind; 4] = [
@@ -43,7 +46,7 @@ const OPERATORS: [Operator; 8] = [
 ];
 
 // The last number of a statement's, an expression's and a guard's kind, and of an operator.
-pub const LAST_STATEMENT: u64 = 11;
+pub const LAST_STATEMENT: u64 = 13;
 
 pub const LAST_EXPRESSION: u64 = 3;
 
@@ -58,6 +61,8 @@ pub enum Simple {
     Assign,
     Input,
     Output,
+    Time,
+    Wait,
 }
 
 // What a declaration declares.
@@ -153,6 +158,8 @@ pub fn shape_of(kind: StmtKind) -> Shape
         StmtKind::If => Shape::Parts(Head::Condition, Count::UpTo(model::limits::PARTS)),
         StmtKind::While => Shape::Parts(Head::Condition, Count::Fixed(1)),
         StmtKind::Alt => Shape::Parts(Head::Guard, Count::UpTo(model::limits::PARTS)),
+        StmtKind::Time => Shape::Simple(Simple::Time),
+        StmtKind::Wait => Shape::Simple(Simple::Wait),
     }
 }
 

@@ -1,5 +1,5 @@
--- The place after a part and the words that it needs, by places of the table (01, "Workspace and code"; 02, order 2), with the plan that
--- has the entries of all in it.
+-- The place after a part and the words that it needs, by places of the table (01, "Workspace and code"; 02, orders 2 and 4), with the plan
+-- that has the entries of all in it.
 use Prim.Native.Nat.{ℕ, zero, suc, _+_, _*_, _/_, _%_, _^_, max}
 use mathlib.Core.Bool.{Bool, true, false, cond}
 use mathlib.Core.List.{List}
@@ -8,13 +8,13 @@ use Rattle.model.specs.Limits.{tableLimit, depthLimit}
 use Rattle.model.specs.Word.{low}
 use Rattle.counts.specs.Words.{asked, leastWords}
 use Rattle.counts.specs.declared.Role.{Role}
-use Rattle.counts.specs.declared.Role.the-variants.{Value as ForValue, Output as ForOutput, Guard as ForGuard}
+use Rattle.counts.specs.declared.Role.the-variants.{Value as ForValue, Output as ForOutput, Guard as ForGuard, Wait as ForWait}
 use Rattle.numbers.specs.Items.{valueAt}
 use Rattle.plan.specs.Entries.{nextOf, nextIn, storedIn, planAt, putAt, exprEntered}
 use Rattle.plan.specs.declared.extent.Extent.{Extent}
 use Rattle.numbers.specs.Kinds.{stmtKind, guardKind, byGuard, byHead, byShape, shapeOf, countIn}
 use Rattle.numbers.specs.declared.kinds.Simple.{Simple}
-use Rattle.numbers.specs.declared.kinds.Simple.the-variants.{Skip, Stop, Assign, Input, Output}
+use Rattle.numbers.specs.declared.kinds.Simple.the-variants.{Skip, Stop, Assign, Input, Output, Time, Wait}
 use Rattle.numbers.specs.declared.kinds.Head.{Head}
 use Rattle.numbers.specs.declared.kinds.Head.the-variants.{Nothing}
 use Rattle.model.specs.declared.kinds.StmtKind.{StmtKind}
@@ -46,13 +46,15 @@ wholeMeasured r d s at p =
     let m = exprEntered d s at p in
     measured (extended (nextIn (m .own)) (asked r (storedIn (m .own)))) (m .plan)
 
--- what follows the kind of a statement without statements inside. 01: SKIP, STOP 2; input 3
+-- what follows the kind of a statement without statements inside. 01: SKIP, STOP 2; input 3. 02, order 4: TIME 2
 unfoldable pub simpleMeasured : Simple → (depth : ℕ) → List ℕ → (at : ℕ) → List ℕ → Measured
 simpleMeasured Skip d s at p = measured (extended at 2) p
 simpleMeasured Stop d s at p = measured (extended at 2) p
 simpleMeasured Assign d s at p = wholeMeasured ForValue d s (nextOf s at) p
 simpleMeasured Input d s at p = measured (extended (nextOf s (nextOf s at)) 3) p
 simpleMeasured Output d s at p = wholeMeasured ForOutput d s (nextOf s at) p
+simpleMeasured Time d s at p = measured (extended (nextOf s at) 2) p
+simpleMeasured Wait d s at p = wholeMeasured ForWait d s at p
 
 -- a guard, and the words that its condition asks for
 unfoldable pub guardMeasured : (depth : ℕ) → List ℕ → (at : ℕ) → List ℕ → Measured

@@ -72,6 +72,11 @@ fn measure_simple(
             need: counts::INPUT_WORDS,
         },
         Simple::Output => measure_whole(table, plan, numbers::skip(table, at), Role::Output, depth),
+        Simple::Time => Extent {
+            next: numbers::skip(table, at),
+            need: counts::IDLE_WORDS,
+        },
+        Simple::Wait => measure_whole(table, plan, at, Role::Wait, depth),
     }
 }
 

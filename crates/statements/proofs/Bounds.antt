@@ -13,8 +13,9 @@ use Rattle.model.specs.declared.kinds.Order.the-variants.{LeftFirst, RightFirst
 use Rattle.model.specs.Scheme.{operatorSize, sidesSize, exprSize, wrapSize, wholeSize, howMany, size, sizeAll, sizePar, sizeEnds, sizePairs}
 use Rattle.model.specs.Scheme.{sizeEnable, sizeDisable, sizeBranches, enableSize, disableSize, inputSize}
 use Rattle.statements.proofs.Spelled.{ExprAt, constantAt, variableAt, notAt, binaryAt, StmtAt, skipAt, stopAt, assignAt, inputAt}
-use Rattle.statements.proofs.Spelled.{outputAt, varAt, chanAt, seqAt, parAt, ifAt, whileAt, altAt, StmtsAt, noStmtAt, stmtsAt}
-use Rattle.statements.proofs.Spelled.{PairsAt, noPairAt, pairAt, GuardAt, inputGuardAt, skipGuardAt, GuardsAt, noGuardAt, guardsAt}
+use Rattle.statements.proofs.Spelled.{outputAt, varAt, chanAt, seqAt, parAt, ifAt, whileAt, altAt, timeAt, waitAt, StmtsAt, noStmtAt}
+use Rattle.statements.proofs.Spelled.{stmtsAt, PairsAt, noPairAt, pairAt, GuardAt, inputGuardAt, skipGuardAt, GuardsAt, noGuardAt}
+use Rattle.statements.proofs.Spelled.{guardsAt}
 
 operator-small : (op : Operator) → operatorSize op ≤ 2
 unfolding operatorSize
@@ -85,6 +86,8 @@ module _ (s : List ℕ) where
     stmt-bound (ifAt k c a) = omega (arith, k .ahead, c .there .ahead, pairs-bound a)
     stmt-bound (whileAt k e a) = omega (arith, k .ahead, whole-bound e, stmt-bound a)
     stmt-bound (altAt k c a) = omega (arith, k .ahead, c .there .ahead, guards-bound a)
+    stmt-bound (timeAt k x) = omega (arith, k .ahead, x .there .ahead)
+    stmt-bound (waitAt k e) = omega (arith, k .ahead, whole-bound e)
 
     all-bound : {w : Scope} {d k i n : ℕ} {ss : Stmts} → StmtsAt s d w k i ss n → sizeAll ss + 80 * i ≤ 80 * n
     all-bound noStmtAt = omega arith

@@ -5,20 +5,20 @@ use mathlib.Core.Path.{_≡_, sym, ap}
 use mathlib.Core.List.{List, [], _∷_}
 use Rattle.model.specs.Limits.{wordLimit}
 use Rattle.model.specs.Word.{minus}
-use Rattle.model.specs.Syntax.{Site, Expr, Stmt, SKIP, STOP, assign, input, output}
+use Rattle.model.specs.Syntax.{Site, Expr, Stmt, SKIP, STOP, assign, input, output, TIME, WAIT}
 use Rattle.model.specs.Reader as M
 use Rattle.model.specs.Counts.{need}
 use Rattle.model.specs.Instruction as I
 use Rattle.model.specs.Instruction.{plain, operation, ldlp, ajw, stl, functionCode, operationCode}
 use Rattle.model.specs.Scheme.{local, wholeCode, inputCode, code}
 use Rattle.model.proofs.Tables.WellFormed.{Laid}
-use Rattle.model.specs.declared.kinds.StmtKind.the-variants.{Skip, Stop, Assign, Input, Output}
+use Rattle.model.specs.declared.kinds.StmtKind.the-variants.{Skip, Stop, Assign, Input, Output, Time, Wait}
 use Rattle.numbers.specs.Kinds.{stmtKind}
 use Rattle.instruction.specs.Codes.{STOPP}
 use Rattle.expressions.specs.Emits.{at, operationInto}
 use Rattle.expressions.specs.Names.{Names}
 use Rattle.expressions.specs.Exprs.{written}
-use Rattle.expressions.specs.Simples.{inputInto, outputInto, assignInto, inInto, outInto, simpleInto}
+use Rattle.expressions.specs.Simples.{inputInto, outputInto, assignInto, inInto, outInto, timeInto, waitInto, simpleInto}
 use Rattle.statements.specs.Kinds.{stmtInto, insideInto}
 use Rattle.statements.proofs.Spelled.{KindAt, OneAt, ExprAt, StmtAt}
 use Rattle.statements.proofs.Planned.{PlannedExpr, PlannedStmt}
@@ -110,3 +110,21 @@ module _ (word : Site → ℕ) (workspace : ℕ → ℕ) (s plan : List ℕ) whe
         (ap (written _) (emits-fills
         (plain ldlp (local word w c) ∷ operation I.rev ∷ plain ajw (minus 1) ∷ operation I.outword ∷ plain ajw 1 ∷ [])
         j (wholeCode word w e) o (p .room)))
+
+    pub time-code : {i n m : ℕ} {x : Site} → KindAt s stmtKind i Time n → OneAt s (sc .variables) n x m → Placed w j (TIME x)
+        → Written (suc d) ns w j i m (TIME x)
+    unfolding stmtInto insideInto simpleInto timeInto code functionCode operationCode operationInto
+    time-code {x = x} k a p o =
+        rw (k .value, k .is, a .there .value, local-is word s (names .variables) w a)
+        (ap (written _) (emits-at (operation I.ldtimer ∷ plain stl (local word w x) ∷ []) j o (p .room)))
+
+    pub wait-code : {i n m : ℕ} {e : Expr} → KindAt s stmtKind i Wait n → (c : ExprAt s (sc .variables) d n e m) → PlannedExpr s plan c
+        → Placed w j (WAIT e) → Written (suc d) ns w j i m (WAIT e)
+    unfolding stmtInto insideInto simpleInto waitInto code functionCode operationCode operationInto
+    wait-code {e = e} k c told p o =
+        rw (
+          k .value,
+          k .is,
+          whole-code word s plan 0 (omega arith) (names .variables) w c told j o (room-left j (wholeCode word w e) _ (p .room)),
+        )
+        (ap (written _) (emits-fills (operation I.tin ∷ []) j (wholeCode word w e) o (p .room)))

@@ -12,14 +12,14 @@ use borrow.Author.Tests.{lt-ltb}
 use Rattle.model.specs.Limits.{wordLimit, tableLimit}
 use Rattle.model.specs.Word.{low}
 use Rattle.model.specs.Syntax.{Site, Expr, constant, variable, binary, Stmt, SKIP, STOP, input, Stmts, noStmt, stmt, Pairs, Guard}
-use Rattle.model.specs.Syntax.{condition, Guards, WHILE}
+use Rattle.model.specs.Syntax.{condition, Guards, WHILE, TIME}
 use Rattle.model.specs.Reader.{Scope}
 use Rattle.model.specs.Counts.{order, registers, temporaries, guardWords, need, mostNeed, sumNeed, pairNeed, guardNeed}
 use Rattle.model.proofs.Cases.{by-bool}
 use Rattle.model.proofs.Tables.Needs.{sides-hold}
 use Rattle.counts.specs.Words.{asked}
 use Rattle.counts.specs.declared.Role.{Role}
-use Rattle.counts.specs.declared.Role.the-variants.{Value as ForValue, Output as ForOutput, Guard as ForGuard}
+use Rattle.counts.specs.declared.Role.the-variants.{Value as ForValue, Output as ForOutput, Guard as ForGuard, Wait as ForWait}
 use Rattle.plan.specs.Entries.{nextOf, nextIn, planAt, putAt, sidesEntry, Entered, entered, exprEntered, sidesEntered, innerEntered}
 use Rattle.plan.specs.Extents.{extended, extentEntry, extentIn, Measured, measured, wholeMeasured, simpleMeasured, guardMeasured}
 use Rattle.plan.specs.Extents.{headMeasured, joined, partsMeasured, insideMeasured, stmtMeasured, innerMeasured}
@@ -29,8 +29,8 @@ use Rattle.numbers.specs.declared.kinds.Head.{Head}
 use Rattle.numbers.specs.declared.kinds.Head.the-variants.{Nothing, Condition, Guard as GuardHead}
 use Rattle.statements.proofs.Spelled.{NumeralAt, KindAt, ExprAt, constantAt, variableAt, notAt, binaryAt, GuardAt, inputGuardAt}
 use Rattle.statements.proofs.Spelled.{skipGuardAt, StmtAt, skipAt, stopAt, assignAt, inputAt, outputAt, varAt, chanAt, seqAt, parAt}
-use Rattle.statements.proofs.Spelled.{ifAt, whileAt, altAt, StmtsAt, noStmtAt, stmtsAt, PairsAt, noPairAt, pairAt, GuardsAt}
-use Rattle.statements.proofs.Spelled.{noGuardAt, guardsAt}
+use Rattle.statements.proofs.Spelled.{ifAt, whileAt, altAt, timeAt, waitAt, StmtsAt, noStmtAt, stmtsAt, PairsAt, noPairAt, pairAt}
+use Rattle.statements.proofs.Spelled.{GuardsAt, noGuardAt, guardsAt}
 use Rattle.statements.proofs.Planned.{Tells, entry-tells, next-is, expr-ends, holds-few, InsideExpr, PlannedExpr, PlannedGuard}
 use Rattle.statements.proofs.Planned.{InsideStmt, PlannedStmts, PlannedPairs, PlannedGuards, PlannedStmt}
 
@@ -321,6 +321,15 @@ module _ (s : List ℕ) where
           stmt-own (partsBy q GuardHead false d j 4 p) (altAt k c a) long l
           (ahead (suc i) (past k (c .there)) (guards-planned 4 p a (omega arith) long (omega arith) (c .there .inside)))
           (rw (k .value, k .is, c .there .value, c .fits))
+      stmt-planned {w = w} p (timeAt {d = d} {at = i} {m = n} {x = v} k x) deep long l =
+          let a : StmtAt s (suc d) w i (TIME v) n = timeAt k x in
+          stmt-own (measured (extended n 2) p) a long l
+          (refl, nothing-in (suc i) n p (omega (arith, k .ahead, x .there .ahead)) (x .there .inside))
+          (rw (k .value, k .is, next-is s (x .there)))
+      stmt-planned p (waitAt {d = d} {at = i} {n = j} {m = n} {w = w} k e) deep long l =
+          stmt-own (wholeMeasured ForWait d s j p) (waitAt {w = w} k e) long l
+          (ahead (suc i) (k .ahead) (whole-made ForWait p e (omega arith) long))
+          (rw (k .value, k .is))
 
       stmts-planned : {w : Scope} {d k i n : ℕ} {ss : Stmts} (b : Bool) (x : ℕ) (p : List ℕ) (a : StmtsAt s d w k i ss n) → d ≤ 32
           → length p ≡ tableLimit → total b x ss ≤ wordLimit → i ≤ length s

@@ -14,9 +14,9 @@ use Rattle.numbers.specs.declared.Value.{Value}
 use Rattle.plan.specs.Entries.{nextOf, entry, nextIn, registersIn, storedIn, planAt}
 use Rattle.plan.specs.Extents.{extended, extentIn}
 use Rattle.statements.proofs.Spelled.{NumeralAt, ExprAt, constantAt, variableAt, notAt, binaryAt, StmtAt, skipAt, stopAt, assignAt}
-use Rattle.statements.proofs.Spelled.{inputAt, outputAt, varAt, chanAt, seqAt, parAt, ifAt, whileAt, altAt, StmtsAt, noStmtAt}
-use Rattle.statements.proofs.Spelled.{stmtsAt, PairsAt, noPairAt, pairAt, GuardAt, inputGuardAt, skipGuardAt, GuardsAt, noGuardAt}
-use Rattle.statements.proofs.Spelled.{guardsAt}
+use Rattle.statements.proofs.Spelled.{inputAt, outputAt, varAt, chanAt, seqAt, parAt, ifAt, whileAt, altAt, timeAt, waitAt, StmtsAt}
+use Rattle.statements.proofs.Spelled.{noStmtAt, stmtsAt, PairsAt, noPairAt, pairAt, GuardAt, inputGuardAt, skipGuardAt, GuardsAt}
+use Rattle.statements.proofs.Spelled.{noGuardAt, guardsAt}
 
 -- an entry tells the place after an expression, its registers and its stored values
 pub record Tells (x n : ℕ) (e : Expr) : Type 0 where
@@ -86,6 +86,8 @@ module _ (s : List ℕ) where
       InsideStmt (ifAt k c a) = PlannedPairs a
       InsideStmt (whileAt k e a) = PlannedExpr e × (ToldStmt a × InsideStmt a)
       InsideStmt (altAt k c a) = PlannedGuards a
+      InsideStmt (timeAt k x) = Unit {0}
+      InsideStmt (waitAt k e) = PlannedExpr e
 
       pub PlannedStmts : {w : Scope} {d k i n : ℕ} {ss : Stmts} → StmtsAt s d w k i ss n → Type 0
       PlannedStmts noStmtAt = Unit {0}

@@ -8,6 +8,7 @@ use lib.Dec.{ltb}
 use Rattle.model.specs.Limits.{nameLimit, partLimit}
 use Rattle.model.specs.declared.kinds.StmtKind.{StmtKind}
 use Rattle.model.specs.declared.kinds.StmtKind.the-variants.{Skip, Stop, Assign, Input, Output, Var, Chan, Seq, Par, If, While, Alt}
+use Rattle.model.specs.declared.kinds.StmtKind.the-variants.{Time, Wait}
 use Rattle.model.proofs.Cases.{by-bool, never}
 use Rattle.numbers.specs.Items.{valueAt}
 use Rattle.numbers.specs.Kinds.{shapeOf, countIn}
@@ -87,6 +88,8 @@ shape-few Par h m e = never (cc)
 shape-few If h m e = let q : UpTo partLimit ≡ m = cc in rw (sym q) (omega arith)
 shape-few While h m e = let q : Fixed 1 ≡ m = cc in rw (sym q) (omega arith)
 shape-few Alt h m e = let q : UpTo partLimit ≡ m = cc in rw (sym q) (omega arith)
+shape-few Time h m e = never (cc)
+shape-few Wait h m e = never (cc)
 
 -- in the scope of a statement that runs n words below, as a call has answered it
 pub shows-under : (n : ℕ) (sc inner : Scope) (ws : List ℕ) (ns : Names) → inner ≡ under n sc → Shows sc ws ns → Shows inner ws ns

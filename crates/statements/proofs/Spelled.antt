@@ -13,14 +13,15 @@ use Rattle.numbers.specs.Items.{groupsAt, grouped, valueAt}
 use Rattle.numbers.specs.declared.NumberRead.{NumberRead}
 use Rattle.numbers.specs.declared.NumberRead.the-variants.{Number, Bad}
 use Rattle.model.specs.Syntax.{Site, Expr, constant, variable, NOT, binary, Stmt, SKIP, STOP, assign, input, output, VAR, CHAN, SEQ, PAR}
-use Rattle.model.specs.Syntax.{IF, WHILE, ALT, Stmts, noStmt, stmt, Pairs, noPair, pair, Guard, inputGuard, skipGuard, Guards, noGuard}
-use Rattle.model.specs.Syntax.{guard}
+use Rattle.model.specs.Syntax.{IF, WHILE, ALT, TIME, WAIT, Stmts, noStmt, stmt, Pairs, noPair, pair, Guard, inputGuard, skipGuard, Guards}
+use Rattle.model.specs.Syntax.{noGuard, guard}
 use Rattle.model.specs.declared.kinds.Operator.{Operator}
 use Rattle.model.specs.Reader.{Parsed, parsed, fails, Reader, onward, Scope, withVariables, withChannels, readName, operators, exprKinds}
 use Rattle.model.specs.Reader.{exprOf, readExpr, readMany, stmtKinds, stmtOf, readStmt, readPair, guardKinds, guardOf, readGuard, Inner}
 use Rattle.model.specs.Reader.{readNumber, readCount, oneOf, tooDeep, anySite, canInput, canOutput, applied}
 use Rattle.model.specs.declared.kinds.StmtKind.{StmtKind}
 use Rattle.model.specs.declared.kinds.StmtKind.the-variants.{Skip, Stop, Assign, Input, Output, Var, Chan, Seq, Par, If, While, Alt}
+use Rattle.model.specs.declared.kinds.StmtKind.the-variants.{Time, Wait}
 use Rattle.model.specs.declared.kinds.ExprKind.{ExprKind}
 use Rattle.model.specs.declared.kinds.ExprKind.the-variants.{Constant, Variable, Not, Binary}
 use Rattle.model.specs.declared.kinds.GuardKind.{GuardKind}
@@ -151,6 +152,10 @@ mutual
         → StmtAt s d w m b p → StmtAt s (suc d) w at (WHILE e b) p
     altAt : {d at n m p k : ℕ} {w : Scope} {gs : Guards} → KindAt s stmtKind at Alt n → CountAt s 0 32 n k m
         → GuardsAt s d w k m gs p → StmtAt s (suc d) w at (ALT gs) p
+    timeAt : {d at n m : ℕ} {w : Scope} {x : Site} → KindAt s stmtKind at Time n → OneAt s (w .variables) n x m
+        → StmtAt s (suc d) w at (TIME x) m
+    waitAt : {d at n m : ℕ} {w : Scope} {e : Expr} → KindAt s stmtKind at Wait n → ExprAt s (w .variables) d n e m
+        → StmtAt s (suc d) w at (WAIT e) m
 
   pub data StmtsAt (s : List ℕ) : (depth : ℕ) → Scope → (count at : ℕ) → Stmts → (next : ℕ) → Type 0 where
     noStmtAt : {d at : ℕ} {w : Scope} → StmtsAt s d w 0 at noStmt at
@@ -303,9 +308,11 @@ module _ (s : List ℕ) (b : Bytes s) where
     of-stmt w at n While t =
         and-then _ (expr-spelled d w n) (λ e m h. and-then _ (inner w m) (λ b p g. parses (WHILE e b) p (whileAt t h g)))
     of-stmt w at n Alt t = and-then _ (count 0 32 n) (λ k m h. and-then _ (guards w k m) (λ gs p g. parses (ALT gs) p (altAt t h g)))
+    of-stmt w at n Time t = and-then _ (name anySite (w .variables) n) (λ x m h. parses (TIME x) m (timeAt t h))
+    of-stmt w at n Wait t = and-then _ (expr-spelled d w n) (λ e m h. parses (WAIT e) m (waitAt t h))
 
   pub stmt-spelled : (d : ℕ) (w : Scope) (at : ℕ) → Gives s (StmtAt s d w at) (readStmt d w at (drop at s))
   unfolding readStmt
   stmt-spelled zero w at = deep _ at
   stmt-spelled (suc d) w at =
-      and-then _ (kind stmtKinds stmtKind 11 at refl (λ k. stmt-kind-is)) (λ k n t. of-stmt d (λ w i. stmt-spelled d w i) w at n k t)
+      and-then _ (kind stmtKinds stmtKind 13 at refl (λ k. stmt-kind-is)) (λ k n t. of-stmt d (λ w i. stmt-spelled d w i) w at n k t)

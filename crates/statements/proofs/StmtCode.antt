@@ -7,9 +7,10 @@ use Rattle.model.specs.Syntax.{Site, declared, Stmt}
 use Rattle.model.specs.Reader as M
 use Rattle.expressions.specs.Names.{Names}
 use Rattle.statements.proofs.Spelled.{StmtAt, skipAt, stopAt, assignAt, inputAt, outputAt, varAt, chanAt, seqAt, parAt, ifAt}
-use Rattle.statements.proofs.Spelled.{whileAt, altAt}
+use Rattle.statements.proofs.Spelled.{whileAt, altAt, timeAt, waitAt}
 use Rattle.statements.proofs.Planned.{PlannedStmt, InsideStmt}
 use Rattle.statements.proofs.Compiles.{Scoped, Placed, Written, Compiles, skip-code, stop-code, assign-code, input-code, output-code}
+use Rattle.statements.proofs.Compiles.{time-code, wait-code}
 use Rattle.statements.proofs.Declares.{var-code, chan-code}
 use Rattle.statements.proofs.Flows.{seq-code, if-code, while-code}
 use Rattle.statements.proofs.Pars.{par-code}
@@ -29,6 +30,8 @@ some-depth (parAt k c a) = omega arith
 some-depth (ifAt k c a) = omega arith
 some-depth (whileAt k e a) = omega arith
 some-depth (altAt k c a) = omega arith
+some-depth (timeAt k x) = omega arith
+some-depth (waitAt k e) = omega arith
 
 module _ (word : Site → ℕ) (workspace : ℕ → ℕ) (s plan : List ℕ)
     (declared-is : (p j : ℕ) → word (declared p j) ≡ workspace p + j) where
@@ -48,6 +51,8 @@ module _ (word : Site → ℕ) (workspace : ℕ → ℕ) (s plan : List ℕ)
   by-kind w j inner (ifAt k c a) h q p = if-code word workspace s plan w (p .low) q inner j k c a (h .1) p
   by-kind w j inner (whileAt k e a) h q p = while-code word workspace s plan w (p .low) q inner j k e (h .1 .0) a (h .1 .1) p
   by-kind w j inner (altAt k c a) h q p = alt-code word workspace s plan w (p .low) q inner j k c a (h .1) p
+  by-kind w j inner (timeAt k x) h q p = time-code word workspace s plan w j q k x p
+  by-kind w j inner (waitAt k e) h q p = wait-code word workspace s plan w j q k e (h .1) p
 
   -- by the depth left; without depth nothing is spelt
   pub compiles-all : (d : ℕ) → Compiles word workspace s plan d

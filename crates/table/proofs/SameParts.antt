@@ -254,6 +254,8 @@ live-some (M.PAR p ss) = omega arith
 live-some (M.IF ps) = omega arith
 live-some (M.WHILE e st) = live-some st
 live-some (M.ALT gs) = omega arith
+live-some (M.TIME x) = omega arith
+live-some (M.WAIT e) = omega arith
 
 pub loop-same : (s : List ℕ) (d : ℕ) (w : Names) (sc : Scope) (place at : ℕ) (inner : Inner) → Bytes s → place ≤ at → Scoped w sc place
     → Numbers sc → Fits w d → InnerIs s d → inner .expr ≡ readExpr d sc → inner .stmt ≡ readStmt d

@@ -15,14 +15,16 @@ use Rattle.model.specs.Syntax.{Site, inputOf, outputOf, declared}
 use Rattle.model.specs.Syntax as M
 use Rattle.model.specs.Reader.{parsed, Reader, onward, pure, Scope, numbered, names, readName, anySite, canInput, canOutput, readExpr}
 use Rattle.model.specs.Reader.{Inner, stmtOf}
-use Rattle.model.specs.declared.kinds.StmtKind.the-variants.{Assign, Input, Output}
+use Rattle.model.specs.declared.kinds.StmtKind.the-variants.{Assign, Input, Output, Time, Wait}
 use Rattle.numbers.specs.declared.kinds.Simple.the-variants.{Assign as Assigning, Input as Inputting, Output as Outputting}
+use Rattle.numbers.specs.declared.kinds.Simple.the-variants.{Time as Timing, Wait as Waiting}
 use Rattle.counts.specs.declared.Role.{Role}
-use Rattle.counts.specs.declared.Role.the-variants.{Value, Output as Outward}
+use Rattle.counts.specs.declared.Role.the-variants.{Value, Output as Outward, Wait as ForWait}
 use Rattle.model.specs.Usage.{Usage, nothing, _⊕_, reading, changing, inputting, same, isIn, reads, usage, firstClash}
 use Rattle.model.specs.Counts.{temporaries, processes, need}
 use Rattle.counts.specs.Words.{asked}
 use Rattle.table.specs.Stmts.{wholeAt, variableAt, inputAt, outputAt, leaf, valueAt, takenAt, withHead, simpleAt, takenUses}
+use Rattle.table.specs.Stmts.{timedAt, timedUses}
 use Rattle.table.specs.Stmts.{simpleUses, stmtUses}
 use Rattle.table.specs.Scopes.{Fresh, Below, Scoped}
 use Rattle.table.specs.Uses.{markAt, changeAt}
@@ -265,6 +267,34 @@ output-stmt-same d w sc s place at stmts b h o =
       within = within-both (within-only outputs-of sc place m (k .value) ch (k .listed)) (r .within place m);
     })))
     (λ j p. refl))
+
+-- TIME and WAIT (02, order 4)
+pub time-same : (d : ℕ) (w : Names) (sc : Scope) (s : List ℕ) (place at : ℕ) (inner : Inner) → Bytes s → Scoped w sc place → Numbers sc
+    → Same s (RestIs sc place at (λ l. simpleUses Timing d w s at l)) NoStmt (simpleAt Timing d w s at)
+    (stmtOf place sc inner Time at (drop at s))
+unfolding simpleAt simpleUses timedAt timedUses stmtOf need processes firstClash usage
+time-same d w sc s place at inner b h o =
+    rw (h .variables) (
+    onwards (λ i. withItem NoStmt i (λ x n. leaf n 2)) (λ x. pure (M.TIME x)) (variable-same (sc .variables) s at b)
+    (λ x n y k q. rw (k .found)
+    (gives (M.TIME x) n (leaf n 2)
+    (record {
+      is = refl;
+      ahead = omega (arith, k .there .ahead);
+      uses = rw (q ∙ k .found) (change-one sc (k .value) x (o .own-variables) (k .listed) (o .few-variables));
+      within = within-changing sc place n (k .value) x (k .listed);
+    })))
+    (λ j p. refl))
+
+pub wait-same : (d : ℕ) (w : Names) (sc : Scope) (s : List ℕ) (place at : ℕ) (stmts : Scope → Reader M.Stmt) → Bytes s → Scoped w sc place
+    → Numbers sc
+    → Same s (RestIs sc place at (λ l. simpleUses Waiting d w s at l)) NoStmt (simpleAt Waiting d w s at)
+    (stmtOf place sc (record { expr = readExpr d sc; stmt = stmts }) Wait at (drop at s))
+unfolding simpleAt simpleUses stmtOf asked need processes firstClash usage
+wait-same d w sc s place at stmts b h o =
+    rw (h .variables) (
+    value-same ForWait d sc s at (λ e. M.WAIT e) (RestIs sc place at _) b o (λ e m z r.
+    record { is = refl; ahead = omega (arith, r .ahead); uses = r .uses; within = r .within place m }))
 
 -- a statement
 pub record StmtIs (s : List ℕ) (d : ℕ) (w : Names) (sc : Scope) (at : ℕ) (st : M.Stmt) (n : ℕ) (x : StmtRead) : Type 0 where

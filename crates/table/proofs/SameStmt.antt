@@ -9,6 +9,7 @@ use Rattle.model.specs.Syntax as M
 use Rattle.model.specs.Reader.{Parsed, parsed, Scope, readExpr, Inner, stmtOf, readStmt, stmtKinds}
 use Rattle.model.specs.declared.kinds.StmtKind.{StmtKind}
 use Rattle.model.specs.declared.kinds.StmtKind.the-variants.{Skip, Stop, Assign, Input, Output, Var, Chan, Seq, Par, If, While, Alt}
+use Rattle.model.specs.declared.kinds.StmtKind.the-variants.{Time, Wait}
 use Rattle.numbers.specs.Kinds.{stmtKind, countAt, lastStatement}
 use Rattle.model.specs.Usage.{usage, firstClash}
 use Rattle.model.specs.Counts.{processes, need}
@@ -19,7 +20,8 @@ use Rattle.table.specs.declared.stmt.StmtRead.the-variants.{Stmt, Refuse
 use Rattle.table.specs.Scopes.{Scoped}
 use Rattle.table.proofs.SameItems.{Bytes, NumberAt, Same, gives, turns, onwards, one-same, deep-same, stmt-kind-is}
 use Rattle.table.proofs.SameExpr.{Numbers}
-use Rattle.table.proofs.SameSimple.{RestIs, StmtIs, idle-same, assign-same, input-stmt-same, output-stmt-same}
+use Rattle.table.proofs.SameSimple.{RestIs, StmtIs, idle-same, assign-same, input-stmt-same, output-stmt-same, time-same}
+use Rattle.table.proofs.SameSimple.{wait-same}
 use Rattle.table.proofs.SameDeclare.{InnerIs, variables-same, channels-same}
 use Rattle.table.proofs.SameParts.{sequence-same, choice-same, loop-same}
 use Rattle.table.proofs.SameAlt.{alternative-same}
@@ -50,7 +52,7 @@ stmt-same (suc d) s b w sc at h f =
     let down : InnerIs s d = stmt-same d s b in
     let fits : Fits w d = (omega (arith, f .0), omega (arith, f .1), omega (arith, f .2), f .3, f .4) in
     let o : Numbers sc = fitting d h f in
-    onwards (λ x. withItem NoStmt x (λ k n. kinds (stmtKind k) n)) (λ k. stmtOf at sc inner k) (one-same stmtKinds 11 s at b refl)
+    onwards (λ x. withItem NoStmt x (λ k n. kinds (stmtKind k) n)) (λ k. stmtOf at sc inner k) (one-same stmtKinds 13 s at b refl)
     (λ kind n y k q. let e = stmt-kind-is (k .value) (k .listed) in
     rw (k .found, e) (with-kind (k .value) kind n _ _ (q ∙ k .found) e (k .there) (of-kind down fits o n (k .there .ahead) kind)))
     (λ j p. refl)
@@ -78,6 +80,8 @@ stmt-same (suc d) s b w sc at h f =
     of-kind down fits o n l If = choice-same s d w sc at n inner b (omega (arith, l)) h o fits down refl refl
     of-kind down fits o n l While = loop-same s d w sc at n inner b (omega (arith, l)) h o fits down refl refl
     of-kind down fits o n l Alt = alternative-same s d w sc at n inner b (omega (arith, l)) h o fits down refl refl
+    of-kind down fits o n l Time = time-same d w sc s at n inner b h o
+    of-kind down fits o n l Wait = wait-same d w sc s at n (readStmt d) b h o
 
     with-kind : (v : ℕ) (k : StmtKind) (n : ℕ) (x : StmtRead) (r : Parsed M.Stmt) → betweenAt 0 lastStatement s at ≡ Found v n
         → stmtKind v ≡ k → NumberAt s at v n → Same s (RestIs sc at n (uses-of k n)) NoStmt x r

@@ -16,9 +16,10 @@ use Rattle.model.specs.declared.kinds.GuardKind.{GuardKind}
 use Rattle.model.specs.declared.kinds.GuardKind.the-variants.{Input as InputGuard, Skip as SkipGuard}
 use Rattle.model.specs.declared.kinds.StmtKind.{StmtKind}
 use Rattle.model.specs.declared.kinds.StmtKind.the-variants.{Skip, Stop, Assign, Input, Output, Var, Chan, Seq, Par, If, While, Alt}
+use Rattle.model.specs.declared.kinds.StmtKind.the-variants.{Time, Wait}
 use Rattle.numbers.specs.declared.kinds.Simple.{Simple}
 use Rattle.numbers.specs.declared.kinds.Simple.the-variants.{Skip as Idle, Stop as Stopping, Assign as Assigning, Input as Inputting}
-use Rattle.numbers.specs.declared.kinds.Simple.the-variants.{Output as Outputting}
+use Rattle.numbers.specs.declared.kinds.Simple.the-variants.{Output as Outputting, Time as Timing, Wait as Waiting}
 use Rattle.numbers.specs.declared.kinds.Head.{Head}
 use Rattle.numbers.specs.declared.kinds.Head.the-variants.{Nothing, Condition, Guard}
 use Rattle.numbers.specs.declared.kinds.Shape.{Shape}
@@ -26,12 +27,13 @@ use Rattle.numbers.specs.declared.kinds.Shape.the-variants.{Simple as Bare, Dec
 use Rattle.numbers.specs.declared.kinds.Count.{Count}
 use Rattle.numbers.specs.declared.kinds.Count.the-variants.{UpTo, Fixed}
 use Rattle.counts.specs.declared.Role.{Role}
-use Rattle.counts.specs.declared.Role.the-variants.{Value, Output as Outward, Guard as ForGuard}
+use Rattle.counts.specs.declared.Role.the-variants.{Value, Output as Outward, Guard as ForGuard, Wait as ForWait}
 use Rattle.model.specs.Counts.{orderOf, guardWords}
 use Rattle.model.proofs.Tables.Needs.{sides-hold}
 use Rattle.table.specs.Exprs.{withExpr, single, constantAt, usedAt, sides, operated, exprAt}
 use Rattle.counts.specs.Words.{asked, leastWords}
-use Rattle.table.specs.Stmts.{wholeAt, variableAt, inputAt, withHead, withStmt, outputAt, leaf, valueAt, takenAt, simpleAt, guardAt}
+use Rattle.table.specs.Stmts.{wholeAt, variableAt, inputAt, withHead, withStmt, outputAt, leaf, valueAt, takenAt, timedAt, simpleAt}
+use Rattle.table.specs.Stmts.{guardAt}
 use Rattle.table.specs.Stmts.{headAt, nothing, added, partAt, mostFrom, gathered, Branches, joinedBy, BranchesRead, all, stopped}
 use Rattle.table.specs.Stmts.{withBranches, branchesFrom, noBranches, parOf, moreNames, declaring, insideOf, stmtAt, stmtUses, partIn}
 use Rattle.table.specs.Uses.{noNames}
@@ -218,6 +220,7 @@ asked-most Value t = omega arith
 asked-most Outward t = omega arith
 asked-most ForGuard zero = omega arith
 asked-most ForGuard (suc t) = omega arith
+asked-most ForWait t = omega arith
 
 whole-in : (r : Role) (d vs : ℕ) (s : List ℕ) (at : ℕ) → InHead at at (length s) (wholeAt r d vs s at)
 unfolding wholeAt
@@ -242,7 +245,7 @@ taken-in w s base at a l u =
 
 simple-in : (x : Simple) (d : ℕ) (w : Names) (s : List ℕ) (base at : ℕ) → base < at → at ≤ length s
     → In base at (length s) (simpleAt x d w s at)
-unfolding simpleAt
+unfolding simpleAt timedAt
 simple-in Idle d w s base at l u = leaf-small at 2 base at (length s) l (omega arith) u (omega (arith, l))
 simple-in Stopping d w s base at l u = leaf-small at 2 base at (length s) l (omega arith) u (omega (arith, l))
 simple-in Assigning d w s base at l u =
@@ -255,6 +258,10 @@ simple-in Inputting d w s base at l u =
 simple-in Outputting d w s base at l u =
     of-item (In base at (length s)) (InItem at (length s)) (λ j p. tt) (outputAt w s at) (name-in _ _ _ s at) (λ x n h.
     value-in Outward d (w .variables) s base at n l (omega (arith, h .0)))
+simple-in Timing d w s base at l u =
+    of-item (In base at (length s)) (InItem at (length s)) (λ j p. tt) (variableAt w s at) (name-in _ _ _ s at) (λ x n h.
+    leaf-small n 2 base at (length s) l (omega (arith, h .0)) (h .1) (omega (arith, l, h .0)))
+simple-in Waiting d w s base at l u = value-in ForWait d (w .variables) s base at at l (omega arith)
 
 guard-in : (d : ℕ) (w : Names) (s : List ℕ) (at : ℕ) → InHead at at (length s) (guardAt d w s at)
 unfolding guardAt
@@ -388,6 +395,8 @@ few Par = omega arith
 few If = omega arith
 few While = omega arith
 few Alt = omega arith
+few Time = tt
+few Wait = tt
 
 abbrev Behind : (at len : ℕ) → Item → Type 0
 Behind at len (Found c n) = (at ≤ n) × (n ≤ len)

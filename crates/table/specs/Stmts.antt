@@ -20,12 +20,12 @@ use Rattle.model.specs.Limits.{nameLimit}
 use Rattle.model.specs.declared.kinds.StmtKind.{StmtKind}
 use Rattle.numbers.specs.Kinds.{lastStatement, stmtKind, lastGuard, guardKind, byGuard, byHead, byDeclared, byShape, shapeOf, countAt}
 use Rattle.numbers.specs.declared.kinds.Simple.{Simple}
-use Rattle.numbers.specs.declared.kinds.Simple.the-variants.{Skip, Stop, Assign, Input, Output}
+use Rattle.numbers.specs.declared.kinds.Simple.the-variants.{Skip, Stop, Assign, Input, Output, Time, Wait}
 use Rattle.numbers.specs.declared.kinds.Declared.{Declared}
 use Rattle.numbers.specs.declared.kinds.Head.{Head}
 use Rattle.counts.specs.Words.{asked, leastWords}
 use Rattle.counts.specs.declared.Role.{Role}
-use Rattle.counts.specs.declared.Role.the-variants.{Value as ForValue, Output as ForOutput, Guard as ForGuard}
+use Rattle.counts.specs.declared.Role.the-variants.{Value as ForValue, Output as ForOutput, Guard as ForGuard, Wait as ForWait}
 
 -- a clash is told by one more than the place of its PAR, and 0 is none: the first of two
 abbrev pub firstOf : ℕ → ℕ → ℕ
@@ -69,6 +69,13 @@ unfoldable pub takenUses : Names → List ℕ → (at : ℕ) → List ℕ → Li
 takenUses w s at l =
     withItem (kept l) (inputAt w s at) (λ c n. withItem (kept l) (variableAt w s n) (λ x m. changeAt x (markAt inputsSet c l)))
 
+-- 02, order 4: the variable of a TIME, changed as by an input
+unfoldable pub timedAt : Names → List ℕ → (at : ℕ) → StmtRead
+timedAt w s at = withItem NoStmt (variableAt w s at) (λ x n. leaf n 2)
+
+unfoldable pub timedUses : Names → List ℕ → (at : ℕ) → List ℕ → List ℕ
+timedUses w s at l = withItem (kept l) (variableAt w s at) (λ x n. changeAt x l)
+
 -- what follows the kind of a statement without statements inside, whose expressions have `depth` left
 unfoldable pub simpleAt : Simple → (depth : ℕ) → Names → List ℕ → (at : ℕ) → StmtRead
 simpleAt Skip d w s at = leaf at 2
@@ -76,6 +83,8 @@ simpleAt Stop d w s at = leaf at 2
 simpleAt Assign d w s at = withItem NoStmt (variableAt w s at) (λ x n. valueAt ForValue d (w .variables) s n)
 simpleAt Input d w s at = withHead NoStmt (takenAt w s at 3) (λ m a. leaf m a)
 simpleAt Output d w s at = withItem NoStmt (outputAt w s at) (λ c n. valueAt ForOutput d (w .variables) s n)
+simpleAt Time d w s at = timedAt w s at
+simpleAt Wait d w s at = valueAt ForWait d (w .variables) s at
 
 unfoldable pub simpleUses : Simple → (depth : ℕ) → Names → List ℕ → (at : ℕ) → List ℕ → List ℕ
 simpleUses Skip d w s at l = l
@@ -83,6 +92,8 @@ simpleUses Stop d w s at l = l
 simpleUses Assign d w s at l = withItem (kept l) (variableAt w s at) (λ x n. exprUses d (w .variables) s n (changeAt x l))
 simpleUses Input d w s at l = takenUses w s at l
 simpleUses Output d w s at l = withItem (kept l) (outputAt w s at) (λ c n. exprUses d (w .variables) s n (markAt outputsSet c l))
+simpleUses Time d w s at l = timedUses w s at l
+simpleUses Wait d w s at l = exprUses d (w .variables) s at l
 
 -- a guard: its kind, its condition, and if it waits for input its channel and its variable
 unfoldable pub guardAt : (depth : ℕ) → Names → List ℕ → (at : ℕ) → HeadRead

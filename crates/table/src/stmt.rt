@@ -4,7 +4,8 @@ ghost use Prim.Native.Nat.{_+_, _<_, _≤_};
 ghost use lib.ListN.{length};
 ghost use Rattle.table.specs.Stmts.{firstOf, leaf, wholeAt, valueAt, takenAt, simpleAt, guardAt, headAt, behind, withStmt};
 ghost use Rattle.table.specs.Stmts.{nothing, added, gathered, parOf, moreNames, declaring, SmallWords, Numbered, Fits};
-ghost use Rattle.table.specs.Stmts.{partIn, mostAt, parAt, declaredAt, insideAt, stmtAt, takenUses, simpleUses, guardUses, headUses};
+ghost use Rattle.table.specs.Stmts.{partIn, mostAt, parAt, declaredAt, insideAt, stmtAt, takenUses, timedAt, timedUses, simpleUses};
+ghost use Rattle.table.specs.Stmts.{guardUses, headUses};
 ghost use Rattle.table.specs.Stmts.{partUsesIn, mostUsesAt, parUsesAt, declaredUses, insideUses, stmtUses};
 ghost use Rattle.table.specs.Exprs.{exprUses};
 ghost use Rattle.table.specs.Sets.{Exact};
@@ -150,6 +151,21 @@ fn read_input(table: &[u8], at: usize, names: Names, words: u32, sets: &mut [u64
     }
 }
 
+// The variable of a TIME (02, order 4), changed as by an input.
+fn read_time(table: &[u8], at: usize, names: Names, sets: &mut [u64; 64]) -> StmtRead
+    requires { ⌜ Numbered names ⌝ }
+    ensures said { λ r. ⌜ r ≡ timedAt names (now (table .entry)) at ⌝ }
+    ensures uses { λ r. ⌜ now (sets .exit) ≡ timedUses names (now (table .entry)) at (now (sets .entry)) ⌝ }
+{
+    match numbers::read_name(table, at, names.variables, 0, 0) {
+        numbers::Item::Item(into, next) => {
+            crate::usage::change(sets, into);
+            leaf_part(next, counts::IDLE_WORDS)
+        }
+        numbers::Item::Refused(n, p) => StmtRead::Refused(n, p),
+    }
+}
+
 // What follows the kind of a statement without statements inside.
 fn read_simple(
     table: &[u8],
@@ -184,6 +200,8 @@ fn read_simple(
             }
             numbers::Item::Refused(n, p) => StmtRead::Refused(n, p),
         },
+        Simple::Time => read_time(table, at, names, sets),
+        Simple::Wait => read_value(table, at, Role::Wait, depth, names.variables, sets),
     }
 }
 

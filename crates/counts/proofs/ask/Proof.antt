@@ -33,6 +33,10 @@ returns-4 : tie.Need-returns-4
 unfolding asked
 returns-4 c = simp (c .before .enum-told3 .given .1, some _ (c .if1 .left))
 
+returns-5 : tie.Need-returns-5
+unfolding asked
+returns-5 c = simp (c .before .enum-told4 .given .1) (c .larger2 .ensures)
+
 pub ask-spec : {M : Type 1} → statement M
 ask-spec =
     tie.close
@@ -44,7 +48,11 @@ ask-spec =
     (λ c κs. search needs)
     (λ c. search needs)
     (λ c. search needs)
+    (λ c. search needs)
+    (λ c. search needs)
+    (λ c κs. search needs)
     returns
     returns-2
     returns-3
-    returns-4)
+    returns-4
+    returns-5)

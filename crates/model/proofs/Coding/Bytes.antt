@@ -54,12 +54,17 @@ pub lands : (s : World) → s .machine .cpu .running ≡ true → s .machine .cp
 unfolding land testPlace
 lands s r h = rw (r, le-leb _ _ h)
 
+-- the byte at the place completes an instruction
+pub record Completes (code : List ℕ) (off : ℕ → ℕ) (x : Instruction) (s : World) : Type 0 where
+  pub function : getD code (s .machine .cpu .place) 0 / 16 ≡ functionCode (functionIn x)
+  pub operand : gathered (s .machine .cpu .operand) (getD code (s .machine .cpu .place) 0) ≡ operandIn off x
+
 -- what one byte of an instruction does: a prefix gathers; the last byte executes
 pub data Turn (code : List ℕ) (off : ℕ → ℕ) (i : ℕ) (x : Instruction) (s : World) : Type 0 where
   prefixed : (o : ℕ) → byte code s ≡ done tt (withCpu (gathering o (advance (s .machine .cpu))) s)
       → Standing code off i x (suc (s .machine .cpu .place)) o → Turn code off i x s
   last : byte code s ≡ next (execute (functionIn x) (operandIn off x) (withCpu (gathering 0 (advance (s .machine .cpu))) s)) (λ u. land)
-      → suc (s .machine .cpu .place) ≡ off (suc i) → Turn code off i x s
+      → suc (s .machine .cpu .place) ≡ off (suc i) → Completes code off x s → Turn code off i x s
 
 pub next-land : {r : Result (Unit {0})} {t : World} → r ≡ done tt t → t .machine .cpu .running ≡ true
     → t .machine .cpu .place ≤ t .machine .setup .code
@@ -125,6 +130,10 @@ module _ (code : List ℕ) (off : ℕ → ℕ) (i : ℕ) (x : Instruction) (s : 
       (fetched code s (omega (arith, whole))
       ∙ rw (eb, act-last s b (functionIn x) ep eq (ap (λ t. t .function) same), ap (λ t. t .operand) same) refl)
       (omega (arith, length-slice (suc (placeIn s)) (off (suc i)) code inside, ap length empty))
+      (record {
+        function = ap (λ b. b / 16) eb ∙ ap (λ t. t .function) same;
+        operand = ap (gathered (s .machine .cpu .operand)) eb ∙ ap (λ t. t .operand) same;
+      })
 
   pub turn : Reads off x (s .machine .cpu .operand) (slice (placeIn s) (off (suc i)) code) → Turn code off i x s
   turn r = turn-by (getD code (placeIn s) 0) refl _ _ refl refl (rw (slice-cons (placeIn s) (off (suc i)) code 0 upto inside) at r)

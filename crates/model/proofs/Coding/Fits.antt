@@ -8,15 +8,14 @@ use lib.ListN.{length, getElem?}
 use Rattle.model.specs.Limits.{wordLimit, branchLimit}
 use Rattle.model.specs.Syntax.{Site, Expr, constant, variable, NOT, binary, Stmt, SKIP, STOP, assign, input, output, VAR, CHAN, SEQ}
 use Rattle.model.specs.Syntax.{PAR, IF, WHILE, ALT, Stmts, noStmt, stmt, Pairs, noPair, pair, Guard, inputGuard, skipGuard, condition}
-use Rattle.model.specs.Syntax.{Guards, noGuard, guard, Program}
+use Rattle.model.specs.Syntax.{Guards, noGuard, guard, Program, TIME, WAIT}
 use Rattle.model.specs.declared.kinds.Operator.{Operator}
 use Rattle.model.specs.declared.kinds.Operator.the-variants.{Plus as PLUS, Minus as MINUS, Times as TIMES, Gt as GT, Eq as EQ}
 use Rattle.model.specs.declared.kinds.Operator.the-variants.{And as AND, Or as OR, Xor as XOR}
 use Rattle.model.specs.Reader.{Scope, withVariables, withChannels}
-use Rattle.model.specs.Counts.{order, sidesHold, temporaries, guardWords, need, mostNeed}
+use Rattle.model.specs.Counts.{order, sidesHold, temporaries, guardWords, need, mostNeed, sumNeed, pairNeed, guardNeed}
 use Rattle.model.specs.declared.kinds.Order.{Order}
 use Rattle.model.specs.declared.kinds.Order.the-variants.{LeftFirst, RightFirst, RightStored}
-use Rattle.model.specs.Counts.{sumNeed, pairNeed, guardNeed}
 use Rattle.model.specs.Instruction.{operationCode, Instruction, plain, operation, ldc, mint}
 use Rattle.model.specs.Layout.{base, wordOf}
 use Rattle.model.specs.Code.{Fits, AllFit, nil-fits, cons-fits}
@@ -147,6 +146,8 @@ module _ (word : Site → ℕ) (count : ℕ) where
     code-fits sc w i STOP h hn hi = omega arith ▸ nil-fits
     code-fits sc w i (assign x e) h hn hi = whole-fits sc w e (h .1) (omega arith) ⊕ omega arith ▸ nil-fits
     code-fits sc w i (input c x) h hn hi = omega arith ▸ omega arith ▸ omega arith ▸ omega arith ▸ nil-fits
+    code-fits sc w i (TIME x) h hn hi = omega arith ▸ omega arith ▸ nil-fits
+    code-fits sc w i (WAIT e) h hn hi = whole-fits sc w e h (omega arith) ⊕ omega arith ▸ nil-fits
     code-fits sc w i (output c e) h hn hi =
         whole-fits sc w e (h .1) (omega arith) ⊕ omega arith ▸ omega arith ▸ omega arith ▸ omega arith ▸ omega arith ▸ nil-fits
     code-fits sc w i (VAR p n s) h hn hi =

@@ -6,7 +6,7 @@ use native.Mathlib.Nat.{le-trans}
 use native.Mathlib.Omega.{arith}
 use borrow.Author.Tests.{eq-eqb, ne-eqb}
 use Rattle.model.specs.Syntax.{Stmt, SKIP, STOP, assign, input, output, VAR, CHAN, SEQ, PAR, IF, WHILE, ALT, Stmts, noStmt, stmt}
-use Rattle.model.specs.Syntax.{Pairs, noPair, pair, Guards, noGuard, guard}
+use Rattle.model.specs.Syntax.{Pairs, noPair, pair, Guards, noGuard, guard, TIME, WAIT}
 use Rattle.model.specs.Counts.{need}
 use Rattle.model.specs.Layout.{Laid as Entry, layout, layoutAll, layoutBranches, layoutPairs, layoutGuards, workspaceOf}
 use Rattle.model.proofs.Tables.WellFormed.{Placed, PlacedAll, PlacedPairs, PlacedGuards, Laid, LaidAll, LaidBranches, LaidPairs}
@@ -42,6 +42,8 @@ mutual
   rising lo hi w (IF ps) h = rising-pairs lo hi w ps h
   rising lo hi w (WHILE e s) h = rising lo hi w s h
   rising lo hi w (ALT gs) h = rising-guards lo hi w gs h
+  rising lo hi w (TIME x) h = level h
+  rising lo hi w (WAIT e) h = level h
 
   rising-all : (lo hi w : ℕ) (ss : Stmts) → PlacedAll lo hi ss → Rising hi lo (layoutAll w ss)
   rising-all lo hi w noStmt h = level h
@@ -107,6 +109,8 @@ module _ {at : ℕ → ℕ} where
     laid w (IF ps) = laid-pairs w ps
     laid w (WHILE e s) = laid w s
     laid w (ALT gs) = laid-guards w gs
+    laid w (TIME x) = λ r. tt
+    laid w (WAIT e) = λ r. tt
 
     laid-all : (w : ℕ) (ss : Stmts) → Right at (layoutAll w ss) → LaidAll at w ss
     laid-all w noStmt = λ r. tt

@@ -6,7 +6,7 @@ use mathlib.Core.List.{List}
 use lib.ListN.{length, length-append}
 use Rattle.model.specs.Syntax.{Site, Expr, constant, variable, NOT, binary, Stmt, SKIP, STOP, assign, input, output, VAR, CHAN, SEQ}
 use Rattle.model.specs.Syntax.{PAR, IF, WHILE, ALT, Stmts, noStmt, stmt, Pairs, noPair, pair, Guard, inputGuard, skipGuard, Guards}
-use Rattle.model.specs.Syntax.{noGuard, guard}
+use Rattle.model.specs.Syntax.{noGuard, guard, TIME, WAIT}
 use Rattle.model.specs.declared.kinds.Operator.{Operator}
 use Rattle.model.specs.declared.kinds.Operator.the-variants.{Plus as PLUS, Minus as MINUS, Times as TIMES, Gt as GT, Eq as EQ}
 use Rattle.model.specs.declared.kinds.Operator.the-variants.{And as AND, Or as OR, Xor as XOR}
@@ -109,6 +109,8 @@ module _ (word : Site → ℕ) where
     code-length w i STOP = refl
     code-length w i (assign x e) = simp (length-append, whole-length w e)
     code-length w i (input c x) = refl
+    code-length w i (TIME x) = refl
+    code-length w i (WAIT e) = simp (length-append, whole-length w e)
     code-length w i (output c e) = simp (length-append, whole-length w e)
     code-length w i (VAR p n s) =
         simp (length-append, initialise-length, code-length (w - n) (i + 1 + (n + n)) s) (omega arith)

@@ -2,7 +2,7 @@
 use Prim.Native.Nat.{ℕ, zero, suc, _<_}
 use native.Mathlib.Omega.{arith}
 use mathlib.Core.Path.{_≡_, refl, sym, ap, _∙_, subst}
-use mathlib.Core.Bool.{Bool, true, false, _&&_}
+use mathlib.Core.Bool.{true, false}
 use mathlib.Core.List.{List, [], _∷_, _++_, append-nil, List·Memᴰ}
 use mathlib.Core.Option.{some}
 use lib.ListN.{length, getD, List·getD-append}
@@ -12,43 +12,34 @@ use Rattle.model.specs.Layout.{wordOf}
 use Rattle.model.specs.Machine.{World}
 use Rattle.model.specs.Run.{ended, waits}
 use Rattle.model.specs.Occam.{Frame, Process, before, atInput, atAlt, inPar, finished, Branches, framesOf, look, State, Communication}
-use Rattle.model.specs.Occam.{Sender, process, outside, Step, begins, ends, chooses, communicates, receives, Stuck}
+use Rattle.model.specs.Occam.{Sender, process, outside, Step, begins, ends, chooses, communicates, receives, Stuck, toRead, hasRead}
+use Rattle.model.specs.Occam.{reading, stores, goesOn, atWait, now}
+use Rattle.model.specs.Word.{after}
 use Rattle.model.specs.Demand.{liveIn, Live, Agrees}
 use Rattle.model.specs.History.{Moment}
 use Rattle.model.specs.declared.Setup.{Setup}
 use Rattle.model.specs.declared.Kept.the-variants.{Nothing}
-use Rattle.model.proofs.Cases.{never}
+use Rattle.model.proofs.Cases.{never, and-left, and-right}
 use Rattle.model.proofs.Quiet.Ways.{Mem}
 use Rattle.model.proofs.Quiet.Setting.{Setting}
 use Rattle.model.proofs.Quiet.CodeParts.{inside}
 use Rattle.model.proofs.Occam.Paths.{Leaf, l-before, l-input, l-alt, l-finished, leaf-par, Form, leaf, par, form, look-in, look-nil}
-use Rattle.model.proofs.Occam.Paths.{look-append}
+use Rattle.model.proofs.Occam.Paths.{look-append, l-to-read, l-has-read, l-wait}
 use Rattle.model.proofs.Words.Parts.{Part, the-end, joins}
 use Rattle.model.proofs.Quiet.Marks.{AnyReady}
 use Rattle.model.proofs.Quiet.Arrivals.{cont-live}
 use Rattle.model.proofs.Invariant.Trees.{some-same, Label, alone, alone-part, alone-parted, Info, Tree, t-leaf, t-par, Forest}
 use Rattle.model.proofs.Invariant.Trees.{f-none, f-live, f-over, labelAt, labelIn, label-alone, labelled, owner-of, owner}
 use Rattle.model.proofs.Invariant.Zones.{zoneOf}
-use Rattle.model.proofs.Invariant.Leaves.{member, Held, h-input, h-wait}
+use Rattle.model.proofs.Invariant.Leaves.{member, Held, h-input, h-wait, h-asleep}
 use Rattle.model.proofs.Effects.OneWord.{cpuOf}
-use Rattle.model.proofs.Invariant.Kernel.{Loaded, S, root, size, LeafAt, NodeAt, Rest, Real}
-use Rattle.model.proofs.Invariant.Writes.{node}
+use Rattle.model.proofs.Invariant.Kernel.{Loaded, S, root, size, LeafAt, NodeAt, Rest, Real, node}
 use Rattle.model.proofs.Invariant.Grounds.{var-in}
 use Rattle.model.proofs.Invariant.Running.{Nobody, Here, within, at-end, off-small, Now, now-goes, now-alt, Inv, runs, starts, idle}
 use Rattle.model.proofs.Quiet.PathEnds.{way-end, point-in, alt-end, start-in}
 use Rattle.model.proofs.Steps.Forks.{look-self}
 use Rattle.model.proofs.Demand.Stuckness.{Active, stuck-unable, active-able, choice-ready, settled-active, comes-active}
 use Rattle.model.proofs.Demand.Stuckness.{alt-goes-active}
-
-and-left : (a b : Bool) → (a && b) ≡ true → a ≡ true
-and-left true b e = refl
-and-left false true e = never (cc)
-and-left false false e = never (cc)
-
-and-right : (a b : Bool) → (a && b) ≡ true → b ≡ true
-and-right true b e = e ∙ refl
-and-right false true e = refl
-and-right false false e = never (cc)
 
 -- a part that ends as a branch
 data Joined (b : Part) : Type 0 where
@@ -153,10 +144,11 @@ module _ (L : Loaded) where
   inv-ended {s} (idle real run operand rest) e = never (cc (run, and-left (cpuOf s .running) _ e))
 
   -- where no process has the processor and none is queued, none can go on
-  module _ {st : State} {μ : Mem} {t : Tree (S L) (root L) (st .process)} (rest : Rest L st μ t Nobody []) where
+  module _ (ahead : (w t c : ℕ) → L .sleeps w t c → after c t ≡ false) {st : State} {μ : Mem} {t : Tree (S L) (root L) (st .process)}
+      (rest : Rest L st μ t Nobody []) where
     -- a process that waits
     data Waiting : Process → Type 0 where
-      waiting : {q : Process} {b : Part} {i : Info} → Held (S L) b i st μ false q → Waiting q
+      waiting : {q : Process} {b : Part} {i : Info} → Held (S L) (L .sleeps) b i st μ false q → Waiting q
 
     all-wait : (path : List ℕ) {q : Process} → look path (st .process) ≡ some q → Leaf q → Waiting q
     unfolding member
@@ -170,11 +162,20 @@ module _ (L : Loaded) where
     not-finished : Waiting finished → ⊥
     not-finished (waiting h) = elim h [ ]
 
+    not-at-time : {x : Site} {k : List Frame} → Waiting (toRead x k) → ⊥
+    not-at-time (waiting h) = elim h [ ]
+
+    not-stored : {x : Site} {v : ℕ} {k : List Frame} → Waiting (hasRead x v k) → ⊥
+    not-stored (waiting h) = elim h [ ]
+
     unready : {gs : Guards} {k : List Frame} → Waiting (atAlt gs k) → AnyReady st gs → ⊥
     unready (waiting (h-wait c r e n m no-guard marks)) = no-guard
 
     unsent : {c x : Site} {k : List Frame} → Waiting (atInput c x k) → Sender st c → ⊥
     unsent (waiting (h-input w y m nobody)) = nobody
+
+    unpast : {tm : ℕ} {k : List Frame} → Waiting (atWait tm k) → after (now st) tm ≡ true → ⊥
+    unpast {tm} (waiting {i = i} (h-asleep a s)) past = never (cc (past, ahead (i .w) tm (now st) s))
 
     no-step : (cs : List Communication) (st′ : State) → Step st cs st′ → ⊥
     no-step cs st′ (begins path e) = not-before (all-wait path e l-before)
@@ -182,6 +183,9 @@ module _ (L : Loaded) where
         let found = look-append path (n ∷ []) (st .process) e ∙ look-in n [] (inPar bs k) f ∙ look-nil finished in
         not-finished (all-wait (path ++ n ∷ []) found l-finished)
     no-step cs st′ (chooses path e c) = unready (all-wait path e l-alt) (choice-ready c)
+    no-step cs st′ (goesOn path e past) = unpast (all-wait path e l-wait) past
+    no-step cs st′ (reading path e) = not-at-time (all-wait path e l-to-read)
+    no-step cs st′ (stores path e) = not-stored (all-wait path e l-has-read)
     no-step cs st′ (communicates sender receiver e f) = unsent (all-wait receiver f l-input) (process sender e)
     no-step cs st′ (receives path e o) = unsent (all-wait path e l-input) (outside o)
 
@@ -190,10 +194,11 @@ module _ (L : Loaded) where
         record { still = no-step; unfinished = λ e. not-finished (all-wait [] (look-nil (st .process) ∙ ap some e) l-finished) }
 
   -- the machine waits exactly where Occam cannot go on and has not ended
-  pub inv-waits : {s : World} {st : State} {n : ℕ} → Inv L s st n → waits (s .machine) ≡ true → Stuck st
-  inv-waits (runs real run at rest lined now) z = never (cc (run, z))
-  inv-waits (starts B real run at rest lined now) z = never (cc (run, z))
-  inv-waits (idle real run operand rest) z = idle-stuck rest
+  pub inv-waits : {s : World} {st : State} {n : ℕ} → ((w t c : ℕ) → L .sleeps w t c → after c t ≡ false) → Inv L s st n
+      → waits (s .machine) ≡ true → Stuck st
+  inv-waits ahead (runs real run at rest lined now) z = never (cc (run, z))
+  inv-waits ahead (starts B real run at rest lined now) z = never (cc (run, z))
+  inv-waits ahead (idle real run operand rest) z = idle-stuck ahead rest
 
   now-active : {s : World} {st : State} {μ : Mem} {b : Part} {i : Info} {q : Process} → Now L s st μ b i q → Active st q
   now-active {q = q} (now-goes h way settled clean soon) = settled-active q settled
@@ -207,12 +212,12 @@ module _ (L : Loaded) where
 
   -- what is found in the machine is what the run leaves
   pub inv-agrees : {s : World} {st : State} {n : ℕ} (rest : List ℕ) (now : Moment) → now .machine ≡ s .machine
-      → now .memory ≡ s .memory ++ rest → Inv L s st n → Agrees (L .prog) now st
-  inv-agrees rest now em er inv =
+      → now .memory ≡ s .memory ++ rest → ((w t c : ℕ) → L .sleeps w t c → after c t ≡ false) → Inv L s st n → Agrees (L .prog) now st
+  inv-agrees rest now em er ahead inv =
       record {
         variables = λ x l. inv-variables inv rest x l ∙ ap (λ m. getD m (wordOf (L .prog) x) 0) (sym er);
         no-fault = rw em (inv-no-fault inv);
         ends = λ z. inv-ended inv (rw em at z);
-        waits-stuck = λ z. inv-waits inv (rw em at z);
+        waits-stuck = λ z. inv-waits ahead inv (rw em at z);
         stuck-waits = λ z. rw em (inv-stuck inv z);
       }

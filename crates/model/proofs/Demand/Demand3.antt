@@ -2,8 +2,8 @@
 use Prim.Native.Nat.{ℕ, zero, suc, _+_, _*_, _≤_, _<_}
 use native.Mathlib.Omega.{arith}
 use mathlib.Core.Path.{_≡_, refl, sym, ap, subst}
-use mathlib.Core.Bool.{_&&_}
-use mathlib.Core.List.{List, [], _∷_, append-nil}
+use mathlib.Core.Bool.{true, _&&_}
+use mathlib.Core.List.{List, [], _∷_, _++_, append-nil}
 use mathlib.Core.Option.{some}
 use native.Mathlib.Decide.{decLt}
 use lib.ListN.{length, getElem?}
@@ -22,8 +22,9 @@ use Rattle.model.specs.Code.{placeOf, Realises}
 use Rattle.model.specs.Machine.{memorySize}
 use Rattle.model.specs.Run.{After, start, worldOf, fresh, cleared}
 use Rattle.model.specs.Occam.{initial}
-use Rattle.model.specs.History.{quietly}
-use Rattle.model.specs.Demand.{Faithful, Demand3}
+use Rattle.model.specs.History.{Call, quietly, history}
+use Rattle.model.specs.Demand.{keeps, Faithful, Demand3}
+use Rattle.model.specs.declared.Machine.{Machine}
 use Rattle.model.specs.declared.Setup.{Setup}
 use Rattle.model.specs.declared.StartAnswer.{StartAnswer}
 use Rattle.model.specs.declared.StartAnswer.the-variants.{Started}
@@ -38,6 +39,7 @@ use Rattle.model.proofs.Invariant.Traces.{trace-reach, trace-most}
 use Rattle.model.proofs.Invariant.Scheduling.{Settles, settles}
 use Rattle.model.proofs.Demand.Chains.{chain-matches, chain-other, chain-progress}
 use Rattle.model.proofs.Demand.Lending.{inv-few}
+use Rattle.model.proofs.Demand.Watches.{watchesAfter, keeps-behind, on}
 use Rattle.model.proofs.Demand.Histories.{follows}
 use Rattle.model.proofs.Demand.Calls.{Sim, sim, run-from, run-grows, linked, run-matches}
 use Rattle.model.proofs.Demand.Starting.{first, begun, settled}
@@ -97,26 +99,40 @@ realised-rises code xs off r i (suc k) h l = by (decLt i k) (λ g. realised-rise
 -- the run for a list of calls, with the steps without code that stand before the first instruction
 loaded-faithful : (L : Loaded) (memory : List ℕ) → size L ≤ length memory
     → Faithful (L .prog) (L .code) (fresh (setup L)) (cleared (setup L) memory)
-unfolding initial
-loaded-faithful L memory room = by (settled L memory room)
+unfolding initial watchesAfter
+loaded-faithful L memory room = by (settled L₀ memory room)
   where
-    by : {n l k : ℕ} → Settles L (first L memory room) (begun L memory room) n l k
-        → Faithful (L .prog) (L .code) (fresh (setup L)) (cleared (setup L) memory)
+    -- no time is waited for at first
+    L₀ : Loaded
+    L₀ = on L []
+
+    m : Machine
+    m = fresh (setup L)
+
+    words : List ℕ
+    words = cleared (setup L) memory
+
+    -- the condition behind the first moment
+    kept-on : (cs : List Call) → keeps [] (quietly m words ∷ history (L .code) cs m words) ≡ true
+        → keeps [] (history (L .code) cs m words) ≡ true
+    kept-on cs kept = keeps-behind [] (quietly m words ∷ []) (history (L .code) cs m words) kept
+
+    by : {n l k : ℕ} → Settles L₀ (first L₀ memory room) (begun L₀ memory room) n l k → Faithful (L .prog) (L .code) m words
     by (settles {st′} {l} g ms inv e) =
         let few : most (st′ .process) ≤ limit = omega (arith, trace-most ms, initial-most (L .prog), L .few) in
-        let m = fresh (setup L) in
-        let words = cleared (setup L) memory in
-        let s : Sim L m words = sim st′ l inv few in
-        let front = follows L {s = worldOf m words} [] (quietly m words) refl (sym (append-nil words)) refl refl ms inv in
+        let s : Sim L [] m words = sim st′ l inv few in
+        let front = follows L {xs = []} {s = worldOf m words} [] (quietly m words) refl (sym (append-nil words)) refl refl ms inv in
         let same : l ≤ l = omega arith in
         record {
           run = λ cs. g ∷ run-from L cs m words s;
-          grows = λ cs c. let (more, z) = run-grows L cs c m words s in (more, ap (λ y. g ∷ y) z);
-          matches = λ cs. elim (run-matches L cs m words s) [ linked c ↦ chain-matches (chain-other front (trace-reach ms) refl same c) ];
-          progress = λ cs. elim (run-matches L cs m words s) [
+          grows = λ cs c kept. let (more, z) = run-grows L cs c m words s (kept-on (cs ++ c ∷ []) kept) in (more, ap (λ y. g ∷ y) z);
+          matches = λ cs kept. elim (run-matches L cs m words s (kept-on cs kept)) [
+            | linked c ↦ chain-matches (chain-other front (trace-reach ms) refl same c)
+          ];
+          progress = λ cs kept. elim (run-matches L cs m words s (kept-on cs kept)) [
             | linked c ↦
-                chain-progress (suc (limit * length (L .code))) (omega (arith, ap (λ z. limit * z) (L .realises .ends))) (inv-few L inv few)
-                (chain-other front (trace-reach ms) refl same c)
+                chain-progress (suc (limit * length (L .code))) (omega (arith, ap (λ z. limit * z) (L .realises .ends)))
+                (inv-few L₀ inv few) (chain-other front (trace-reach ms) refl same c)
           ];
         }
 
@@ -139,6 +155,9 @@ realised-faithful table p accepted small code short off realises slice memory s 
           realises = realises;
           rises = realised-rises code (scheme p) off realises;
           slice = slice;
+          sleeps = λ w t c. Unit {0};
+          ordered = ⊥;
+          sleeps-near = λ o. absurd o;
           fine = accepted-fine table p accepted;
           code-small = short;
           words-small = small;

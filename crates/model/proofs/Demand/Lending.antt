@@ -10,7 +10,9 @@ use borrow.Author.Tests.{ltb-true}
 use Rattle.model.specs.Accept.{limit}
 use Rattle.model.specs.Machine.{Talk, World, linkWord}
 use Rattle.model.specs.Run.{fetch, byte}
+use Rattle.model.specs.History.{notes}
 use Rattle.model.specs.Occam.{State}
+use Rattle.model.specs.declared.Machine.{Machine}
 use Rattle.model.proofs.Cases.{by-bool}
 use Rattle.model.proofs.Quiet.Ways.{Mem}
 use Rattle.model.proofs.Quiet.Setting.{whole}
@@ -18,8 +20,7 @@ use Rattle.model.proofs.Occam.Live.{leaves, most, leaves-most}
 use Rattle.model.proofs.Invariant.Trees.{Tree, bytesLeft, bytes-few}
 use Rattle.model.proofs.Effects.OneWord.{cpuOf}
 use Rattle.model.proofs.Effects.Queues.{Queue, empty, some, links-stable}
-use Rattle.model.proofs.Invariant.Kernel.{Loaded, S, root, size, setup, Real}
-use Rattle.model.proofs.Invariant.Writes.{sits-at}
+use Rattle.model.proofs.Invariant.Kernel.{Loaded, S, root, size, setup, Real, sits-at}
 use Rattle.model.proofs.Invariant.Running.{Inv, runs, starts, idle}
 use Rattle.model.proofs.Invariant.Reals.{links-in, offer-world}
 use Rattle.model.proofs.Outside.Bystanders.{SameRegs, now-stays, starts-stays, part-high}
@@ -34,6 +35,11 @@ byte-lent code more s e =
     let inner : cpuOf s .place < length code = omega (arith, ltb-true (cpuOf s .place) (s .machine .setup .code) h, e) in
     rw (h, List·getD-append code more 0 (cpuOf s .place) inner))
     (λ h. rw h)
+
+-- nor what a byte of the start's code tells
+pub notes-lent : (code more : List ℕ) (m : Machine) → m .cpu .place < length code → notes (code ++ more) m ≡ notes code m
+unfolding notes
+notes-lent code more m h = rw (List·getD-append code more 0 (m .cpu .place) h)
 
 module _ (L : Loaded) where
   tree-few : (st : State) (t : Tree (S L) (root L) (st .process)) → most (st .process) ≤ limit → bytesLeft (S L) t ≤ limit * whole (S L)
@@ -61,6 +67,7 @@ module _ (L : Loaded) where
           offers = λ n h. offer-world L refl refl (r .offers n h);
           beyond = r .beyond;
           timed = r .timed;
+          front = r .front;
         }
       where
         by : {ws : List ℕ} → Queue s ws → ((v : ℕ) → List·Memᴰ v ws → linkWord v < size L) → Queue (over s l k) ws

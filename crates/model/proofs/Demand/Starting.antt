@@ -14,13 +14,13 @@ use Rattle.model.specs.Layout.{base}
 use Rattle.model.specs.Scheme.{scheme}
 use Rattle.model.specs.Machine.{World, memorySize}
 use Rattle.model.specs.Run.{worldOf, fresh, cleared}
-use Rattle.model.specs.Occam.{Process, begin, framesOf, look, State}
+use Rattle.model.specs.Occam.{Process, begin, framesOf, look, State, atWait, Frame}
 use Rattle.model.specs.Demand.{liveIn}
 use Rattle.model.proofs.Cases.{never}
-use Rattle.model.proofs.Quiet.Ways.{Mem}
+use Rattle.model.proofs.Quiet.Ways.{Mem, upd, upd-same, upd-other, frontWord}
 use Rattle.model.proofs.Quiet.Stretches.{seg-whole}
 use Rattle.model.proofs.Quiet.Setting.{whole}
-use Rattle.model.proofs.Occam.Paths.{leaf-begin, look-nil, live-begin, left}
+use Rattle.model.proofs.Occam.Paths.{leaf-begin, look-nil, live-begin, left, awake-begin}
 use Rattle.model.proofs.Words.Parts.{need-two, Part}
 use Rattle.model.proofs.Quiet.Continuations.{Scoped, Cont, c-end, cont-placed}
 use Rattle.model.proofs.Words.FineParts.{outsideNames}
@@ -29,12 +29,13 @@ use Rattle.model.proofs.Invariant.Trees.{Label, alone, alone-parted, In
 use Rattle.model.proofs.Invariant.Zones.{zoneOf}
 use Rattle.model.proofs.Invariant.Leaves.{Unmarked}
 use Rattle.model.proofs.Effects.Queues.{empty, apart-none}
-use Rattle.model.proofs.Invariant.Kernel.{Loaded, S, root, setup, size, LeafAt, Rest, Real, no-offer}
-use Rattle.model.proofs.Invariant.Grounds.{OutsideAt, an-input, an-output, outside-at, small-size, sound-at}
+use Rattle.model.proofs.Invariant.Kernel.{Loaded, S, root, setup, size, LeafAt, Rest, Real, no-offer, node}
+use Rattle.model.proofs.Invariant.Grounds.{OutsideAt, an-input, an-output, outside-at, small-size, sound-at, chan-in}
 use Rattle.model.proofs.Invariant.Running.{Only}
 use Rattle.model.proofs.Invariant.Scheduling.{Settles, settle}
 use Rattle.model.proofs.Quiet.Marks.{Own}
 use Rattle.model.proofs.Steps.Meets.{not-own}
+use Rattle.model.proofs.Effects.Timers.{ends}
 
 -- words of the same value, and what is behind them
 getD-same : (n : ℕ) {x : ℕ} (l : List ℕ) (k : ℕ) → k < n → getD (replicate n x ++ l) k 0 ≡ x
@@ -101,23 +102,34 @@ module _ (L : Loaded) (memory : List ℕ) (room : size L ≤ length memory) wher
   leaf = record { found = look-nil (begin (L .prog .body) []); leaf = leaf-begin (L .prog .body) []; label = refl }
 
   -- the words: outside channels hold NotProcess, the others 0
-  abbrev μ : Mem
-  μ a = getD (cleared (setup L) memory) a 0
+  abbrev words : Mem
+  words a = getD (cleared (setup L) memory) a 0
 
-  outside-empty : (c : Site) → List·Memᴰ c (outsideNames (L .prog)) → μ (S L .word c) ≡ notProcess
+  -- nobody is in the timer queue
+  abbrev μ : Mem
+  μ = upd words frontWord notProcess
+
+  inside-words : (v : ℕ) → v < size L → μ v ≡ words v
+  inside-words v h = upd-other words frontWord notProcess v (λ e. absurd (omega (arith, small-size L)))
+
+  words-empty : (c : Site) → List·Memᴰ c (outsideNames (L .prog)) → words (S L .word c) ≡ notProcess
   unfolding cleared
-  outside-empty c m = elim (outside-at L c m) [
+  words-empty c m = elim (outside-at L c m) [
     | an-input k h e w ↦ in-row k (omega arith) w
     | an-output k h e w ↦ in-row (L .prog .inputs + k) (omega arith) (w ∙ omega arith)
   ]
     where
-      in-row : (k : ℕ) → k < L .prog .inputs + L .prog .outputs → S L .word c ≡ base (L .prog) + k → μ (S L .word c) ≡ notProcess
+      in-row : (k : ℕ) → k < L .prog .inputs + L .prog .outputs → S L .word c ≡ base (L .prog) + k → words (S L .word c) ≡ notProcess
       in-row k h w =
           let zeros : List ℕ = replicate (base (L .prog)) 0 in
           let row : List ℕ = replicate (L .prog .inputs + L .prog .outputs) notProcess in
           let behind = drop (memorySize (setup L)) memory in
-          ap μ w ∙ ap (λ l. getD l (base (L .prog) + k) 0) (append-assoc zeros row behind) ∙ getD-past (base (L .prog)) 0 (row ++ behind) k
+          ap words w ∙ ap (λ l. getD l (base (L .prog) + k) 0) (append-assoc zeros row behind)
+          ∙ getD-past (base (L .prog)) 0 (row ++ behind) k
           ∙ getD-same (L .prog .inputs + L .prog .outputs) behind k h
+
+  outside-empty : (c : Site) → List·Memᴰ c (outsideNames (L .prog)) → μ (S L .word c) ≡ notProcess
+  outside-empty c m = inside-words (S L .word c) (chan-in L (node L leaf) c m) ∙ words-empty c m
 
   real : Real L first begun μ []
   unfolding fresh cleared
@@ -126,12 +138,13 @@ module _ (L : Loaded) (memory : List ℕ) (room : size L ≤ length memory) wher
         setup-kept = refl;
         no-fault = refl;
         room = simp (length-append, length-replicate, length-drop) (omega (arith, room));
-        mirror = λ v h. refl;
+        mirror = λ v h. sym (inside-words v h);
         queue = empty refl;
         eight = (refl, refl);
         offers = λ k h. no-offer (none-held k) refl;
         beyond = λ k h. refl;
-        timed = record { clock-same = refl; nobody = refl };
+        timed = record { clock-same = refl; clock-read = refl; clock-word = omega arith };
+        front = sym (upd-same words frontWord notProcess);
       }
 
   -- at every path but the empty one nothing is
@@ -147,6 +160,11 @@ module _ (L : Loaded) (memory : List ℕ) (room : size L ≤ length memory) wher
       ∙ ap (λ z. look z (begin (L .prog .body) [])) (sym (only-whole (h .label) .0)) ∙ h .found) in
       live-begin (L .prog .body) [] [] (λ x m. m) x (subst (λ z. List·Memᴰ x (liveIn (framesOf z))) (sym is) m)
 
+  no-sleeper : {other : List ℕ} {tm : ℕ} {k : List Frame} {b : Part} {i : Info} → LeafAt L begun tree other (atWait tm k) b i → ⊥
+  no-sleeper {tm = tm} {k} h =
+      awake-begin (L .prog .body) [] tm k (some-same (sym (look-nil (begin (L .prog .body) []))
+      ∙ ap (λ z. look z (begin (L .prog .body) [])) (sym (only-whole (h .label) .0)) ∙ h .found))
+
   rest : Rest L begun μ tree (Only []) []
   rest =
       record {
@@ -155,6 +173,14 @@ module _ (L : Loaded) (memory : List ℕ) (room : size L ≤ length memory) wher
         live = λ h x m. absurd (List·Memᴰ·not-nil (live-first h x m));
         leaf = λ h out. absurd (out (sym (only-whole (h .label) .0)));
         par = λ e n. never (alone-parted (sym (only-whole (n .label) .1)));
+        sleepers = record {
+          asleep = [];
+          chain = ends (upd-same words frontWord notProcess);
+          sorted = λ o. tt;
+          once = tt;
+          each = λ w m. absurd (List·Memᴰ·not-nil m);
+          all = λ k o. absurd (no-sleeper k);
+        };
       }
 
   comes-first : Comes (S L) (root L) (begun .store) [] (outsideNames (L .prog)) (whole (S L)) (begin (L .prog .body) []) 0 (base (L .prog))

@@ -6,7 +6,8 @@ use mathlib.Core.List.{List, [], _∷_}
 use mathlib.Core.Option.{some}
 use Rattle.model.specs.Syntax.{Site, Stmt, Guards, noGuard}
 use Rattle.model.specs.Occam.{Frame, Process, before, atInput, atOutput, atStop, atAlt, inPar, finished, look, State, Communication}
-use Rattle.model.specs.Occam.{Choice, first-guard, later-guard, Step, begins, ends, chooses, Stuck}
+use Rattle.model.specs.Occam.{Choice, first-guard, later-guard, Step, begins, ends, chooses, Stuck, toRead, hasRead, reading, stores}
+use Rattle.model.specs.Occam.{atWait}
 use Rattle.model.proofs.Quiet.Ways.{Regs, Mem}
 use Rattle.model.proofs.Quiet.Setting.{Setting}
 use Rattle.model.proofs.Occam.Paths.{look-prefix, prefixed, look-under, under, par-whole}
@@ -28,11 +29,13 @@ pub stuck-unable : {st : State} → Stuck st → Able st → ⊥
 stuck-unable h (steps cs st′ s) = h .still cs st′ s
 stuck-unable h (is-over e) = h .unfinished e
 
--- a process that can go on: it begins a statement, has finished, or is in an ALT with a ready guard
+-- a process that can go on: it begins a statement, has finished, is in an ALT with a ready guard, or is at TIME
 pub data Active (st : State) : Process → Type 0 where
   a-begins : {s : Stmt} {k : List Frame} → Active st (before s k)
   a-ends : Active st finished
   a-chooses : {gs : Guards} {k : List Frame} → AnyReady st gs → Active st (atAlt gs k)
+  a-reads : {x : Site} {k : List Frame} → Active st (toRead x k)
+  a-stores : {x : Site} {v : ℕ} {k : List Frame} → Active st (hasRead x v k)
 
 -- a process that has finished is a branch of a PAR, which can end, or all there is
 finished-able : {st : State} (path : List ℕ) → look path (st .process) ≡ some finished → Able st
@@ -50,6 +53,8 @@ finished-able {st} path e = by (lastly path)
 pub active-able : {st : State} (path : List ℕ) {q : Process} → look path (st .process) ≡ some q → Active st q → Able st
 active-able path e a-begins = steps _ _ (begins path e)
 active-able path e a-ends = finished-able path e
+active-able path e a-reads = steps _ _ (reading path e)
+active-able path e a-stores = steps _ _ (stores path e)
 active-able path e (a-chooses {k} r) = let (t, p, g) = ready-picks k 0 r in steps _ _ (chooses path e (picks-choice g))
 
 -- a choice is of a ready guard
@@ -63,6 +68,9 @@ settled-active (atInput c x k) h = absurd h
 settled-active (atOutput c v k) h = absurd h
 settled-active (atStop k) h = absurd h
 settled-active (atAlt gs k) h = absurd h
+settled-active (atWait t k) h = absurd h
+settled-active (toRead x k) h = a-reads
+settled-active (hasRead x v k) h = a-stores
 settled-active (inPar bs k) h = absurd h
 settled-active finished h = a-ends
 

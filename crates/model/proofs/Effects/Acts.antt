@@ -11,8 +11,8 @@ use Rattle.model.specs.Word.{low, less, notProcess}
 use Rattle.model.specs.Instruction.{opr, operationCode, operationOf, coded}
 use Rattle.model.specs.Instruction as I
 use Rattle.model.specs.Machine.{World, Result, done, Act, _>>_, withCpu, withOffers, communicate, nameOf, spaceOf, peek, poke, resume}
-use Rattle.model.specs.Machine.{takeFront, release, join, testPlace, stack, goto, work, running, counting, queueing, resumeWord}
-use Rattle.model.specs.Machine.{linkWord, stateWord, isHeld}
+use Rattle.model.specs.Machine.{takeFront, release, enqueue, join, testPlace, stack, goto, work, running, counting, queueing}
+use Rattle.model.specs.Machine.{resumeWord, linkWord, stateWord, isHeld}
 use Rattle.model.specs.Alternative.{isAltState, waiting, ready, enabling, noneSelected, notify, beginAlt, setReady, enableReady}
 use Rattle.model.specs.Alternative.{enableChannel, enableSkip, waitAlt, select, disableReady, disableChannel, disableSkip, endAlt}
 use Rattle.model.specs.Execute.{execute, operate, waitAt, receive, received, inputWord, inputMessage, deliver, outputWord, jump}
@@ -44,13 +44,12 @@ pub resume-at : {n w p : ℕ} (s : World) → n ≡ nameOf w → resumeWord w < 
 resume-at {w} s d h e = rw (d) (resume-in w s h ∙ rw (e))
 
 -- joining behind those that are queued
-pub join-behind-in : (w f k : ℕ) (s : World) → cpuOf s .running ≡ true → cpuOf s .queued ≡ true
-    → cpuOf s .front ≡ nameOf f → cpuOf s .back ≡ nameOf k → linkWord k < sizeOf s
-    → join (nameOf w) s ≡ done tt (withCpu (queueing (nameOf f) (nameOf w) true (cpuOf s)) (stored (linkWord k) (nameOf w) s))
-unfolding join
-join-behind-in w f k s r q d e h =
+pub enqueue-behind-in : (w f k : ℕ) (s : World) → cpuOf s .queued ≡ true → cpuOf s .front ≡ nameOf f → cpuOf s .back ≡ nameOf k
+    → linkWord k < sizeOf s
+    → enqueue (nameOf w) (cpuOf s) s ≡ done tt (withCpu (queueing (nameOf f) (nameOf w) true (cpuOf s)) (stored (linkWord k) (nameOf w) s))
+enqueue-behind-in w f k s q d e h =
     let at : linkWord (spaceOf (cpuOf s .back)) ≡ linkWord k = ap (λ n. linkWord (spaceOf n)) e ∙ ap linkWord (name-back k) in
-    when-true _ _ _ s r (when-true _ _ _ s q (rw (poke-at {v = nameOf w} s at refl h, d)))
+    when-true _ _ _ s q (rw (poke-at {v = nameOf w} s at refl h, d))
 
 -- a free processor takes the process that joins
 pub join-free : (p : ℕ) (s : World) → cpuOf s .running ≡ false → join p s ≡ resume p (withCpu (queueing p p false (cpuOf s)) s)

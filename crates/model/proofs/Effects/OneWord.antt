@@ -7,8 +7,8 @@ use borrow.Author.Tests.{lt-ltb, eq-eqb, ne-eqb}
 use Rattle.model.specs.Word.{low}
 use Rattle.model.specs.Instruction.{ldl, cj, stl}
 use Rattle.model.specs.Instruction as I
-use Rattle.model.specs.Machine.{World, done, withCpu, withMemory, memorySize, peek, poke, resume, join, goto, work, running, counting}
-use Rattle.model.specs.Machine.{queueing, resumeWord, nameOf, push, pop}
+use Rattle.model.specs.Machine.{World, done, withCpu, withMemory, memorySize, peek, poke, resume, enqueue, goto, work, running}
+use Rattle.model.specs.Machine.{counting, queueing, resumeWord, nameOf, push, pop}
 use Rattle.model.proofs.Quiet.Names.{name-back}
 use Rattle.model.specs.Execute.{execute, jump, loadLocal, storeLocal, conditionalJump}
 use Rattle.model.specs.declared.Cpu.{Cpu}
@@ -63,7 +63,6 @@ unfolding resume
 resume-in w s h = rw (name-back w, peek-in (resumeWord w) s h)
 
 -- joining an empty queue
-pub join-empty : (w : ℕ) (s : World) → cpuOf s .running ≡ true → cpuOf s .queued ≡ false
-    → join w s ≡ done tt (withCpu (queueing w w true (cpuOf s)) s)
-unfolding join
-join-empty w s r q = rw (r, q)
+pub enqueue-empty : (w : ℕ) (s : World) → cpuOf s .queued ≡ false
+    → enqueue w (cpuOf s) s ≡ done tt (withCpu (queueing w w true (cpuOf s)) s)
+enqueue-empty w s q = rw q

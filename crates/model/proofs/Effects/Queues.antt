@@ -8,11 +8,12 @@ use mathlib.Core.List.{List, [], _∷_, _++_, List·Memᴰ, List·Memᴰ·append
 use mathlib.Core.List.{List·Memᴰ·tail}
 use lib.ListN.{length, set}
 use lib.Seq.{getD-set-same, getD-set-other}
-use Rattle.model.specs.Machine.{World, done, withCpu, withMemory, release, join, running, queueing, resumeWord, linkWord, nameOf}
+use Rattle.model.specs.Machine.{World, Result, done, withCpu, withMemory, release, join, enqueue, running, queueing, resumeWord}
+use Rattle.model.specs.Machine.{linkWord, nameOf}
 use Rattle.model.specs.declared.Cpu.{Cpu}
 use Rattle.model.proofs.Quiet.Ways.{Mem}
-use Rattle.model.proofs.Effects.OneWord.{cpuOf, sizeOf, memOf, stored, join-empty}
-use Rattle.model.proofs.Effects.Acts.{taken, join-behind-in, join-free-in, release-none, release-last, release-more}
+use Rattle.model.proofs.Effects.OneWord.{cpuOf, sizeOf, memOf, stored, enqueue-empty}
+use Rattle.model.proofs.Effects.Acts.{taken, when-true, enqueue-behind-in, join-free-in, release-none, release-last, release-more}
 
 -- from the front to the back each process links to the next; the back's link word holds anything
 pub data Links (μ : Mem) : (front back : ℕ) → List ℕ → Type 0 where
@@ -125,7 +126,7 @@ abbrev pub linked : (w : ℕ) → List ℕ → List ℕ → List ℕ
 linked w [] l = l
 linked w (v ∷ vs) l = set l (linkWord (lastOf v vs)) (nameOf w)
 
--- w has joined the queue of a machine that runs
+-- w has joined the queue
 abbrev pub joined : (w : ℕ) → List ℕ → World → World
 joined w ws s = withCpu (queueing (nameOf (firstOf w ws)) (nameOf w) true (cpuOf s)) (withMemory (linked w ws (s .memory)) s)
 
@@ -138,13 +139,18 @@ pub last-in : (w : ℕ) (ws : List ℕ) → List·Memᴰ (lastOf w ws) (w ∷ ws
 last-in w [] = List·Memᴰ·head refl
 last-in w (v ∷ vs) = List·Memᴰ·tail (last-in v vs)
 
--- joining the queue of a machine that runs
-pub join-queue : {ws : List ℕ} (w : ℕ) (s : World) → cpuOf s .running ≡ true → LinksIn s ws → Queue s ws
-    → join (nameOf w) s ≡ done tt (joined w ws s)
-join-queue w s r h (empty q) = join-empty (nameOf w) s r q
-join-queue {ws = []} w s r h (some q f k l) = absurd (links-some l)
-join-queue {ws = v ∷ vs} w s r h (some q f k l) =
-    join-behind-in w v (lastOf v vs) s r q (f ∙ ap nameOf (links-front l)) (k ∙ ap nameOf (links-back l)) (h _ (last-in v vs))
+-- joining the queue, whoever has the processor
+pub enqueue-queue : {ws : List ℕ} (w : ℕ) (s : World) → LinksIn s ws → Queue s ws → enqueue (nameOf w) (cpuOf s) s ≡ done tt (joined w ws s)
+enqueue-queue w s h (empty q) = enqueue-empty (nameOf w) s q
+enqueue-queue {ws = []} w s h (some q f k l) = absurd (links-some l)
+enqueue-queue {ws = v ∷ vs} w s h (some q f k l) =
+    enqueue-behind-in w v (lastOf v vs) s q (f ∙ ap nameOf (links-front l)) (k ∙ ap nameOf (links-back l)) (h _ (last-in v vs))
+
+-- of a machine that runs
+pub join-queue : {y : Result (Unit {0})} (w : ℕ) (s : World) → cpuOf s .running ≡ true → enqueue (nameOf w) (cpuOf s) s ≡ y
+    → join (nameOf w) s ≡ y
+unfolding join
+join-queue w s r e = when-true _ _ _ s r e
 
 -- it is then the last
 pub joined-queue : {ws : List ℕ} (w : ℕ) (s : World) → sizeOf s ≤ length (s .memory) → LinksIn s ws → Apart ws → Queue s ws

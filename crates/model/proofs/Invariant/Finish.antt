@@ -1,7 +1,7 @@
 -- How an instruction's case ends: the process goes on without a step, a step was taken and it settles, or it leaves the processor.
 use Prim.Native.Nat.{ℕ, suc, _+_, _-_, _≤_, _<_}
 use native.Mathlib.Omega.{arith}
-use mathlib.Core.Path.{_≡_, refl, sym, _∙_, subst}
+use mathlib.Core.Path.{_≡_, refl, sym, _∙_}
 use mathlib.Core.Logic.{_⊎_, inl, inr, ⊎-elim}
 use mathlib.Core.Bool.{true}
 use mathlib.Core.List.{List, [], _∷_, _++_, map, append-nil}
@@ -17,8 +17,7 @@ use Rattle.model.proofs.Quiet.Onwards.{AltGoes}
 use Rattle.model.proofs.Invariant.Trees.{Info, Tree, bytesLeft}
 use Rattle.model.proofs.Invariant.Leaves.{Unmarked}
 use Rattle.model.proofs.Effects.OneWord.{cpuOf}
-use Rattle.model.proofs.Invariant.Kernel.{Loaded, S, root, setup, Rest, Lined, Real}
-use Rattle.model.proofs.Invariant.Writes.{sits-at}
+use Rattle.model.proofs.Invariant.Kernel.{Loaded, S, root, Timed, setup, Rest, Lined, Real, sits-at}
 use Rattle.model.proofs.Invariant.Traces.{Trace, t-none, t-step, trace-then, steps-then}
 use Rattle.model.proofs.Invariant.Running.{Only, fresh, Now, now-goes, now-alt, Inv, runs, starts, idle, Did, came, Acting}
 use Rattle.model.proofs.Invariant.Moving.{relaid, relabelled, relabel}
@@ -32,6 +31,12 @@ module _ (L : Loaded) where
   inv-setup (starts B real run leaf rest lines now) = real .setup-kept
   inv-setup (idle real run operand rest) = real .setup-kept
 
+  -- the clock is Occam's
+  pub inv-timed : {s : World} {st : State} {n : ℕ} → Inv L s st n → Timed (s .machine .timer) (st .clock)
+  inv-timed (runs real run leaf rest lines now) = real .timed
+  inv-timed (starts B real run leaf rest lines now) = real .timed
+  inv-timed (idle real stop operand rest) = real .timed
+
   -- moves were made, with a step among them, and the process has settled
   pub then-settles : {did : World → Type 0} {s u : World} {st st₁ : State} {cs : List Communication} {g : Segment} {m k n n₀ : ℕ}
       → Trace st g st₁ cs [] → 0 < steps g → did u → u .talk ≡ s .talk ++ map (talkOf (L .prog)) cs → Settles L u st₁ m k n
@@ -40,12 +45,9 @@ module _ (L : Loaded) where
       came u (g ++ h) ran (trace-then ms ns) talk inv (inr (omega (arith, steps-then g h)))
 
   -- one step, and the process has settled
-  pub step-settles : {did : World → Type 0} {s u : World} {st st₁ : State} {cs : List Communication} {m k n n₀ : ℕ} → Step st cs st₁
-      → did u → u .talk ≡ s .talk ++ map (talkOf (L .prog)) cs → Settles L u st₁ m k n → Did L did s st n₀
-  step-settles {did} {s} {u} {st} {st₁} {cs} one ran talk h =
-      then-settles {g = step cs st₁ ∷ []}
-      (subst (λ z. Trace st (step cs st₁ ∷ []) st₁ z []) (append-nil cs) (t-step one t-none)) (omega arith)
-      ran talk h
+  pub step-settles : {did : World → Type 0} {s u : World} {st st₁ : State} {m k n n₀ : ℕ} → Step st [] st₁ → did u
+      → u .talk ≡ s .talk ++ map (talkOf (L .prog)) [] → Settles L u st₁ m k n → Did L did s st n₀
+  step-settles {st₁ = st₁} one ran talk h = then-settles {g = step [] st₁ ∷ []} (t-step one t-none) (omega arith) ran talk h
 
   -- moves were made, and the processor is let go; without a step fewer bytes are left
   pub then-lets-go : {did : World → Type 0} {s u : World} {st st₁ : State} {cs : List Communication} {g : Segment} {m n : ℕ}
@@ -55,12 +57,11 @@ module _ (L : Loaded) where
       came v (g ++ h) (ran v e (inv-setup inv)) (trace-then ms ns) (f ∙ talk) inv
       (⊎-elim (λ l. inl l) (λ l. inr (omega (arith, steps-then g h))) fewer)
 
-  pub step-lets-go : {did : World → Type 0} {s u : World} {st st₁ : State} {cs : List Communication} {m n : ℕ} → Step st cs st₁
-      → ((v : World) → release u ≡ done tt v → v .machine .setup ≡ setup L → did v) → u .talk ≡ s .talk ++ map (talkOf (L .prog)) cs
+  pub step-lets-go : {did : World → Type 0} {s u : World} {st st₁ : State} {m n : ℕ} → Step st [] st₁
+      → ((v : World) → release u ≡ done tt v → v .machine .setup ≡ setup L → did v) → u .talk ≡ s .talk ++ map (talkOf (L .prog)) []
       → LetGo L u st₁ m → Did L did s st n
-  step-lets-go {st = st} {st₁} {cs} one ran talk h =
-      then-lets-go {g = step cs st₁ ∷ []} (subst (λ z. Trace st (step cs st₁ ∷ []) st₁ z []) (append-nil cs) (t-step one t-none))
-      (inr (omega arith)) ran talk h
+  step-lets-go {st₁ = st₁} one ran talk h =
+      then-lets-go {g = step [] st₁ ∷ []} (t-step one t-none) (inr (omega arith)) ran talk h
 
   -- no communication
   pub silent : (s u : World) → u .talk ≡ s .talk → u .talk ≡ s .talk ++ map (talkOf (L .prog)) []

@@ -21,8 +21,7 @@ use Rattle.model.proofs.Quiet.Arrivals.{Sound}
 use Rattle.model.proofs.Invariant.Trees.{some-same, Label, alone, alone-part, alone-parted, Info, Tree, t-leaf, t-par, Forest}
 use Rattle.model.proofs.Invariant.Trees.{f-none, f-live, f-over, labelAt, labelIn}
 use Rattle.model.proofs.Invariant.Zones.{zoneOf, zone-under}
-use Rattle.model.proofs.Invariant.Kernel.{Loaded, S, root, size, LeafAt, NodeAt, Rest}
-use Rattle.model.proofs.Invariant.Writes.{node, part-small}
+use Rattle.model.proofs.Invariant.Kernel.{Loaded, S, root, size, LeafAt, NodeAt, Rest, node, part-small}
 
 -- one of some numbered names
 pub data Numbered (of : ℕ → Site) (n : ℕ) (x : Site) : Type 0 where

@@ -16,39 +16,47 @@ use Rattle.model.specs.Layout.{base, wordOf}
 use Rattle.model.specs.Code.{Realises}
 use Rattle.model.specs.Scheme.{scheme}
 use Rattle.model.specs.Machine.{World, memorySize}
-use Rattle.model.specs.Occam.{Frame, Process, inPar, Branches, framesOf, look, State}
+use Rattle.model.specs.Occam.{Frame, Process, inPar, Branches, framesOf, look, State, atWait, now}
 use Rattle.model.specs.Demand.{liveIn}
 use Rattle.model.specs.declared.Setup.{Setup}
 use Rattle.model.specs.declared.Timer.{Timer}
 use Rattle.model.specs.declared.Kept.the-variants.{Nothing}
-use Rattle.model.proofs.Quiet.Ways.{Mem}
+use Rattle.model.proofs.Words.Times.{Near}
+use Rattle.model.proofs.Quiet.Ways.{Mem, frontWord}
 use Rattle.model.proofs.Quiet.Setting.{Setting}
 use Rattle.model.proofs.Occam.Paths.{Leaf, left}
 use Rattle.model.proofs.Words.Parts.{Part, Within, Fine}
 use Rattle.model.proofs.Words.FineParts.{wholePart, outsideNames}
 use Rattle.model.proofs.Quiet.Marks.{Own}
-use Rattle.model.proofs.Invariant.Trees.{Label, alone, parted, Info, Tree, labelAt}
-use Rattle.model.proofs.Invariant.Zones.{zoneOf}
+use Rattle.model.proofs.Invariant.Trees.{Label, alone, parted, Info, Tree, labelAt, Sits, label-sits}
+use Rattle.model.proofs.Invariant.Zones.{zoneOf, zone-under}
 use Rattle.model.proofs.Invariant.Leaves.{member, Held}
 use Rattle.model.proofs.Effects.Queues.{Queue, Apart}
+use Rattle.model.proofs.Effects.Timers.{Chain, Sorted, Once}
 
 -- the last clock word that a machine was given, if one was
 abbrev pub lastClock : Timer → Option ℕ
 lastClock t = cond (t .given) (some (t .clock)) none
 
--- the clock is Occam's, and nobody is in the timer queue
+-- the clock is Occam's, a word that TIME reads as Occam's TIME does
 pub record Timed (t : Timer) (clock : Option ℕ) : Type 0 where
   pub clock-same : lastClock t ≡ clock
-  pub nobody : t .front ≡ notProcess
+  pub clock-read : t .clock ≡ elim clock [ none ↦ 0 | some c ↦ c ]
+  pub clock-word : t .clock < 2 ^ 32
 
 -- a program whose code is in a machine: the code realises the scheme, and both are small enough
-pub record Loaded : Type 0 where
+pub record Loaded : Type 1 where
   pub prog : Program
   pub code : List ℕ
   pub off : ℕ → ℕ
   pub realises : Realises code (scheme prog) off
   pub rises : (i k : ℕ) → i < k → k ≤ length (scheme prog) → off i < off k
   pub slice : ℕ
+  -- what is known of a process that waits for the clock: its workspace, its time, and the clock
+  pub sleeps : (w t clock : ℕ) → Type 0
+  -- whether the timer queue is known to be in the order of times: then each is near the clock
+  pub ordered : Type 0
+  pub sleeps-near : ordered → (w t clock : ℕ) → sleeps w t clock → Near clock t
   pub fine : Fine (wordOf prog) (wholePart prog) [] (outsideNames prog) (base prog) (prog .body)
   pub code-small : length code ≤ codeLimit
   pub words-small : memoryWords prog ≤ wordLimit
@@ -59,10 +67,11 @@ pub record Loaded : Type 0 where
   -- no input from an outside output
   pub no-return : (l : ℕ) → List·Memᴰ (outputOf l) (wholePart prog .inputs) → ⊥
 
-module _ (L : Loaded) where
-  pub base-small : base (L .prog) ≤ wordLimit
-  base-small = omega (arith, L .words-small)
+-- a lemma of the program alone, so that settings are the same whatever is known of processes that wait for the clock
+pub base-small : (p : Program) → memoryWords p ≤ wordLimit → base p ≤ wordLimit
+base-small p h = omega arith
 
+module _ (L : Loaded) where
   -- its instructions, their places, and the words of names
   abbrev pub S : Setting
   S =
@@ -71,7 +80,7 @@ module _ (L : Loaded) where
         off = L .off;
         word = wordOf (L .prog);
         top = base (L .prog);
-        top-small = base-small;
+        top-small = base-small (L .prog) (L .words-small);
         rises = L .rises;
       }
 
@@ -108,6 +117,21 @@ module _ (L : Loaded) where
   pub data Owned (st : State) (t : Tree S root (st .process)) (c : Site) (n : ℕ) : Type 0 where
     owned : {path : List ℕ} {q : Process} {b : Part} {i : Info} → LeafAt st t path q b i → List·Memᴰ c (i .chans) → Own b n → Owned st t c n
 
+  -- a process that waits for the clock and is not left out
+  pub data Sleeper (st : State) (t : Tree S root (st .process)) (Out : List ℕ → Type 0) (w : ℕ) : Type 0 where
+    sleeper : {path : List ℕ} {tm : ℕ} {k : List Frame} {b : Part} {i : Info} → LeafAt st t path (atWait tm k) b i → i .w ≡ w
+        → (Out path → ⊥) → Sleeper st t Out w
+
+  -- the timer queue: all of these, each once, in the order of their times
+  pub record Sleepers (st : State) (μ : Mem) (t : Tree S root (st .process)) (Out : List ℕ → Type 0) : Type 0 where
+    pub asleep : List ℕ
+    pub chain : Chain μ frontWord asleep
+    pub sorted : L .ordered → Sorted (now st) μ asleep
+    pub once : Once asleep
+    pub each : (w : ℕ) → List·Memᴰ w asleep → Sleeper st t Out w
+    pub all : {path : List ℕ} {tm : ℕ} {k : List Frame} {b : Part} {i : Info} → LeafAt st t path (atWait tm k) b i → (Out path → ⊥)
+        → List·Memᴰ (i .w) asleep
+
   -- what all words hold, where the processes at some paths (`Out`) are left out. `ws` are the workspaces that are queued
   pub record Rest (st : State) (μ : Mem) (t : Tree S root (st .process)) (Out : List ℕ → Type 0) (ws : List ℕ) : Type 0 where
     -- variables in scope are words, and stand in their words
@@ -119,11 +143,12 @@ module _ (L : Loaded) where
     -- live variables are in scope
     pub live : {path : List ℕ} {q : Process} {b : Part} {i : Info} → LeafAt st t path q b i → Within (liveIn (framesOf q)) (i .vars)
     pub leaf : {path : List ℕ} {q : Process} {b : Part} {i : Info} → LeafAt st t path q b i → (Out path → ⊥)
-        → Held S b i st μ (member (i .w) ws) q
+        → Held S (L .sleeps) b i st μ (member (i .w) ws) q
     -- a PAR's words: where it goes on, and how many branches are not over
     pub par : {path : List ℕ} {bs : Branches} {k : List Frame} {a : Part} {vs cs : List Site} {w onward : ℕ}
         → look path (st .process) ≡ some (inPar bs k) → NodeAt st t path (parted a vs cs w onward)
         → (μ w ≡ S .off onward) × (μ (w + 1) ≡ left bs)
+    pub sleepers : Sleepers st μ t Out
 
   -- the process whose workspace is queued
   pub data Whose (st : State) (t : Tree S root (st .process)) (Out : List ℕ → Type 0) (w : ℕ) : Type 0 where
@@ -151,3 +176,19 @@ module _ (L : Loaded) where
     pub offers : (k : ℕ) → k < L .prog .inputs → Offer s st k
     pub beyond : (k : ℕ) → L .prog .inputs ≤ k → st .offers k ≡ none
     pub timed : Timed (s .machine .timer) (st .clock)
+    pub front : s .machine .timer .front ≡ μ frontWord
+
+  -- a process is a node
+  pub node : {st : State} {t : Tree S root (st .process)} {path : List ℕ} {q : Process} {b : Part} {i : Info}
+      → LeafAt st t path q b i
+      → NodeAt st t path (alone b i)
+  node h = record { label = h .label }
+
+  -- parts are below the program's workspace
+  pub part-small : {st : State} {t : Tree S root (st .process)} {path : List ℕ} {q : Process} {b : Part} {i : Info}
+      → LeafAt st t path q b i → b .top ≤ S .top
+  part-small {t = t} {path} h = zone-under S t path (h .label) .below
+
+  pub sits-at : {st : State} {t : Tree S root (st .process)} {path : List ℕ} {q : Process} {b : Part} {i : Info}
+      → LeafAt st t path q b i → Sits S b i
+  sits-at {t = t} {path} h = label-sits S t path (h .label)

@@ -1,21 +1,22 @@
 -- What holds of a process that has not the processor: it is queued, or waits at an input, an output, a STOP or an ALT.
 use Prim.Native.Nat.{ℕ, _+_, _≤_, _<_, _^_}
-use mathlib.Core.Path.{_≡_}
+use mathlib.Core.Path.{_≡_, refl, subst}
 use mathlib.Core.Bool.{Bool, true, false, _||_}
 use mathlib.Core.List.{List, [], _∷_, List·Memᴰ}
 use lib.Dec.{eqb}
 use lib.ListN.{length}
 use Rattle.model.specs.Syntax.{Site, Guards}
-use Rattle.model.specs.Machine.{resumeWord, stateWord, nameOf}
+use Rattle.model.specs.Machine.{resumeWord, stateWord, nameOf, timeWord}
 use Rattle.model.specs.Alternative.{waiting, ready, noneSelected}
 use Rattle.model.specs.Scheme.{sizeEnable}
-use Rattle.model.specs.Occam.{Frame, Process, atInput, atOutput, atStop, atAlt, State, Sender}
+use Rattle.model.specs.Occam.{Frame, Process, atInput, atOutput, atStop, atAlt, State, Sender, atWait, now}
+use Rattle.model.proofs.Cases.{never}
 use Rattle.model.proofs.Quiet.Ways.{Mem}
 use Rattle.model.proofs.Quiet.Setting.{Setting, whole}
 use Rattle.model.proofs.Words.Parts.{Part, Target}
 use Rattle.model.proofs.Quiet.Continuations.{Cont}
-use Rattle.model.proofs.Quiet.Marks.{Own, AnyReady, Guarded, AltCode, Marked, Disabling}
-use Rattle.model.proofs.Quiet.Arrivals.{Comes}
+use Rattle.model.proofs.Quiet.Marks.{Own, AnyReady, Guarded, AltCode, Marked, Disabling, s-none}
+use Rattle.model.proofs.Quiet.Arrivals.{Comes, comes}
 use Rattle.model.proofs.Invariant.Trees.{Info}
 
 -- whether a workspace is among some
@@ -48,23 +49,62 @@ module _ (S : Setting) (b : Part) (i : Info) (st : State) (μ : Mem) where
     pub only : MarkedOnly c
     pub message-at : μ (stateWord (i .w)) ≡ message
 
+  -- a process that waits for the clock: its words hold its time and that it waits
+  pub record Asleep (t : ℕ) (k : List Frame) (at hi : ℕ) : Type 0 where
+    pub onward : Cont S b hi (i .vars) (i .chans) k at (i .w)
+    pub near : hi ≤ whole S + S .off at
+    pub resumes : Resumes at hi
+    pub space : b .bottom + 5 ≤ i .w
+    pub state-is : μ (stateWord (i .w)) ≡ waiting
+    pub time-is : μ (timeWord (i .w)) ≡ t
+    pub small : t < 2 ^ 32
+    pub unmarked : Unmarked
+
+-- `sleeps` is what is known of one that waits for the clock: its workspace, its time, and the clock
+module _ (S : Setting) (sleeps : (w t clock : ℕ) → Type 0) (b : Part) (i : Info) (st : State) (μ : Mem) where
   -- whether it is queued, and what it waits for
   pub data Held : (queued : Bool) → Process → Type 0 where
-    h-queued : {q : Process} {hi at : ℕ} → Comes S b (st .store) (i .vars) (i .chans) hi q at (i .w) → Resumes at hi → at ≤ length (S .xs)
-        → Unmarked → Held true q
+    h-queued : {q : Process} {hi at : ℕ} → Comes S b (st .store) (i .vars) (i .chans) hi q at (i .w) → Resumes S b i st μ at hi
+        → at ≤ length (S .xs)
+        → Unmarked S b i st μ → Held true q
     -- woken in an ALT
     h-woken : {gs : Guards} {k : List Frame} {hi at : ℕ} (c : AltCode S b gs (i .vars) (i .chans) k hi at (i .w + 1))
-        → Resumes (at + 2 + sizeEnable gs + 1) hi → μ (stateWord (i .w)) ≡ ready
+        → Resumes S b i st μ (at + 2 + sizeEnable gs + 1) hi → μ (stateWord (i .w)) ≡ ready
         → Disabling S b st (i .vars) (i .chans) k gs gs (c .choice) μ (i .w) → Held true (atAlt gs k)
     -- at an input nobody sends
-    h-input : {c x : Site} {k : List Frame} {hi at : ℕ} → Waits c k at hi (S .word x) → Target b (i .vars) x → List·Memᴰ c (b .inputs)
+    h-input : {c x : Site} {k : List Frame} {hi at : ℕ} → Waits S b i st μ c k at hi (S .word x) → Target b (i .vars) x → List·Memᴰ c
+        (b .inputs)
         → (Sender st c → ⊥) → Held false (atInput c x k)
     -- an output holds its value
-    h-output : {c : Site} {v : ℕ} {k : List Frame} {hi at : ℕ} → Waits c k at hi (i .w) → List·Memᴰ c (b .outputs) → i .w < b .top
+    h-output : {c : Site} {v : ℕ} {k : List Frame} {hi at : ℕ} → Waits S b i st μ c k at hi (i .w) → List·Memᴰ c (b .outputs)
+        → i .w < b .top
         → μ (i .w) ≡ v → v < 2 ^ 32 → Held false (atOutput c v k)
-    h-stop : {k : List Frame} → Unmarked → Held false (atStop k)
+    h-stop : {k : List Frame} → Unmarked S b i st μ → Held false (atStop k)
     -- waiting in an ALT: every true guard has its mark, and none is ready
     h-wait : {gs : Guards} {k : List Frame} {hi at : ℕ} (c : AltCode S b gs (i .vars) (i .chans) k hi at (i .w + 1))
-        → Resumes (at + 2 + sizeEnable gs + 1) hi → μ (stateWord (i .w)) ≡ waiting → μ (i .w) ≡ noneSelected
+        → Resumes S b i st μ (at + 2 + sizeEnable gs + 1) hi → μ (stateWord (i .w)) ≡ waiting → μ (i .w) ≡ noneSelected
         → ((d : Site) → Guarded (st .store) d gs → μ (S .word d) ≡ nameOf (i .w)) → (AnyReady st gs → ⊥)
         → Marked S b st (i .vars) (i .chans) gs μ (i .w) → Held false (atAlt gs k)
+    -- at WAIT, in the timer queue
+    h-asleep : {t : ℕ} {k : List Frame} {hi at : ℕ} → Asleep S b i st μ t k at hi → sleeps (i .w) t (now st) → Held false (atWait t k)
+
+  -- one that waits for the clock is asleep
+  pub data Sleeping (t : ℕ) (k : List Frame) : Type 0 where
+    sleeping : {hi at : ℕ} → Asleep S b i st μ t k at hi → sleeps (i .w) t (now st) → Sleeping t k
+
+  no-waiting : {hi at w t : ℕ} {k : List Frame} {vars chans : List Site} → Comes S b (st .store) vars chans hi (atWait t k) at w → ⊥
+  no-waiting (comes s-none settled sub way) = settled
+
+  pub held-sleeping : {f : Bool} {t : ℕ} {k : List Frame} → Held f (atWait t k) → Sleeping t k
+  held-sleeping (h-queued c r h u) = absurd (no-waiting c)
+  held-sleeping (h-asleep a s) = sleeping a s
+
+  pub asleep-unqueued : {f : Bool} {t : ℕ} {k : List Frame} → Held f (atWait t k) → f ≡ false
+  asleep-unqueued (h-queued c r h u) = absurd (no-waiting c)
+  asleep-unqueued (h-asleep a s) = refl
+
+  -- one that is queued is not
+  pub held-awake : {q : Process} → Held true q → (t : ℕ) (k : List Frame) → q ≡ atWait t k → ⊥
+  held-awake {q} (h-queued {hi = hi} {at} c r h u) t k e =
+      no-waiting (subst (λ p. Comes S b (st .store) (i .vars) (i .chans) hi p at (i .w)) e c)
+  held-awake (h-woken c r s d) t k e = never (cc)

@@ -8,11 +8,11 @@ use mathlib.Core.List.{List, [], _∷_, _++_, List·Memᴰ, List·Memᴰ·head, 
 use lib.Dec.{eqb}
 use borrow.Author.Tests.{eq-eqb, ne-eqb, eqb-true, eqb-false}
 use Rattle.model.specs.Syntax.{Site}
-use Rattle.model.specs.Occam.{Frame, Process, before, finished, atOutput, look, State, framesOf}
+use Rattle.model.specs.Occam.{Frame, Process, before, finished, atOutput, look, State, framesOf, toRead, hasRead, atWait}
 use Rattle.model.proofs.Cases.{never, by-bool}
 use Rattle.model.proofs.Quiet.Ways.{Mem}
 use Rattle.model.proofs.Quiet.Setting.{whole}
-use Rattle.model.proofs.Occam.Paths.{Leaf, l-before, l-finished, leaf-par, put-found, same-path}
+use Rattle.model.proofs.Occam.Paths.{Leaf, l-before, l-finished, leaf-par, put-found, same-path, l-to-read, l-has-read, Awake}
 use Rattle.model.specs.Demand.{liveIn}
 use Rattle.model.proofs.Words.Parts.{Part, Within}
 use Rattle.model.proofs.Quiet.Continuations.{Placed}
@@ -21,8 +21,8 @@ use Rattle.model.proofs.Invariant.Trees.{some-same, Label, alone, alone
 use Rattle.model.proofs.Invariant.Trees.{Kept, kept}
 use Rattle.model.proofs.Invariant.Zones.{zoneOf}
 use Rattle.model.proofs.Invariant.Leaves.{member, Held}
-use Rattle.model.proofs.Invariant.Kernel.{Loaded, S, root, LeafAt, NodeAt, Owned, owned, Rest, whose, Lined}
-use Rattle.model.proofs.Invariant.Writes.{node, apart-parts, own-one, sits-at}
+use Rattle.model.proofs.Invariant.Kernel.{Loaded, S, root, LeafAt, NodeAt, Owned, owned, Rest, whose, Lined, node, sits-at, Sleepers}
+use Rattle.model.proofs.Invariant.Writes.{apart-parts, own-one, sleepers-by}
 
 -- membership by a test
 pub member-in : (w : ℕ) (ws : List ℕ) → member w ws ≡ true → List·Memᴰ w ws
@@ -70,8 +70,13 @@ skips-silent s-none h e = settled-silent h e
 skips-silent (s-skip s) h e = never (cc)
 skips-silent (s-par s) h e = never (cc)
 
+pub settled-awake : {q : Process} → Settled q → Awake q
+settled-awake h t k e = subst (λ z. Settled z) e h
+
 pub settled-leaf : (q : Process) → Settled q → Leaf q
 settled-leaf (before s k) h = l-before
+settled-leaf (toRead x k) h = l-to-read
+settled-leaf (hasRead x v k) h = l-has-read
 settled-leaf finished h = l-finished
 
 module _ (L : Loaded) where
@@ -92,44 +97,71 @@ module _ (L : Loaded) where
       let g = some-same (sym (h .label) ∙ ap (labelAt (S L) t) e ∙ k .label) in
       subst (λ z. P z c j) f (subst (λ z. P q z j) (alone-part g) (subst (λ z. P q b z) (alone-info g) x))
 
+  -- other processes are left out, none that waits for the clock
+  pub sleepers-out : {st : State} {μ : Mem} {t : Tree (S L) (root L) (st .process)} {Out Out′ : List ℕ → Type 0}
+      → ((other : List ℕ) (tm : ℕ) (k : List Frame) (b : Part) (i : Info) → LeafAt L st t other (atWait tm k) b i → (Out other → ⊥)
+      → Out′ other → ⊥)
+      → ((other : List ℕ) (tm : ℕ) (k : List Frame) (b : Part) (i : Info) → LeafAt L st t other (atWait tm k) b i → (Out′ other → ⊥)
+      → Out other → ⊥)
+      → Sleepers L st μ t Out → Sleepers L st μ t Out′
+  sleepers-out more fewer z =
+      sleepers-by L z refl refl (λ w m. (refl, refl)) (λ other tm k b i l o. (l, more other tm k b i l o))
+      (λ other tm k b i l o. (l, fewer other tm k b i l o))
+
   module _ {st : State} {μ : Mem} {t : Tree (S L) (root L) (st .process)} {ws : List ℕ} where
-    -- more are left out
-    pub rest-out : {Out Out′ : List ℕ → Type 0} → ((other : List ℕ) → Out other → Out′ other) → Rest L st μ t Out ws → Rest L st μ t Out′ ws
-    rest-out f h =
+    -- more are left out, none that waits for the clock
+    pub rest-out : {Out Out′ : List ℕ → Type 0} → ((other : List ℕ) → Out other → Out′ other)
+        → ((other : List ℕ) (tm : ℕ) (k : List Frame) (b : Part) (i : Info) → LeafAt L st t other (atWait tm k) b i → (Out other → ⊥)
+        → Out′ other → ⊥)
+        → Rest L st μ t Out ws → Rest L st μ t Out′ ws
+    rest-out f none h =
         record {
           vars = h .vars;
           chans = h .chans;
           live = h .live;
           leaf = λ {path = other} k n. h .leaf k (λ o. n (f other o));
           par = h .par;
+          sleepers = sleepers-out none (λ other tm k b i l n o. n (f other o)) (h .sleepers);
         }
+
+    -- one more
+    pub rest-with : {Out : List ℕ → Type 0} {path : List ℕ} {q : Process} {b : Part} {i : Info} → LeafAt L st t path q b i → Awake q
+        → Rest L st μ t Out ws → Rest L st μ t (λ other. Out other ⊎ (path ≡ other)) ws
+    rest-with at awake h =
+        rest-out (λ other o. inl o) (λ other tm k c j l n o.
+        ⊎-elim n (λ e. awake tm k (some-same (sym (at .found) ∙ ap (λ z. look z (st .process)) e ∙ l .found))) o) h
 
     -- other paths are left out, but no others at which a process is
     pub rest-narrow : {Out Out′ : List ℕ → Type 0}
-        → ((other : List ℕ) (q : Process) (b : Part) (i : Info) → LeafAt L st t other q b i → Out other → Out′ other) → Rest L st μ t Out ws
-        → Rest L st μ t Out′ ws
-    rest-narrow f h =
+        → ((other : List ℕ) (q : Process) (b : Part) (i : Info) → LeafAt L st t other q b i → Out other → Out′ other)
+        → ((other : List ℕ) → Out′ other → Out other) → Rest L st μ t Out ws → Rest L st μ t Out′ ws
+    rest-narrow f fewer h =
         record {
           vars = h .vars;
           chans = h .chans;
           live = h .live;
           leaf = λ {path = other} {q = q} {b = b} {i = i} k n. h .leaf k (λ o. n (f other q b i k o));
           par = h .par;
+          sleepers = sleepers-out (λ other tm k b i l n o. n (fewer other o)) (λ other tm k b i l n o. n (f other _ b i l o)) (h .sleepers);
         }
 
     -- one is taken in again
     pub rest-in : {Out Out′ : List ℕ → Type 0} {path : List ℕ} {q : Process} {b : Part} {i : Info} → LeafAt L st t path q b i
-        → Held (S L) b i st μ (member (i .w) ws) q → ((other : List ℕ) → path ≢ other → Out other → Out′ other) → Rest L st μ t Out ws
-        → Rest L st μ t Out′ ws
-    rest-in {path = path} at held f h =
+        → Held (S L) (L .sleeps) b i st μ (member (i .w) ws) q → ((other : List ℕ) → path ≢ other → Out other → Out′ other)
+        → ((other : List ℕ) → Out′ other → Out other) → Awake q → Rest L st μ t Out ws → Rest L st μ t Out′ ws
+    rest-in {path = path} at held f fewer awake h =
         record {
           vars = h .vars;
           chans = h .chans;
           live = h .live;
           leaf = λ {path = other} k n.
-              ⊎-elim (λ e. same-leaf (λ q b (i : Info). Held (S L) b i st μ (member (i .w) ws) q) e at k held)
+              ⊎-elim (λ e. same-leaf (λ q b (i : Info). Held (S L) (L .sleeps) b i st μ (member (i .w) ws) q) e at k held)
               (λ d. h .leaf k (λ o. n (f other d o))) (same-path path other);
           par = h .par;
+          sleepers = sleepers-out (λ other tm k b i l n o. n (fewer other o))
+              (λ other tm k b i l n o.
+              ⊎-elim (λ e. awake tm k (some-same (sym (at .found) ∙ ap (λ z. look z (st .process)) e ∙ l .found))) (λ d. n (f other d o))
+              (same-path path other)) (h .sleepers);
         }
 
   module _ {st : State} {t : Tree (S L) (root L) (st .process)} {ws : List ℕ} where
@@ -214,6 +246,9 @@ module _ (L : Loaded) where
               (λ d. h .leaf (leaf-back d m) o) (same-path path other);
           par = λ {path = other} e m.
               h .par e (node-back (λ p. leaf-par (at .leaf) (some-same (sym (at .found) ∙ ap (λ z. look z (st .process)) p ∙ e))) m);
+          sleepers = sleepers-by L (h .sleepers) refl refl (λ w m. (refl, refl))
+              (λ other tm f c j l o. (leaf-on (λ p. o (subst Out p out)) l, o))
+              (λ other tm f c j l o. (leaf-back (λ p. o (subst Out p out)) l, o));
         }
 
     lined-new : {Out : List ℕ → Type 0} {ws : List ℕ} → Out path → Lined L st t Out ws → Lined L st (k .tree) Out ws

@@ -20,8 +20,8 @@ use Rattle.model.proofs.Invariant.Trees.{some-same, Label, alone, alone
 use Rattle.model.proofs.Invariant.Trees.{kept, Kept, running}
 use Rattle.model.proofs.Invariant.Zones.{zoneOf}
 use Rattle.model.proofs.Invariant.Stays.{Intact, held-stays}
-use Rattle.model.proofs.Invariant.Kernel.{Loaded, S, root, LeafAt, NodeAt, Owned, owned, Rest, whose, Lined}
-use Rattle.model.proofs.Invariant.Writes.{part-small, sits-at}
+use Rattle.model.proofs.Invariant.Writes.{sleepers-by}
+use Rattle.model.proofs.Invariant.Kernel.{Loaded, S, root, LeafAt, NodeAt, Owned, owned, Rest, whose, Lined, part-small, sits-at}
 
 some-process : {x y : Process} → _≡_ {A = Option Process} (some x) (some y) → x ≡ y
 some-process e = cc
@@ -140,12 +140,15 @@ module _ (L : Loaded) {st : State} {t : Tree (S L) (root L) (st .process)} {path
               (λ d. h .live (other-before d n)) (same-path path other);
           leaf = λ {path = other} n u.
               let k = other-before (λ e. u (subst Out e out)) n in
-              held-stays (S L) _ _ (omega (arith, part-small L k, S L .top-small)) (sits-at L k) (intact-then k u) (h .leaf k u);
+              held-stays (S L) _ _ (omega (arith, part-small L k, S L .top-small)) (sits-at L k) (intact-then k u) (λ t s. s) (h .leaf k u);
           par = λ {path = other} e n.
               let d : path ≢ other = λ p. never (alone-parted (here-label n p)) in
               elim (par-after path other (st .process) (at .found) (at .leaf) leaf e) [
                 | same-par cs f g ↦ let (x, y) = h .par f (node-before d n) in (x, y ∙ g)
               ];
+          sleepers = sleepers-by L (h .sleepers) refl refl (λ w m. (refl, refl))
+              (λ other tm k c n l o. (other-then (λ p. o (subst Out p out)) l, o))
+              (λ other tm k c n l o. (other-before (λ p. o (subst Out p out)) l, o));
         }
       where
         here-label : {other : List ℕ} {l : Label} → NodeAt L (putting path r st) treeThen other l → path ≡ other → l ≡ alone b j

@@ -15,13 +15,14 @@ use Rattle.model.specs.Syntax.{Site}
 use Rattle.model.specs.Machine.{Talk, World, withCpu, withMemory, withOffers, linkWord, memorySize}
 use Rattle.model.specs.Occam.{Store, Process, State}
 use Rattle.model.specs.declared.Cpu.{Cpu}
-use Rattle.model.proofs.Quiet.Ways.{upd-same, upd-other, upd, Mem}
+use Rattle.model.proofs.Quiet.Ways.{upd-same, upd-other, upd, Mem, frontWord}
 use Rattle.model.proofs.Words.Parts.{Part}
 use Rattle.model.proofs.Invariant.Trees.{Info, Tree}
 use Rattle.model.proofs.Effects.OneWord.{cpuOf, sizeOf, stored}
 use Rattle.model.proofs.Effects.Queues.{Queue, queue-cpu, queue-stored, queue-same}
-use Rattle.model.proofs.Invariant.Kernel.{Loaded, S, root, size, LeafAt, whose, Lined, Real, Offer, no-offer, held-offer}
-use Rattle.model.proofs.Invariant.Writes.{node, apart-zones, part-small, sits-at}
+use Rattle.model.proofs.Invariant.Kernel.{Loaded, S, root, size, LeafAt, whose, Lined, Real, Offer, no-offer, held-offer, node}
+use Rattle.model.proofs.Invariant.Kernel.{part-small, sits-at}
+use Rattle.model.proofs.Invariant.Writes.{apart-zones}
 use Rattle.model.proofs.Invariant.Grounds.{small-size}
 use Rattle.model.proofs.Occam.Paths.{same-path}
 use Rattle.model.proofs.Invariant.Moving.{same-leaf}
@@ -60,6 +61,7 @@ module _ (L : Loaded) where
         offers = λ k h. offer-same σ p (r .offers k h) refl;
         beyond = r .beyond;
         timed = r .timed;
+        front = r .front;
       }
 
   -- other registers
@@ -76,6 +78,7 @@ module _ (L : Loaded) where
         offers = λ n h. offer-world refl refl (r .offers n h);
         beyond = r .beyond;
         timed = r .timed;
+        front = r .front;
       }
 
   -- a word that is no link of the queue
@@ -92,6 +95,7 @@ module _ (L : Loaded) where
         offers = λ n h. offer-world refl refl (r .offers n h);
         beyond = r .beyond;
         timed = r .timed;
+        front = r .front ∙ sym (upd-other μ v z frontWord (λ e. absurd (omega (arith, small-size L))));
       }
     where
       by : (a : ℕ) → a < size L → Dec (a ≡ v) → getD (set (s .memory) v z) a 0 ≡ upd μ v z a
@@ -158,13 +162,14 @@ module _ (L : Loaded) where
         offers = λ n h. offer-world refl refl (r .offers n h);
         beyond = r .beyond;
         timed = r .timed;
+        front = r .front;
       }
 
   -- another memory that is as long, and another queue
   pub real-memory : {s : World} {st : State} {μ ν : Mem} {ws us : List ℕ} → Real L s st μ ws → (l : List ℕ) (c : Cpu)
       → length l ≡ length (s .memory) → ((a : ℕ) → a < size L → getD l a 0 ≡ ν a) → Queue (withCpu c (withMemory l s)) us
-      → Real L (withCpu c (withMemory l s)) st ν us
-  real-memory r l c e m q =
+      → ν frontWord ≡ μ frontWord → Real L (withCpu c (withMemory l s)) st ν us
+  real-memory r l c e m q f =
       record {
         setup-kept = r .setup-kept;
         no-fault = r .no-fault;
@@ -175,6 +180,7 @@ module _ (L : Loaded) where
         offers = λ n h. offer-world refl refl (r .offers n h);
         beyond = r .beyond;
         timed = r .timed;
+        front = r .front ∙ sym f;
       }
 
   -- a communication is of no word
@@ -191,6 +197,7 @@ module _ (L : Loaded) where
         offers = λ n h. offer-world refl refl (r .offers n h);
         beyond = r .beyond;
         timed = r .timed;
+        front = r .front;
       }
 
   -- an offer that is held no more
@@ -211,6 +218,7 @@ module _ (L : Loaded) where
         offers = λ k l. by k (ℕ-discrete k n) (r .offers k l);
         beyond = λ k l. rw (ne-eqb k n (λ e. absurd (omega arith))) (r .beyond k l);
         timed = r .timed;
+        front = r .front;
       }
     where
       by : (k : ℕ) → Dec (k ≡ n) → Offer L s st k → Offer L (withOffers (s .machine .offers) (set (s .machine .held) n false) s)

@@ -8,33 +8,33 @@ use mathlib.Core.Bool.{true, false}
 use mathlib.Core.List.{List, [], _∷_, _++_, List·Memᴰ·head, List·Memᴰ·tail, List·Memᴰ·append-cases, List·Memᴰ·eq-of-singleton}
 use lib.ListN.{length, getD, set, length-set}
 use lib.Seq.{getD-set-same, getD-set-other}
-use Rattle.model.specs.Machine.{World, done, release, join, withCpu, resumeWord, linkWord, nameOf}
+use Rattle.model.specs.Machine.{World, done, release, enqueue, withCpu, resumeWord, linkWord, nameOf}
 use Rattle.model.specs.Machine as M
 use Rattle.model.specs.Scheme.{sizeEnable}
-use Rattle.model.specs.Occam.{Process, put, State}
+use Rattle.model.specs.Occam.{Process, put, State, look}
 use Rattle.model.specs.Demand.{Segment}
-use Rattle.model.proofs.Quiet.Ways.{upd-same, upd-other, upd, regsOf, Mem}
+use Rattle.model.proofs.Quiet.Ways.{upd-same, upd-other, upd, regsOf, Mem, frontWord}
 use Rattle.model.proofs.Quiet.Setting.{whole}
 use Rattle.model.proofs.Quiet.CodeParts.{inside}
 use Rattle.model.proofs.Occam.Paths.{Leaf, same-path}
 use Rattle.model.proofs.Words.Parts.{Part}
 use Rattle.model.proofs.Quiet.Arrivals.{Comes, comes}
 use Rattle.model.proofs.Quiet.Onwards.{disable-first}
-use Rattle.model.proofs.Invariant.Trees.{Info, Sits, Tree, bytesLeft, leaf-bytes}
-use Rattle.model.proofs.Invariant.Leaves.{member, Unmarked, Held, h-queued, h-woken}
+use Rattle.model.proofs.Invariant.Trees.{Info, Sits, Tree, bytesLeft, leaf-bytes, some-same}
+use Rattle.model.proofs.Invariant.Leaves.{member, Unmarked, Held, h-queued, h-woken, held-awake}
 use Rattle.model.proofs.Invariant.Stays.{Intact}
 use Rattle.model.proofs.Effects.OneWord.{cpuOf}
 use Rattle.model.proofs.Effects.Queues.{LinksIn, Apart, apart, released, joined, lastOf, release-queue, released-queue}
-use Rattle.model.proofs.Effects.Queues.{release-queue-none, idle-queue, join-queue, joined-queue, apart-snoc, link-injective}
+use Rattle.model.proofs.Effects.Queues.{release-queue-none, idle-queue, enqueue-queue, joined-queue, apart-snoc, link-injective}
 use Rattle.model.proofs.Effects.Queues.{last-in}
-use Rattle.model.proofs.Invariant.Kernel.{Loaded, S, root, size, LeafAt, Rest, whose, Lined, Real}
-use Rattle.model.proofs.Invariant.Writes.{node, apart-zones, part-small, sits-at, write-own, link}
+use Rattle.model.proofs.Invariant.Kernel.{Loaded, S, root, size, LeafAt, Rest, whose, Lined, Real, node, part-small, sits-at}
+use Rattle.model.proofs.Invariant.Writes.{apart-zones, write-own, link}
 use Rattle.model.proofs.Invariant.Puts.{putting, treeThen, here-then, lined-then, rest-then, moved}
 use Rattle.model.proofs.Invariant.Grounds.{small-size, sound-at}
 use Rattle.model.proofs.Invariant.Traces.{Trace, t-none, Moves, moves, skip-moves}
 use Rattle.model.proofs.Invariant.Running.{Only, Nobody, fresh, Now, now-goes, now-alt, Inv, runs, idle}
 use Rattle.model.proofs.Invariant.Moving.{other-w, same-leaf, member-cons, member-snoc, member-head, member-last, settled-silent}
-use Rattle.model.proofs.Invariant.Moving.{skips-silent, settled-leaf}
+use Rattle.model.proofs.Invariant.Moving.{skips-silent, settled-leaf, sleepers-out}
 use Rattle.model.proofs.Invariant.Reals.{size-is, mirrored, real-state, real-queue, real-memory, links-in}
 
 module _ (L : Loaded) where
@@ -108,7 +108,7 @@ module _ (L : Loaded) where
   -- a process that can go on gets the processor, whomever it is taken from
   pub gets : {s : World} {st : State} {μ : Mem} {t : Tree (S L) (root L) (st .process)} {path : List ℕ} {q : Process} {b : Part} {i : Info}
       {ws : List ℕ} → Given s μ (i .w) → Real L s st μ ws → Rest L st μ t (Only path) ws → Lined L st t (Only path) ws
-      → LeafAt L st t path q b i → Held (S L) b i st μ true q → Got s st (bytesLeft (S L) t)
+      → LeafAt L st t path q b i → Held (S L) (L .sleeps) b i st μ true q → Got s st (bytesLeft (S L) t)
   gets {s} {t = t} {i = i} has real rest lines leaf (h-queued {at} c r h clean) =
       let stands : Stands s i at = record {
         run = has .run;
@@ -160,9 +160,14 @@ module _ (L : Loaded) where
             chans = rest .chans;
             live = rest .live;
             leaf = λ {path = other} {q = r} {b = c} {i = j} k n.
-                subst (λ f. Held (S L) c j st μ f r)
+                subst (λ f. Held (S L) (L .sleeps) c j st μ f r)
                 (member-cons (j .w) (i .w) ws (λ e. other-w L leaf k n (sym e))) (rest .leaf k (λ o. o));
             par = rest .par;
+            sleepers = sleepers-out L (λ other tm k c j l n e.
+                held-awake (S L) (L .sleeps) b i st μ
+                (subst (λ z. Held (S L) (L .sleeps) b i st μ z q) (member-head (i .w) ws) (rest .leaf leaf (λ o. o))) tm k
+                (some-same (sym (leaf .found) ∙ ap (λ z. look z (st .process)) e ∙ l .found)))
+                (λ other tm k c j l n o. o) (rest .sleepers);
           }
 
       front-lines : Lined L st t (Only path) ws
@@ -178,7 +183,7 @@ module _ (L : Loaded) where
                 once = a;
               }
 
-      front-goes : Held (S L) b i st μ true q → LetGo s st (bytesLeft (S L) t)
+      front-goes : Held (S L) (L .sleeps) b i st μ true q → LetGo s st (bytesLeft (S L) t)
       front-goes held =
           let given : Given front μ (i .w) = record {
             run = refl;
@@ -198,7 +203,7 @@ module _ (L : Loaded) where
           let f : i .w ∷ ws ≡ w ∷ ws = ap (λ z. z ∷ ws) e in
           let rest′ : Rest L st μ t Nobody (i .w ∷ ws) = subst (λ l. Rest L st μ t Nobody l) (sym f) rest in
           front-goes (subst (λ l. Real L s st μ l) (sym f) real) rest′ (subst (λ l. Lined L st t Nobody l) (sym f) lines) leaf
-          (subst (λ z. Held (S L) b i st μ z q) (member-head (i .w) ws) (rest′ .leaf leaf (λ o. o)))
+          (subst (λ z. Held (S L) (L .sleeps) b i st μ z q) (member-head (i .w) ws) (rest′ .leaf leaf (λ o. o)))
     ]
 
   -- the memory in which w is linked behind the last of the queue
@@ -209,7 +214,7 @@ module _ (L : Loaded) where
   -- a process has joined the queue
   pub record Woken (s : World) (st : State) (μ : Mem) (t : Tree (S L) (root L) (st .process)) (Out : List ℕ → Type 0) (w : ℕ) (ws : List ℕ)
       : Type 0 where
-    pub joins : join (nameOf w) s ≡ done tt (joined w ws s)
+    pub enqueued : enqueue (nameOf w) (cpuOf s) s ≡ done tt (joined w ws s)
     pub real : Real L (joined w ws s) st (linkedTo w ws μ) (ws ++ w ∷ [])
     pub rest : Rest L st (linkedTo w ws μ) t Out (ws ++ w ∷ [])
     pub lines : Lined L st t Out (ws ++ w ∷ [])
@@ -220,7 +225,7 @@ module _ (L : Loaded) where
   module _ {s : World} {st : State} {μ : Mem} {t : Tree (S L) (root L) (st .process)} {Out Out′ : List ℕ → Type 0} {ws : List ℕ}
       {path : List ℕ} {q : Process} {b : Part} {i : Info} (real : Real L s st μ ws) (rest : Rest L st μ t Out ws)
       (lines : Lined L st t Out ws)
-      (leaf : LeafAt L st t path q b i) (out : Out path) (held : Held (S L) b i st μ true q)
+      (leaf : LeafAt L st t path q b i) (out : Out path) (held : Held (S L) (L .sleeps) b i st μ true q)
       (in-again : (other : List ℕ) → path ≢ other → Out other → Out′ other) (fewer : (other : List ℕ) → Out′ other → Out other)
       (not-out : Out′ path → ⊥) where
     abbrev w : ℕ
@@ -234,11 +239,16 @@ module _ (L : Loaded) where
           live = rest .live;
           leaf = λ {path = other} {q = r} {b = c} {i = j} k n.
               ⊎-elim
-              (λ e. same-leaf L (λ q b (z : Info). Held (S L) b z st μ (member (z .w) (ws ++ w ∷ [])) q) e leaf k
-              (subst (λ f. Held (S L) b i st μ f q) (sym (member-last w ws)) held))
-              (λ d. subst (λ f. Held (S L) c j st μ f r) (sym (member-snoc (j .w) w ws (λ e. other-w L leaf k d (sym e))))
+              (λ e. same-leaf L (λ q b (z : Info). Held (S L) (L .sleeps) b z st μ (member (z .w) (ws ++ w ∷ [])) q) e leaf k
+              (subst (λ f. Held (S L) (L .sleeps) b i st μ f q) (sym (member-last w ws)) held))
+              (λ d. subst (λ f. Held (S L) (L .sleeps) c j st μ f r) (sym (member-snoc (j .w) w ws (λ e. other-w L leaf k d (sym e))))
               (rest .leaf k (λ o. n (in-again other d o)))) (same-path path other);
           par = rest .par;
+          sleepers = sleepers-out L (λ other tm k c j l n o. n (fewer other o))
+              (λ other tm k c j l n o.
+              ⊎-elim (λ e. held-awake (S L) (L .sleeps) b i st μ held tm k
+              (some-same (sym (leaf .found) ∙ ap (λ z. look z (st .process)) e ∙ l .found))) (λ d. n (in-again other d o))
+              (same-path path other)) (rest .sleepers);
         }
 
     wake-lines : Lined L st t Out′ (ws ++ w ∷ [])
@@ -297,17 +307,18 @@ module _ (L : Loaded) where
       by (yes e) = rw e (getD-set-same (s .memory) (linkWord v) w 0 (omega (arith, real .room)) ∙ sym (upd-same μ (linkWord v) w))
       by (no e) = getD-set-other (s .memory) (linkWord v) a w 0 e ∙ real .mirror a k ∙ sym (upd-other μ (linkWord v) w a e)
 
-  -- a process that can go on joins the back of the queue; another has the processor
+  -- a process that can go on joins the back of the queue
   pub wakes : {s : World} {st : State} {μ : Mem} {t : Tree (S L) (root L) (st .process)} {Out Out′ : List ℕ → Type 0} {ws : List ℕ}
       {path : List ℕ} {q : Process} {b : Part} {i : Info} → Real L s st μ ws → Rest L st μ t Out ws → Lined L st t Out ws
-      → LeafAt L st t path q b i → Out path → Held (S L) b i st μ true q → ((other : List ℕ) → path ≢ other → Out other → Out′ other)
-      → ((other : List ℕ) → Out′ other → Out other) → (Out′ path → ⊥) → cpuOf s .running ≡ true → Woken s st μ t Out′ (i .w) ws
-  wakes {s} {ws = []} {i = i} real rest lines leaf out held in-again fewer not-out run =
+      → LeafAt L st t path q b i → Out path → Held (S L) (L .sleeps) b i st μ true q
+      → ((other : List ℕ) → path ≢ other → Out other → Out′ other) → ((other : List ℕ) → Out′ other → Out other) → (Out′ path → ⊥)
+      → Woken s st μ t Out′ (i .w) ws
+  wakes {s} {ws = []} {i = i} real rest lines leaf out held in-again fewer not-out =
       let links : LinksIn s [] = λ v m. rw (size-is L real) (links-in L lines v m) in
       record {
-        joins = join-queue (i .w) s run links (real .queue);
+        enqueued = enqueue-queue (i .w) s links (real .queue);
         real = real-memory L real (s .memory) (M.queueing (nameOf (i .w)) (nameOf (i .w)) true (cpuOf s)) refl (real .mirror)
-            (joined-queue (i .w) s (omega (arith, size-is L real, real .room)) links (lines .once) (real .queue));
+            (joined-queue (i .w) s (omega (arith, size-is L real, real .room)) links (lines .once) (real .queue)) refl;
         rest = wake-rest real rest lines leaf out held in-again fewer not-out;
         lines = wake-lines real rest lines leaf out held in-again fewer not-out;
         intact = λ k o. record {
@@ -318,16 +329,18 @@ module _ (L : Loaded) where
           none-sends = λ d m g z y. y;
         };
       }
-  wakes {s} {st} {μ} {t} {Out} {Out′} {ws = v ∷ vs} {i = i} real rest lines leaf out held in-again fewer not-out run =
+  wakes {s} {st} {μ} {t} {Out} {Out′} {ws = v ∷ vs} {i = i} real rest lines leaf out held in-again fewer not-out =
       let links : LinksIn s (v ∷ vs) = λ w m. rw (size-is L real) (links-in L lines w m) in
       let k = linkWord (lastOf v vs) in
       elim (lines .each (lastOf v vs) (last-in v vs)) [
         | whose last e stays ↦ record {
-          joins = join-queue (i .w) s run links (real .queue);
+          enqueued = enqueue-queue (i .w) s links (real .queue);
           real = real-memory L real (set (s .memory) k (nameOf (i .w)))
               (M.queueing (nameOf v) (nameOf (i .w)) true (cpuOf s)) (length-set (s .memory) k (nameOf (i .w)))
               (linked-mirror (lastOf v vs) (nameOf (i .w)) real (links-in L lines (lastOf v vs) (last-in v vs)))
-              (joined-queue (i .w) s (omega (arith, size-is L real, real .room)) links (lines .once) (real .queue));
+              (joined-queue (i .w) s (omega (arith, size-is L real, real .room)) links (lines .once) (real .queue))
+              (upd-other μ k (nameOf (i .w)) frontWord
+              (λ e. absurd (omega (arith, links-in L lines (lastOf v vs) (last-in v vs), small-size L))));
           rest = linked-rest real rest lines leaf out held in-again fewer not-out (lastOf v vs) last e stays;
           lines = wake-lines real rest lines leaf out held in-again fewer not-out;
           intact = linked-intact real rest lines leaf out held in-again fewer not-out (lastOf v vs) last e stays;

@@ -8,8 +8,9 @@ use mathlib.Core.List.{List, List·Memᴰ}
 use lib.Dec.{eqb}
 use Rattle.model.specs.Syntax.{Site, Expr, constant, variable, NOT, binary, Pairs, noPair, pair, Guard, inputGuard, skipGuard}
 use Rattle.model.specs.Syntax.{condition, Guards}
-use Rattle.model.specs.Machine.{resumeWord, linkWord, stateWord, nameOf}
+use Rattle.model.specs.Machine.{resumeWord, linkWord, stateWord, nameOf, timeWord}
 use Rattle.model.specs.Occam.{Store, eval, isTrue, Frame, Process, firstTrue, deny, operate, State, Sender, Ready, by-input, by-skip}
+use Rattle.model.specs.Occam.{now}
 use Rattle.model.proofs.Quiet.Ways.{Regs, Mem, way-stable}
 use Rattle.model.proofs.Words.Values.{FineExpr}
 use Rattle.model.proofs.Quiet.Setting.{Setting}
@@ -18,11 +19,12 @@ use Rattle.model.proofs.Quiet.Continuations.{cont-low}
 use Rattle.model.proofs.Quiet.Marks.{Own, own-name, AnyReady, r-first, r-later, Picks, p-first, p-later, Guarded, g-first, g-later}
 use Rattle.model.proofs.Quiet.Marks.{Unready, Noticed, n-none, n-later, Marked, Disabling, Point, pt-stop, pt-assign, pt-var}
 use Rattle.model.proofs.Quiet.Marks.{pt-chan, pt-taken, pt-none, pt-while, pt-in, pt-out, pt-par-place, pt-par-count, pt-end, pt-alt}
+use Rattle.model.proofs.Quiet.Marks.{pt-read, pt-store, pt-wait-for}
 use Rattle.model.proofs.Quiet.Arrivals.{Goes, Comes, comes}
 use Rattle.model.proofs.Quiet.Onwards.{guarded-fine}
 use Rattle.model.proofs.Invariant.Trees.{Info, Sits}
 use Rattle.model.proofs.Invariant.Leaves.{Unmarked, MarkedOnly, Resumes, Waits, Held, h-queued, h-woken, h-input, h-output, h-stop}
-use Rattle.model.proofs.Invariant.Leaves.{h-wait}
+use Rattle.model.proofs.Invariant.Leaves.{h-wait, Asleep, h-asleep}
 
 -- expressions whose variables are as they were
 module _ (b : Part) (vars : List Site) {σ τ : Store} (same : (x : Site) → List·Memᴰ x vars → List·Memᴰ x (b .reads) → σ x ≡ τ x) where
@@ -74,6 +76,10 @@ module _ (S : Setting) (b : Part) (vars chans : List Site) {σ τ : Store}
   point-stays {r} h (pt-par-count a v c m) =
       pt-par-count a v c (h (r .w) (omega (arith, c .room)) (omega (arith, c .placed .low)) ∙ m)
   point-stays h (pt-end e a v w) = pt-end e a v w
+  point-stays h (pt-wait-for {e} a v small f c n) =
+      let z = value-same b vars same e (f .1) in pt-wait-for a (v ∙ z) (subst (λ n. n < 2 ^ 32) z small) f c n
+  point-stays h (pt-read a x w f c l n) = pt-read a x w f c l n
+  point-stays h (pt-store a w f v small c n) = pt-store a w f v small c n
   point-stays h (pt-alt c l) = pt-alt c l
 
   -- a path
@@ -232,14 +238,35 @@ module _ (S : Setting) (b : Part) (i : Info) (high : b .top < 2 ^ 32) (sits : Si
               (d .chosen);
         }
 
--- a process that has not the processor
-pub held-stays : (S : Setting) (b : Part) (i : Info) → b .top < 2 ^ 32 → Sits S b i → {st st′ : State} {μ ν : Mem}
-    → Intact S b i (linkWord (i .w)) st st′ μ ν → {f : Bool} {q : Process} → Held S b i st μ f q → Held S b i st′ ν f q
-held-stays S b i high sits intact (h-queued c r h u) =
+-- one that waits for the clock
+pub asleep-stays : (S : Setting) (b : Part) (i : Info) → b .top < 2 ^ 32 → Sits S b i → {st st′ : State} {μ ν : Mem}
+    → Intact S b i (linkWord (i .w)) st st′ μ ν → {t : ℕ} {k : List Frame} {at hi : ℕ} → Asleep S b i st μ t k at hi
+    → Asleep S b i st′ ν t k at hi
+asleep-stays S b i high sits intact a =
+    let low = sits .placed .low in
+    record {
+      onward = a .onward;
+      near = a .near;
+      resumes = resumes-stays S b i high sits intact (λ e. absurd (omega (arith, a .space, low))) (a .resumes);
+      space = a .space;
+      state-is = state-same S b i high sits intact (omega (arith, a .space)) (λ e. absurd (omega (arith, a .space, low))) ∙ a .state-is;
+      time-is =
+          intact .own (timeWord (i .w)) (omega (arith, a .space, low)) (omega (arith, a .space, low))
+          (λ e. absurd (omega (arith, a .space, low)))
+          ∙ a .time-is;
+      small = a .small;
+      unmarked = unmarked-stays S b i high sits intact (a .unmarked);
+    }
+
+pub held-stays : (S : Setting) {sleeps sleeps′ : (w t clock : ℕ) → Type 0} (b : Part) (i : Info) → b .top < 2 ^ 32 → Sits S b i
+    → {st st′ : State} {μ ν : Mem} → Intact S b i (linkWord (i .w)) st st′ μ ν
+    → ((t : ℕ) → sleeps (i .w) t (now st) → sleeps′ (i .w) t (now st′)) → {f : Bool} {q : Process} → Held S sleeps b i st μ f q
+    → Held S sleeps′ b i st′ ν f q
+held-stays S b i high sits intact known (h-queued c r h u) =
     h-queued (comes-stays S b (i .vars) (i .chans) (intact .reads) c)
     (resumes-stays S b i high sits intact (λ e. absurd (omega (arith, sits .placed .room, sits .placed .low))) r) h
     (unmarked-stays S b i high sits intact u)
-held-stays S b i high sits intact (h-woken c r s d) =
+held-stays S b i high sits intact known (h-woken c r s d) =
     let low = sits .placed .low in
     let state =
     state-same S b i high sits intact (omega (arith, c .fine .0)) (λ e. absurd (omega (arith, sits .placed .room, c .fine .0, low))) in
@@ -247,18 +274,18 @@ held-stays S b i high sits intact (h-woken c r s d) =
     (disabling-stays S b i high sits intact (i .w + 1) (c .fine .1) (c .fine .1)
     (base-same S b i high sits intact (omega (arith, sits .placed .room)) (omega (arith, cont-low S b (c .after)))
     (λ e. absurd (omega (arith, sits .placed .room, low)))) state d)
-held-stays S b i high sits intact (h-input {c} w t m n) =
+held-stays S b i high sits intact known (h-input {c} w t m n) =
     let low = sits .placed .low in
     h-input
     (waits-stays S b i high sits intact (λ e. absurd (omega (arith, w .space, low))) (λ e. absurd (omega (arith, w .space, low))) w) t m
     (λ s. n (intact .none-sends c (w .scope) m (subst (Own b) (sym (w .here)) (own-w S b i high sits intact)) s))
-held-stays S b i high sits intact (h-output w m l v z) =
+held-stays S b i high sits intact known (h-output w m l v z) =
     let low = sits .placed .low in
     h-output
     (waits-stays S b i high sits intact (λ e. absurd (omega (arith, w .space, low))) (λ e. absurd (omega (arith, w .space, low))) w) m l
     (base-same S b i high sits intact (omega (arith, w .space)) l (λ e. absurd (omega (arith, w .space, low))) ∙ v) z
-held-stays S b i high sits intact (h-stop u) = h-stop (unmarked-stays S b i high sits intact u)
-held-stays S b i high sits {st} {st′} {μ} {ν} intact (h-wait {gs} c r s v m n k) =
+held-stays S b i high sits intact known (h-stop u) = h-stop (unmarked-stays S b i high sits intact u)
+held-stays S b i high sits {st} {st′} {μ} {ν} intact known (h-wait {gs} c r s v m n k) =
     let low = sits .placed .low in
     let mine : Own b (nameOf (i .w)) = own-w S b i high sits intact in
     let back : (d : Site) → Guarded (st′ .store) d gs → Guarded (st .store) d gs =
@@ -272,3 +299,4 @@ held-stays S b i high sits {st} {st′} {μ} {ν} intact (h-wait {gs} c r s v m 
     (here d (back d g)) ∙ m d (back d g))
     (unready-stays S b i high sits intact (i .w + 1) (c .fine .1) here n)
     (marked-stays S b i high sits intact (i .w + 1) (i .w) (c .fine .1) k)
+held-stays S b i high sits intact known (h-asleep {t} a s) = h-asleep (asleep-stays S b i high sits intact a) (known t s)

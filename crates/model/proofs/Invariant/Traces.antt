@@ -1,12 +1,13 @@
 -- Moves of an Occam run one after another, with their communications and events.
 use Prim.Native.Nat.{ℕ, _≤_}
 use native.Mathlib.Omega.{arith}
-use mathlib.Core.Path.{_≡_, refl, ap, subst}
+use mathlib.Core.Path.{_≡_, refl, ap, _∙_, subst}
 use mathlib.Core.List.{List, [], _∷_, _++_}
-use mathlib.Core.Option.{some}
+use mathlib.Core.Option.{Option, some}
 use Rattle.model.specs.Syntax.{SKIP, PAR, noStmt, Stmt}
-use Rattle.model.specs.Occam.{Frame, Process, before, resume, look, put, moved, go, State, Communication, Step, begins, Event}
-use Rattle.model.specs.Occam.{Outside}
+use Rattle.model.specs.Occam.{Frame, Process, before, resume, look, put, moved, go, State, Communication, Step, begins, Event, ends}
+use Rattle.model.specs.Occam.{chooses, goesOn, reading, stores, communicates, receives, offers, takes, ticks, Outside, offered, held}
+use Rattle.model.specs.Occam.{taken, nobody, ticked}
 use Rattle.model.specs.Demand.{step, outside, Segment, Valid, reaches, steps, eventsOf, communications}
 use Rattle.model.proofs.Occam.Paths.{look-put-same, put-put-same, put-found}
 use Rattle.model.proofs.Occam.Live.{most, step-most, outside-most}
@@ -47,6 +48,33 @@ pub trace-most : {st st′ : State} {g : Segment} {cs : List Communication} {es 
 trace-most t-none = omega arith
 trace-most (t-step s m) = omega (arith, step-most s, trace-most m)
 trace-most (t-event s m) = omega (arith, outside-most s, trace-most m)
+
+-- only the clock's own moves change it
+abbrev pub clockAfter : Option ℕ → List Event → Option ℕ
+clockAfter k [] = k
+clockAfter k (offers n v a ∷ es) = clockAfter k es
+clockAfter k (takes n a ∷ es) = clockAfter k es
+clockAfter k (ticks c ∷ es) = clockAfter (some c) es
+
+step-clock : {st st′ : State} {cs : List Communication} → Step st cs st′ → st′ .clock ≡ st .clock
+step-clock (begins path e) = refl
+step-clock (ends path i e f) = refl
+step-clock (chooses path e c) = refl
+step-clock (goesOn path e p) = refl
+step-clock (reading path e) = refl
+step-clock (stores path e) = refl
+step-clock (communicates s r e f) = refl
+step-clock (receives path e o) = refl
+
+pub trace-clock : {st st′ : State} {g : Segment} {cs : List Communication} {es : List Event} → Trace st g st′ cs es
+    → st′ .clock ≡ clockAfter (st .clock) es
+trace-clock t-none = refl
+trace-clock (t-step {es} s m) = trace-clock m ∙ ap (λ k. clockAfter k es) (step-clock s)
+trace-clock (t-event {es} (offered e) m) = trace-clock m
+trace-clock (t-event {es} (held e) m) = trace-clock m
+trace-clock (t-event {es} (taken path e) m) = trace-clock m
+trace-clock (t-event {es} (nobody n) m) = trace-clock m
+trace-clock (t-event {es} (ticked h) m) = trace-clock m
 
 -- some moves: those of a segment that is not given
 pub data Moves (st st′ : State) (cs : List Communication) : Type 0 where

@@ -13,7 +13,7 @@ use Rattle.model.specs.Occam.{put}
 use Rattle.model.proofs.Cases.{never}
 use Rattle.model.proofs.Occam.Paths.{Apart as Diverge, here, later, Leaf, l-before, l-input, l-output, l-stop, l-alt, l-finished}
 use Rattle.model.proofs.Occam.Paths.{leaf-par, leaf-begin, leaf-ends, put-in, under, look-under, stmtAt, Compared, equal, below}
-use Rattle.model.proofs.Occam.Paths.{above, apart, compare}
+use Rattle.model.proofs.Occam.Paths.{above, apart, compare, l-to-read, l-has-read, l-wait}
 use Rattle.model.proofs.Occam.Live.{leaves, leavesIn}
 use Rattle.model.proofs.Quiet.Setting.{Setting, whole}
 use Rattle.model.proofs.Words.Parts.{need-two, sum-first, need-next, Part, joins, partOf, Apart, Inside, FineBranches, Beside}
@@ -700,6 +700,9 @@ module _ (S : Setting) where
     bytes-few (t-leaf l-output i h) = omega (arith, h .few)
     bytes-few (t-leaf l-stop i h) = omega (arith, h .few)
     bytes-few (t-leaf l-alt i h) = omega (arith, h .few)
+    bytes-few (t-leaf l-wait i h) = omega (arith, h .few)
+    bytes-few (t-leaf l-to-read i h) = omega (arith, h .few)
+    bytes-few (t-leaf l-has-read i h) = omega (arith, h .few)
     bytes-few (t-leaf l-finished i h) = omega (arith, h .few)
     bytes-few (t-par c f) = forest-few f
 

@@ -9,20 +9,23 @@ use mathlib.Core.Option.{Option}
 use Rattle.model.specs.Word.{notProcess}
 use Rattle.model.specs.Syntax.{Site}
 use Rattle.model.specs.Usage.{same}
-use Rattle.model.specs.Machine.{linkWord}
-use Rattle.model.specs.Occam.{Store, store, Process, State, Sender, process, outside}
+use Rattle.model.specs.Machine.{linkWord, timeLinkWord, timeWord}
+use Rattle.model.specs.Occam.{Store, store, Process, State, Sender, process, outside, now, Frame, atWait}
 use Rattle.model.proofs.Cases.{never, by-bool}
 use Rattle.model.proofs.Tables.Sites.{same-refl, same-eq}
-use Rattle.model.proofs.Quiet.Ways.{upd, upd-same, upd-other, Mem}
+use Rattle.model.proofs.Quiet.Ways.{upd, upd-same, upd-other, Mem, frontWord}
 use Rattle.model.proofs.Occam.Paths.{left, leaves-apart, same-path}
 use Rattle.model.proofs.Words.Parts as Parts
 use Rattle.model.proofs.Words.Parts.{Part}
 use Rattle.model.proofs.Quiet.Marks.{Own}
-use Rattle.model.proofs.Invariant.Trees.{some-same, Label, alone, parted, alone-info, alone-parted, Info, Sits, Tree, labelAt}
-use Rattle.model.proofs.Invariant.Trees.{parts-apart, label-sits}
-use Rattle.model.proofs.Invariant.Zones.{zoneOf, Distant, zones-distant, zone-under, Differ, names-differ}
+use Rattle.model.proofs.Invariant.Trees.{some-same, Label, alone, parted, alone-info, alone-parted, Info, Tree, labelAt, parts-apart}
+use Rattle.model.proofs.Invariant.Zones.{zoneOf, Distant, zones-distant, Differ, names-differ}
+use Rattle.model.proofs.Effects.Timers.{Sorted, chain-stable, sorted-stable}
+use Rattle.model.proofs.Invariant.Leaves.{Asleep, sleeping, held-sleeping}
 use Rattle.model.proofs.Invariant.Stays.{Intact, held-stays}
-use Rattle.model.proofs.Invariant.Kernel.{Loaded, S, root, LeafAt, NodeAt, Owned, owned, Rest, whose, Lined}
+use Rattle.model.proofs.Invariant.Grounds.{var-in, chan-in, small-size}
+use Rattle.model.proofs.Invariant.Kernel.{Loaded, S, root, LeafAt, NodeAt, Owned, owned, Rest, whose, Lined, sleeper, Sleepers, node}
+use Rattle.model.proofs.Invariant.Kernel.{part-small, sits-at}
 
 -- a state with another store, other offers and another clock
 abbrev pub stateWith : Store → (ℕ → Option ℕ) → Option ℕ → State → State
@@ -33,12 +36,6 @@ abbrev pub changed : Store → (ℕ → Option ℕ) → State → State
 changed σ o st = stateWith σ o (st .clock) st
 
 module _ (L : Loaded) where
-  -- a process is a node
-  pub node : {st : State} {t : Tree (S L) (root L) (st .process)} {path : List ℕ} {q : Process} {b : Part} {i : Info}
-      → LeafAt L st t path q b i
-      → NodeAt L st t path (alone b i)
-  node h = record { label = h .label }
-
   -- the words of two at different paths
   pub apart-zones : {st : State} {t : Tree (S L) (root L) (st .process)} {path other : List ℕ} {l m : Label} → path ≢ other
       → NodeAt L st t path l → NodeAt L st t other m → Distant (S L) (zoneOf l) (zoneOf m)
@@ -58,21 +55,12 @@ module _ (L : Loaded) where
       (λ (l : c .top ≤ b .bottom). absurd (omega (arith, h .above, k .below)))
       (a .words)
 
-  -- parts are below the program's workspace
-  pub part-small : {st : State} {t : Tree (S L) (root L) (st .process)} {path : List ℕ} {q : Process} {b : Part} {i : Info}
-      → LeafAt L st t path q b i → b .top ≤ S L .top
-  part-small {t = t} {path} h = zone-under (S L) t path (h .label) .below
-
-  pub sits-at : {st : State} {t : Tree (S L) (root L) (st .process)} {path : List ℕ} {q : Process} {b : Part} {i : Info}
-      → LeafAt L st t path q b i → Sits (S L) b i
-  sits-at {t = t} {path} h = label-sits (S L) t path (h .label)
-
   -- where the processes are the same
   module _ {st : State} {t : Tree (S L) (root L) (st .process)} {σ : Store} {o : ℕ → Option ℕ} {k : Option ℕ} where
     again : {c : Site} {n m : ℕ} → m ≡ n → Owned L st t c n → Owned L (stateWith σ o k st) t c m
     again e (owned {b} h s o) = owned (record { found = h .found; leaf = h .leaf; label = h .label }) s (subst (Own b) (sym e) o)
 
-    before-leaf : {path : List ℕ} {q : Process} {b : Part} {i : Info} → LeafAt L (stateWith σ o k st) t path q b i
+    pub before-leaf : {path : List ℕ} {q : Process} {b : Part} {i : Info} → LeafAt L (stateWith σ o k st) t path q b i
         → LeafAt L st t path q b i
     before-leaf h = record { found = h .found; leaf = h .leaf; label = h .label }
 
@@ -87,35 +75,112 @@ module _ (L : Loaded) where
     before-node : {path : List ℕ} {l : Label} → NodeAt L (stateWith σ o k st) t path l → NodeAt L st t path l
     before-node h = record { label = h .label }
 
+  -- the timer queue of another state and memory, where those that wait for the clock are the same and keep their words
+  pub sleepers-by : {st st′ : State} {μ ν : Mem} {t : Tree (S L) (root L) (st .process)} {t′ : Tree (S L) (root L) (st′ .process)}
+      {Out Out′ : List ℕ → Type 0} (z : Sleepers L st μ t Out) → now st′ ≡ now st → ν frontWord ≡ μ frontWord
+      → ((w : ℕ) → List·Memᴰ w (z .asleep) → (ν (timeLinkWord w) ≡ μ (timeLinkWord w)) × (ν (timeWord w) ≡ μ (timeWord w)))
+      → ((path : List ℕ) (tm : ℕ) (k : List Frame) (b : Part) (i : Info) → LeafAt L st t path (atWait tm k) b i → (Out path → ⊥)
+      → LeafAt L st′ t′ path (atWait tm k) b i × (Out′ path → ⊥))
+      → ((path : List ℕ) (tm : ℕ) (k : List Frame) (b : Part) (i : Info) → LeafAt L st′ t′ path (atWait tm k) b i → (Out′ path → ⊥)
+      → LeafAt L st t path (atWait tm k) b i × (Out path → ⊥))
+      → Sleepers L st′ ν t′ Out′
+  sleepers-by {st} {st′} {μ} {ν} z clock front words on back =
+      record {
+        asleep = z .asleep;
+        chain = chain-stable front (λ w m. words w m .0) (z .chain);
+        sorted = λ o. subst (λ c. Sorted c ν (z .asleep)) (sym clock)
+            (sorted-stable μ ν (now st) (z .asleep) (λ w m. words w m .1) (z .sorted o));
+        once = z .once;
+        each = λ w m. elim (z .each w m) [ sleeper k e n ↦ let (l, o) = on _ _ _ _ _ k n in sleeper l e o ];
+        all = λ k n. let (l, o) = back _ _ _ _ _ k n in z .all l o;
+      }
+
+  -- a process that waits for the clock has time words of its own
+  pub time-words : {st : State} {μ : Mem} {t : Tree (S L) (root L) (st .process)} {path : List ℕ} {q : Process} {b : Part} {i : Info}
+      {tm : ℕ} {k : List Frame} {at hi : ℕ} → LeafAt L st t path q b i → Asleep (S L) b i st μ tm k at hi
+      → (b .bottom ≤ timeLinkWord (i .w)) × (timeLinkWord (i .w) < b .top) × (b .bottom ≤ timeWord (i .w)) × (timeWord (i .w) < b .top)
+  time-words at a =
+      let low = sits-at L at .placed .low in
+      let small = part-small L at in (
+        omega (arith, a .space, S L .top-small),
+        omega (arith, a .space, S L .top-small),
+        omega (arith, a .space, S L .top-small),
+        omega (arith, a .space, S L .top-small),
+      )
+
+  -- those that wait for the clock keep their time words where those that are not left out keep their words but one
+  pub time-same : {st : State} {μ : Mem} {t : Tree (S L) (root L) (st .process)} {Out : List ℕ → Type 0} {ws : List ℕ} (ν : Mem)
+      (h : Rest L st μ t Out ws)
+      → ((path : List ℕ) (q : Process) (b : Part) (i : Info) → LeafAt L st t path q b i → (Out path → ⊥) → (v : ℕ) → b .bottom ≤ v
+      → v < b .top → v ≢ linkWord (i .w) → ν v ≡ μ v)
+      → (w : ℕ) → List·Memᴰ w (h .sleepers .asleep) → (ν (timeLinkWord w) ≡ μ (timeLinkWord w)) × (ν (timeWord w) ≡ μ (timeWord w))
+  time-same {st} {μ} ν h own w m = elim (h .sleepers .each w m) [
+    | sleeper {b = b} {i = i} k e n ↦
+        elim (held-sleeping (S L) (L .sleeps) b i st μ (h .leaf k n)) [
+          | sleeping a s ↦
+              let words = time-words k a in
+              let off : (v : ℕ) → v < linkWord (i .w) → v ≢ linkWord (i .w) = λ v l f. absurd (omega arith) in
+              let below = sits-at L k .placed .low in
+              let small = part-small L k in
+              subst (λ w. (ν (timeLinkWord w) ≡ μ (timeLinkWord w)) × (ν (timeWord w) ≡ μ (timeWord w))) e (
+                own _ _ _ _ k n (timeLinkWord (i .w)) (words .0) (words .1)
+                    (off (timeLinkWord (i .w)) (omega (arith, a .space, S L .top-small))),
+                own _ _ _ _ k n (timeWord (i .w)) (words .2) (words .3)
+                    (off (timeWord (i .w)) (omega (arith, a .space, S L .top-small))),
+              )
+        ]
+  ]
+
+  -- another store, other offers, another clock and another memory, where each process that is not left out sees nothing of it
+  pub rest-changed : {st : State} {μ ν : Mem} {t : Tree (S L) (root L) (st .process)} {Out : List ℕ → Type 0} {ws : List ℕ} {σ : Store}
+      {o : ℕ → Option ℕ} {clock : Option ℕ} (h : Rest L st μ t Out ws)
+      → ((path : List ℕ) (q : Process) (b : Part) (i : Info) → LeafAt L st t path q b i → (Out path → ⊥)
+      → Intact (S L) b i (linkWord (i .w)) st (stateWith σ o clock st) μ ν)
+      → ((w tm : ℕ) → L .sleeps w tm (now st) → L .sleeps w tm (now (stateWith σ o clock st))) → Sleepers L (stateWith σ o clock st) ν t Out
+      → ((path : List ℕ) (l : Label) → NodeAt L st t path l → (x : Site) → List·Memᴰ x (zoneOf l .vars)
+      → st .store x ≡ μ (S L .word x) → st .store x < 2 ^ 32 → (σ x ≡ ν (S L .word x)) × (σ x < 2 ^ 32))
+      → ((path : List ℕ) (l : Label) → NodeAt L st t path l → (c : Site) → List·Memᴰ c (zoneOf l .chans)
+      → (ν (S L .word c) ≡ μ (S L .word c)) ⊎ ((ν (S L .word c) ≡ notProcess) ⊎ Owned L st t c (ν (S L .word c))))
+      → ((path : List ℕ) (a : Part) (vs cs : List Site) (w onward : ℕ) → NodeAt L st t path (parted a vs cs w onward)
+      → (ν w ≡ μ w) × (ν (w + 1) ≡ μ (w + 1)))
+      → Rest L (stateWith σ o clock st) ν t Out ws
+  rest-changed h intact known sleepers vars chans par =
+      record {
+        vars = λ e x m. let k = before-node e in vars _ _ k x m (h .vars k x m .0) (h .vars k x m .1);
+        chans = λ e c m.
+            let k = before-node e in
+            ⊎-elim (λ same. ⊎-elim (λ z. inl (same ∙ z)) (λ o. inr (again same o)) (h .chans k c m))
+            (λ k. ⊎-elim (λ z. inl z) (λ o. inr (again refl o)) k) (chans _ _ k c m);
+        live = λ e. h .live (before-leaf e);
+        leaf = λ {i = i} e n.
+            let k = before-leaf e in
+            held-stays (S L) _ _ (omega (arith, part-small L k, S L .top-small)) (sits-at L k) (intact _ _ _ _ k n) (known (i .w))
+            (h .leaf k n);
+        par = λ e m.
+            let k = before-node m in
+            let (z, y) = h .par e k in
+            let (f, g) = par _ _ _ _ _ _ k in
+            (f ∙ z, g ∙ y);
+        sleepers = sleepers;
+      }
+
   module _ {st : State} {μ ν : Mem} {t : Tree (S L) (root L) (st .process)} {Out : List ℕ → Type 0} {ws : List ℕ} {σ : Store}
-      {o : ℕ → Option ℕ} {k : Option ℕ} where
-    pub rest-same : Rest L st μ t Out ws
-        → ((path : List ℕ) (q : Process) (b : Part) (i : Info) → LeafAt L st t path q b i → (Out path → ⊥)
-        → Intact (S L) b i (linkWord (i .w)) st (stateWith σ o k st) μ ν)
-        → ((path : List ℕ) (l : Label) → NodeAt L st t path l → (x : Site) → List·Memᴰ x (zoneOf l .vars)
+      {o : ℕ → Option ℕ} (h : Rest L st μ t Out ws)
+      (intact : (path : List ℕ) (q : Process) (b : Part) (i : Info) → LeafAt L st t path q b i → (Out path → ⊥)
+      → Intact (S L) b i (linkWord (i .w)) st (changed σ o st) μ ν) (front : ν frontWord ≡ μ frontWord) where
+    sleepers-same : Sleepers L (changed σ o st) ν t Out
+    sleepers-same =
+        sleepers-by (h .sleepers) refl front (time-same ν h (λ path q b i l n. intact path q b i l n .own))
+        (λ path tm k b i l n. (after-leaf l, n)) (λ path tm k b i l n. (before-leaf l, n))
+
+    pub rest-same : ((path : List ℕ) (l : Label) → NodeAt L st t path l → (x : Site) → List·Memᴰ x (zoneOf l .vars)
         → st .store x ≡ μ (S L .word x) → st .store x < 2 ^ 32 → (σ x ≡ ν (S L .word x)) × (σ x < 2 ^ 32))
         → ((path : List ℕ) (l : Label) → NodeAt L st t path l → (c : Site) → List·Memᴰ c (zoneOf l .chans)
         → (ν (S L .word c) ≡ μ (S L .word c)) ⊎ ((ν (S L .word c) ≡ notProcess) ⊎ Owned L st t c (ν (S L .word c))))
         → ((path : List ℕ) (a : Part) (vs cs : List Site) (w onward : ℕ) → NodeAt L st t path (parted a vs cs w onward)
         → (ν w ≡ μ w) × (ν (w + 1) ≡ μ (w + 1)))
-        → Rest L (stateWith σ o k st) ν t Out ws
-    rest-same h intact vars chans par =
-        record {
-          vars = λ e x m. let k = before-node e in vars _ _ k x m (h .vars k x m .0) (h .vars k x m .1);
-          chans = λ e c m.
-              let k = before-node e in
-              ⊎-elim (λ same. ⊎-elim (λ z. inl (same ∙ z)) (λ o. inr (again same o)) (h .chans k c m))
-              (λ k. ⊎-elim (λ z. inl z) (λ o. inr (again refl o)) k) (chans _ _ k c m);
-          live = λ e. h .live (before-leaf e);
-          leaf = λ e n.
-              let k = before-leaf e in
-              held-stays (S L) _ _ (omega (arith, part-small k, S L .top-small)) (sits-at k) (intact _ _ _ _ k n) (h .leaf k n);
-          par = λ e m.
-              let k = before-node m in
-              let (z, y) = h .par e k in
-              let (f, g) = par _ _ _ _ _ _ k in
-              (f ∙ z, g ∙ y);
-        }
+        → Rest L (changed σ o st) ν t Out ws
+    rest-same vars chans par = rest-changed h intact (λ w tm k. k) sleepers-same vars chans par
 
   -- senders depend on processes and offers alone
   pub sender-stored : {st : State} {σ : Store} {c : Site} → Sender st c → Sender (changed σ (st .offers) st) c
@@ -137,10 +202,13 @@ module _ (L : Loaded) where
     -- a word of its own that is no name's
     pub write-own : (v z : ℕ) → b .bottom ≤ v → v < b .top → ((x : Site) → List·Memᴰ x (i .vars) → S L .word x ≢ v)
         → ((c : Site) → List·Memᴰ c (i .chans) → S L .word c ≢ v) → Free Out path i v → Rest L st (upd μ v z) t Out ws
-    write-own v z low high no-var no-chan free = rest-same h intact vars chans par
+    write-own v z low high no-var no-chan free = rest-same h intact front vars chans par
       where
         ν : Mem
         ν = upd μ v z
+
+        front : ν frontWord ≡ μ frontWord
+        front = upd-other μ v z frontWord (λ e. absurd (omega (arith, part-small L at, S L .top-small)))
 
         -- another's words
         vars-off : (other : List ℕ) (l : Label) → NodeAt L st t other l → (x : Site) → List·Memᴰ x (zoneOf l .vars) → S L .word x ≢ v
@@ -148,14 +216,14 @@ module _ (L : Loaded) where
             ⊎-elim
             (λ (p : path ≡ other). no-var x
             (subst (λ z. List·Memᴰ x (zoneOf z .vars)) (some-same (sym (n .label) ∙ ap (labelAt (S L) t) (sym p) ∙ at .label)) m) e)
-            (λ d. apart-zones d (node at) n .vars-in x m (omega (arith, e), omega (arith, e))) (same-path path other)
+            (λ d. apart-zones d (node L at) n .vars-in x m (omega (arith, e), omega (arith, e))) (same-path path other)
 
         chans-off : (other : List ℕ) (l : Label) → NodeAt L st t other l → (x : Site) → List·Memᴰ x (zoneOf l .chans) → S L .word x ≢ v
         chans-off other l n x m e =
             ⊎-elim
             (λ (p : path ≡ other). no-chan x
             (subst (λ z. List·Memᴰ x (zoneOf z .chans)) (some-same (sym (n .label) ∙ ap (labelAt (S L) t) (sym p) ∙ at .label)) m) e)
-            (λ d. apart-zones d (node at) n .chans-in x m (omega (arith, e), omega (arith, e))) (same-path path other)
+            (λ d. apart-zones d (node L at) n .chans-in x m (omega (arith, e), omega (arith, e))) (same-path path other)
 
         own-off : (other : List ℕ) (r : Process) (c : Part) (j : Info) → LeafAt L st t other r c j → (Out other → ⊥)
             → (a : ℕ) → c .bottom ≤ a → a < c .top → a ≢ linkWord (j .w) → a ≢ v
@@ -163,7 +231,7 @@ module _ (L : Loaded) where
             ⊎-elim (λ (p : path ≡ other).
             let same : i ≡ j = alone-info (some-same (sym (at .label) ∙ ap (labelAt (S L) t) p ∙ k .label)) in
             elim free [ left-out f ↦ n (subst Out p f) | link f ↦ d (e ∙ f ∙ ap (λ (y : Info). linkWord (y .w)) same) ])
-            (λ u. apart-zones u (node at) (node k) .words a (omega (arith, e), omega (arith, e)) (lo, hi)) (same-path path other)
+            (λ u. apart-zones u (node L at) (node L k) .words a (omega (arith, e), omega (arith, e)) (lo, hi)) (same-path path other)
 
         intact : (other : List ℕ) (r : Process) (c : Part) (j : Info) → LeafAt L st t other r c j → (Out other → ⊥)
             → Intact (S L) c j (linkWord (j .w)) st (changed (st .store) (st .offers) st) μ ν
@@ -171,7 +239,7 @@ module _ (L : Loaded) where
             record {
               own = λ a lo hi d. upd-other μ v z a (own-off other r c j k n a lo hi d);
               reads = λ x m g. refl;
-              chans = λ d m. inl (upd-other μ v z (S L .word d) (chans-off other (alone c j) (node k) d m));
+              chans = λ d m. inl (upd-other μ v z (S L .word d) (chans-off other (alone c j) (node L k) d m));
               sends = λ d m s. sender-stored s;
               none-sends = λ d m g o s. sender-kept s;
             }
@@ -189,14 +257,14 @@ module _ (L : Loaded) where
         par other a vs cs w onward n =
             let d : path ≢ other =
             λ p. never (alone-parted (some-same (sym (n .label) ∙ ap (labelAt (S L) t) (sym p) ∙ at .label))) in
-            let far = apart-zones d (node at) n in (
+            let far = apart-zones d (node L at) n in (
               upd-other μ v z w (λ e. far .words w (omega (arith, e), omega (arith, e)) (omega arith, omega arith)),
               upd-other μ v z (w + 1) (λ e. far .words (w + 1) (omega (arith, e), omega (arith, e)) (omega arith, omega arith)),
             )
 
     -- where the path is the same or another
     elsewhere : (other : List ℕ) {l : Label} → NodeAt L st t other l → (path ≢ other → Distant (S L) (zoneOf (alone b i)) (zoneOf l))
-    elsewhere other n d = apart-zones d (node at) n
+    elsewhere other n d = apart-zones d (node L at) n
 
     differ : {other : List ℕ} {l : Label} → NodeAt L st t other l → Differ (S L) (zoneOf (alone b i)) (zoneOf l)
     differ {other} n = names-differ (S L) t path other (at .label) (n .label)
@@ -208,13 +276,16 @@ module _ (L : Loaded) where
     -- a variable that it may change
     pub write-var : (y : Site) (z : ℕ) → List·Memᴰ y (i .vars) → List·Memᴰ y (b .changes) → z < 2 ^ 32 → Out path
         → Rest L (changed (store y z (st .store)) (st .offers) st) (upd μ (S L .word y) z) t Out ws
-    write-var y z mine mine′ small out = rest-same h intact vars chans par
+    write-var y z mine mine′ small out = rest-same h intact front vars chans par
       where
         v : ℕ
         v = S L .word y
 
         ν : Mem
         ν = upd μ v z
+
+        front : ν frontWord ≡ μ frontWord
+        front = upd-other μ v z frontWord (λ e. absurd (omega (arith, var-in L (node L at) y mine, small-size L)))
 
         chans-off : (other : List ℕ) (l : Label) → NodeAt L st t other l → (c : Site) → List·Memᴰ c (zoneOf l .chans) → S L .word c ≢ v
         chans-off other l n c m e = differ n .cross y c mine m (sym e)
@@ -224,11 +295,12 @@ module _ (L : Loaded) where
         intact other r c j k n =
             let d : path ≢ other = λ p. n (subst Out p out) in
             record {
-              own = λ a lo hi u. upd-other μ v z a (λ e. elsewhere other (node k) d .vars-out y mine (omega (arith, e), omega (arith, e)));
+              own = λ a lo hi u. upd-other μ v z a (λ e. elsewhere other (node L k) d .vars-out y mine
+                  (omega (arith, e), omega (arith, e)));
               reads = λ x m g.
                   by-bool (same x y)
                   (λ e. absurd (apart-parts at k d .left y mine′ (subst (λ u. List·Memᴰ u (c .reads)) (same-eq x y e) g))) (λ e. rw e);
-              chans = λ d m. inl (upd-other μ v z (S L .word d) (chans-off other (alone c j) (node k) d m));
+              chans = λ d m. inl (upd-other μ v z (S L .word d) (chans-off other (alone c j) (node L k) d m));
               sends = λ d m s. sender-stored s;
               none-sends = λ d m g o s. sender-kept s;
             }
@@ -262,13 +334,16 @@ module _ (L : Loaded) where
         → ((other : List ℕ) (r : Process) (c : Part) (j : Info) → LeafAt L st t other r c j → (Out other → ⊥)
         → (Own c (μ (S L .word y)) → ⊥) × (Own c z → ⊥))
         → (z ≡ notProcess) ⊎ Owned L st t y z → Out path → Rest L st (upd μ (S L .word y) z) t Out ws
-    write-chan y z mine strange owner out = rest-same h intact vars chans par
+    write-chan y z mine strange owner out = rest-same h intact front vars chans par
       where
         v : ℕ
         v = S L .word y
 
         ν : Mem
         ν = upd μ v z
+
+        front : ν frontWord ≡ μ frontWord
+        front = upd-other μ v z frontWord (λ e. absurd (omega (arith, chan-in L (node L at) y mine, small-size L)))
 
         vars-off : (other : List ℕ) (l : Label) → NodeAt L st t other l → (x : Site) → List·Memᴰ x (zoneOf l .vars) → S L .word x ≢ v
         vars-off other l n x m e = differ n .crossed y x mine m (sym e)
@@ -281,7 +356,8 @@ module _ (L : Loaded) where
         intact other r c j k n =
             let d : path ≢ other = λ p. n (subst Out p out) in
             record {
-              own = λ a lo hi u. upd-other μ v z a (λ e. elsewhere other (node k) d .chans-out y mine (omega (arith, e), omega (arith, e)));
+              own = λ a lo hi u. upd-other μ v z a (λ e. elsewhere other (node L k) d .chans-out y mine
+                  (omega (arith, e), omega (arith, e)));
               reads = λ x m g. refl;
               chans = λ d m. by-word d m (ℕ-discrete (S L .word d) v);
               sends = λ d m s. sender-stored s;
@@ -324,15 +400,14 @@ module _ (L : Loaded) where
               upd-other μ v z (w + 1) (λ e. far .chans-out y mine (omega (arith, e), omega (arith, e))),
             )
 
-  -- other offers, and another clock
+  -- other offers
   pub change-offers : {st : State} {μ : Mem} {t : Tree (S L) (root L) (st .process)} {Out : List ℕ → Type 0}
-      {ws : List ℕ} {k : Option ℕ} (o : ℕ → Option ℕ)
-      → Rest L st μ t Out ws
+      {ws : List ℕ} (o : ℕ → Option ℕ) (h : Rest L st μ t Out ws)
       → ((other : List ℕ) (r : Process) (c : Part) (j : Info) → LeafAt L st t other r c j → (Out other → ⊥)
-      → ((d : Site) → List·Memᴰ d (c .inputs) → Sender st d → Sender (stateWith (st .store) o k st) d)
-      × ((d : Site) → List·Memᴰ d (j .chans) → List·Memᴰ d (c .inputs) → Own c (μ (S L .word d)) → Sender (stateWith (st .store) o k st) d
+      → ((d : Site) → List·Memᴰ d (c .inputs) → Sender st d → Sender (changed (st .store) o st) d)
+      × ((d : Site) → List·Memᴰ d (j .chans) → List·Memᴰ d (c .inputs) → Own c (μ (S L .word d)) → Sender (changed (st .store) o st) d
       → Sender st d))
-      → Rest L (stateWith (st .store) o k st) μ t Out ws
+      → Rest L (changed (st .store) o st) μ t Out ws
   change-offers {μ = μ} o h senders =
       rest-same h
       (λ other r c j l n. record {
@@ -341,5 +416,5 @@ module _ (L : Loaded) where
         chans = λ d m. inl refl;
         sends = senders other r c j l n .0;
         none-sends = senders other r c j l n .1;
-      })
+      }) refl
       (λ other l n x m e k. (e, k)) (λ other l n c m. inl refl) (λ other a vs cs w onward n. (refl, refl))

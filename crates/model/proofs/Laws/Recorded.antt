@@ -14,7 +14,7 @@ use Rattle.model.specs.Answers.{instructionsOf}
 use Rattle.model.specs.Run.{byte, ended, waits, beginning, earlierClock, keep, Finish, runFrom, shortMemory, After, unchanged}
 use Rattle.model.specs.Run.{worldOf, finished, run}
 use Rattle.model.specs.Occam.{ticks}
-use Rattle.model.specs.History.{callRun, Moment, quietly, executed, bytes, idle, begun, unlessKept, during, call}
+use Rattle.model.specs.History.{Note, notes, callRun, Moment, quietly, executed, bytes, idle, begun, unlessKept, during, call}
 use Rattle.model.specs.Laws.{counted, afterBytes, talkIn, lastOf, leaving, executedIn, Recorded, Records, Continues}
 use Rattle.model.specs.declared.Machine.{Machine}
 use Rattle.model.specs.declared.FaultKind.{FaultKind}
@@ -50,7 +50,7 @@ module _ (code : List ℕ) where
       (run-spent code n s (or-left (ended (s .machine)) (waits (s .machine)) z) (or-right (ended (s .machine)) (waits (s .machine)) z)))
 
   pub bytes-go : (b : ℕ) (rest : List ℕ) (s t : World) → ended (s .machine) ≡ false → waits (s .machine) ≡ false → byte code s ≡ done tt t
-      → bytes (suc b) code rest s ≡ executed t rest ∷ bytes b code rest (worldOf (t .machine) (t .memory))
+      → bytes (suc b) code rest s ≡ executed (notes code (s .machine)) t rest ∷ bytes b code rest (worldOf (t .machine) (t .memory))
   unfolding bytes
   bytes-go b rest s t e w d = rw (e, w, d)
 
@@ -106,11 +106,11 @@ module _ (code rest : List ℕ) where
   found-none z er c e = record { all-bytes = refl; as-many = sym c; same-talk = sym z; same-machine = e; same-memory = er }
 
   -- a byte and the run after it
-  found-more : {before : Moment} {l : List Moment} {f : Finish} (t : World) → Found l (executed t rest) rest f
-      → Found (executed t rest ∷ l) before rest (preceded 1 (t .talk) f)
-  found-more {f = f} t h =
+  found-more : {before : Moment} {l : List Moment} {f : Finish} (ns : List Note) (t : World) → Found l (executed ns t rest) rest f
+      → Found (executed ns t rest ∷ l) before rest (preceded 1 (t .talk) f)
+  found-more {f = f} ns t h =
       record {
-        all-bytes = ap (λ z. executed t rest ∷ z) (h .all-bytes);
+        all-bytes = ap (λ z. executed ns t rest ∷ z) (h .all-bytes);
         as-many = ap (λ n. suc n) (h .as-many) ∙ sym (counted-more (f .outcome));
         same-talk = ap (λ z. t .talk ++ z) (h .same-talk);
         same-machine = leaving-counted 1 (f .outcome) _ ∙ h .same-machine;
@@ -129,7 +129,8 @@ module _ (code rest : List ℕ) where
       (λ w. by-result (byte code s)
       (λ u t d.
       let here = worldOf (t .machine) (t .memory) in
-      rw (e, w, d, run-anew code b 1 t) (found-more t (found b here (executed t rest) refl refl refl)))
+      let told = notes code (s .machine) in
+      rw (e, w, d, run-anew code b 1 t) (found-more told t (found b here (executed told t rest) refl refl refl)))
       (λ k d. rw (e, w, d) (found-none z er refl (ap (λ (m : Machine). keep k (worldOf m []) .machine) em)))))
 
   -- with more to spend the moments go on
@@ -141,7 +142,7 @@ module _ (code rest : List ℕ) where
       (λ e. by-result (byte code s)
       (λ u t d.
       let (more, h) = found-longer a b (worldOf (t .machine) (t .memory)) in
-      (more, rw (suc-add, e, d) (ap (λ z. executed t rest ∷ z) h)))
+      (more, rw (suc-add, e, d) (ap (λ z. executed (notes code (s .machine)) t rest ∷ z) h)))
       (λ k d. ([], rw (suc-add, e, d))))
 
 -- the moments of a run, as it is lent
@@ -168,7 +169,8 @@ module _ (m : Machine) (code memory rest : List ℕ) (c : ℕ) where
 
   -- the moment after a run's beginning
   abbrev pub opening : World → Moment
-  opening t = record { instruction = false; machine = t .machine; memory = t .memory ++ rest; talk = t .talk; events = ticks c ∷ [] }
+  opening t =
+      record { instruction = false; machine = t .machine; memory = t .memory ++ rest; talk = t .talk; events = ticks c ∷ []; notes = [] }
 
   pub during-goes : (g : Goes m code memory c) (b : ℕ)
       → let t = g .begun in

@@ -5,14 +5,15 @@ use mathlib.Core.Path.{_≡_, subst, _∙_}
 use mathlib.Core.List.{List, [], _∷_}
 use mathlib.Core.Option.{some}
 use Rattle.model.specs.Syntax.{Stmt, SKIP, STOP, assign, input, output, VAR, CHAN, SEQ, PAR, IF, WHILE, ALT, Stmts, noStmt, stmt}
-use Rattle.model.specs.Syntax.{Pairs, noPair, pair, Guard, inputGuard, skipGuard, Guards, Program}
+use Rattle.model.specs.Syntax.{Pairs, noPair, pair, Guard, inputGuard, skipGuard, Guards, Program, TIME, WAIT}
 use Rattle.model.specs.Reader.{names}
 use Rattle.model.specs.Counts.{processes, mostProcesses, sumProcesses, pairProcesses, guardProcesses}
 use Rattle.model.specs.Occam.{Store, isTrue, Frame, inSeq, inVar, inWhile, enter, enterAll, resume, begin, branches, firstTrue, go}
 use Rattle.model.specs.Occam.{Process, before, atInput, atOutput, atStop, atAlt, inPar, finished, Branches, noBranch, branch, over}
 use Rattle.model.specs.Occam.{branchAt, setBranch, endBranch, allOver, closed, branchesOf, framesOf, look, put, State, Communication}
 use Rattle.model.specs.Occam.{branchOf, Choice, first-guard, later-guard, Step, begins, ends, chooses, communicates, receives, Event}
-use Rattle.model.specs.Occam.{Outside, offered, held, taken, nobody, ticked, initial}
+use Rattle.model.specs.Occam.{Outside, offered, held, taken, nobody, ticked, initial, toRead, hasRead, reading, stores, now, atWait}
+use Rattle.model.specs.Occam.{goesOn}
 use Rattle.model.proofs.Cases.{never, of-cond}
 use Rattle.model.proofs.Occam.Paths.{under, look-under, put-in, par-whole, l-input, l-output, leaves-differ, look-put-other}
 
@@ -24,6 +25,9 @@ unfoldable mutual
   leaves (atOutput c v k) = 1
   leaves (atStop k) = 1
   leaves (atAlt gs k) = 1
+  leaves (atWait t k) = 1
+  leaves (toRead x k) = 1
+  leaves (hasRead x v k) = 1
   leaves (inPar bs k) = leavesIn bs
   leaves finished = 1
 
@@ -47,6 +51,9 @@ unfoldable mutual
   most (atOutput c v k) = mostAfter k
   most (atStop k) = mostAfter k
   most (atAlt gs k) = max (guardProcesses gs) (mostAfter k)
+  most (atWait t k) = mostAfter k
+  most (toRead x k) = mostAfter k
+  most (hasRead x v k) = mostAfter k
   most (inPar bs k) = max (mostIn bs) (mostAfter k)
   most finished = 1
 
@@ -78,6 +85,8 @@ processes-one (PAR p ss) = omega arith
 processes-one (IF ps) = omega arith
 processes-one (WHILE e s) = processes-one s
 processes-one (ALT gs) = omega arith
+processes-one (TIME x) = omega arith
+processes-one (WAIT e) = omega arith
 
 -- no process is more than it can become
 mutual
@@ -89,6 +98,9 @@ mutual
   leaves-most (atOutput c v k) = after-one k
   leaves-most (atStop k) = after-one k
   leaves-most (atAlt gs k) = omega (arith, after-one k)
+  leaves-most (atWait t k) = after-one k
+  leaves-most (toRead x k) = after-one k
+  leaves-most (hasRead x v k) = after-one k
   leaves-most (inPar bs k) = omega (arith, leaves-most-in bs)
   leaves-most finished = omega arith
 
@@ -114,6 +126,8 @@ mutual
   most-enter (IF ps) k p m a b c = omega arith
   most-enter (WHILE e s) k p m a b c = omega arith
   most-enter (ALT gs) k p m a b c = omega arith
+  most-enter (TIME x) k p m a b c = b
+  most-enter (WAIT e) k p m a b c = omega arith
 
   most-enter-all : (ss : Stmts) (k : List Frame) (p : Process) (m : ℕ) → mostProcesses ss ≤ m → mostAfter k ≤ m → most p ≤ m
       → most (enterAll ss k p) ≤ m
@@ -178,6 +192,8 @@ most-go (WHILE e s) k σ =
     of-cond (λ p. most p ≤ max (processes s) (mostAfter k)) (isTrue σ e) (omega (arith, most-begin s (inWhile e s ∷ k)))
     (omega (arith, most-resume k))
 most-go (ALT gs) k σ = omega arith
+most-go (TIME x) k σ = omega arith
+most-go (WAIT e) k σ = omega arith
 
 -- a branch that becomes no more
 most-set : (i : ℕ) (bs : Branches) {q : Process} (r : Process) → branchAt i bs ≡ some q → most r ≤ most q
@@ -222,6 +238,9 @@ unfolding most mostIn
 step-most {st} (begins path {s} {k} e) = most-put path (st .process) (go s k (st .store) .process) e (most-go s k (st .store))
 step-most {st} (ends path i {bs} {k} e f) = most-put path (st .process) (closed (endBranch i bs) k) e (most-closed i bs k)
 step-most {st} (chooses path {p} e c) = most-put path (st .process) p e (most-choice c)
+step-most {st} (goesOn path {k} e f) = most-put path (st .process) (resume k) e (most-resume k)
+step-most {st} (reading path {x} {k} e) = most-put path (st .process) (hasRead x (now st) k) e (omega arith)
+step-most {st} (stores path {k} e) = most-put path (st .process) (resume k) e (most-resume k)
 step-most {st} (communicates sender receiver {k} {l} e f) =
     let v = leaves-differ receiver sender (st .process) f l-input e l-output (λ z. never (cc)) in
     omega (

@@ -8,11 +8,11 @@ use mathlib.Core.Bool.{true, false}
 use mathlib.Core.List.{List, [], _∷_, _++_, append-nil, List·Memᴰ, Memᴰ·append-right}
 use mathlib.Core.Option.{Option, none, some}
 use Rattle.model.specs.Syntax.{Site, Stmt, SKIP, STOP, assign, input, output, VAR, CHAN, SEQ, PAR, IF, WHILE, ALT, Stmts, noStmt}
-use Rattle.model.specs.Syntax.{stmt, Guards}
+use Rattle.model.specs.Syntax.{stmt, Guards, TIME, WAIT}
 use Rattle.model.specs.Scheme.{howMany}
 use Rattle.model.specs.Occam.{Frame, inSeq, inVar, inWhile, enter, enterAll, resume, begin, branches, closed, Process, before}
 use Rattle.model.specs.Occam.{atInput, atOutput, atStop, atAlt, inPar, finished, Branches, noBranch, branch, over, branchAt}
-use Rattle.model.specs.Occam.{setBranch, endBranch, allOver, branchesOf, framesOf, look, put}
+use Rattle.model.specs.Occam.{setBranch, endBranch, allOver, branchesOf, framesOf, look, put, toRead, hasRead, atWait}
 use Rattle.model.specs.Demand.{liveIn}
 use Rattle.model.proofs.Cases.{never, by-option, is-none}
 
@@ -348,6 +348,9 @@ par-whole i (atInput c x k) e = never (cc)
 par-whole i (atOutput c v k) e = never (cc)
 par-whole i (atStop k) e = never (cc)
 par-whole i (atAlt gs k) e = never (cc)
+par-whole i (atWait t k) e = never (cc)
+par-whole i (toRead x k) e = never (cc)
+par-whole i (hasRead x v k) e = never (cc)
 par-whole i (inPar bs k) e = refl
 par-whole i finished e = never (cc)
 
@@ -369,6 +372,9 @@ pub data Leaf : Process → Type 0 where
   l-output : {c : Site} {v : ℕ} {k : List Frame} → Leaf (atOutput c v k)
   l-stop : {k : List Frame} → Leaf (atStop k)
   l-alt : {gs : Guards} {k : List Frame} → Leaf (atAlt gs k)
+  l-wait : {t : ℕ} {k : List Frame} → Leaf (atWait t k)
+  l-to-read : {x : Site} {k : List Frame} → Leaf (toRead x k)
+  l-has-read : {x : Site} {v : ℕ} {k : List Frame} → Leaf (hasRead x v k)
   l-finished : Leaf finished
 
 -- a leaf has no branches
@@ -378,6 +384,9 @@ leaf-sole l-input = refl
 leaf-sole l-output = refl
 leaf-sole l-stop = refl
 leaf-sole l-alt = refl
+leaf-sole l-wait = refl
+leaf-sole l-to-read = refl
+leaf-sole l-has-read = refl
 leaf-sole l-finished = refl
 
 -- a leaf is no PAR
@@ -387,6 +396,9 @@ leaf-par l-input e = never (cc)
 leaf-par l-output e = never (cc)
 leaf-par l-stop e = never (cc)
 leaf-par l-alt e = never (cc)
+leaf-par l-wait e = never (cc)
+leaf-par l-to-read e = never (cc)
+leaf-par l-has-read e = never (cc)
 leaf-par l-finished e = never (cc)
 
 -- every process is a leaf or a PAR
@@ -401,6 +413,9 @@ form (atInput c x k) = leaf l-input
 form (atOutput c v k) = leaf l-output
 form (atStop k) = leaf l-stop
 form (atAlt gs k) = leaf l-alt
+form (atWait t k) = leaf l-wait
+form (toRead x k) = leaf l-to-read
+form (hasRead x v k) = leaf l-has-read
 form (inPar bs k) = par bs k refl
 form finished = leaf l-finished
 
@@ -421,6 +436,8 @@ mutual
   leaf-enter (IF ps) k l = l-before
   leaf-enter (WHILE e s) k l = l-before
   leaf-enter (ALT gs) k l = l-before
+  leaf-enter (TIME x) k l = l-to-read
+  leaf-enter (WAIT e) k l = l-before
 
   pub leaf-all : (ss : Stmts) (k : List Frame) {p : Process} → Leaf p → Leaf (enterAll ss k p)
   leaf-all noStmt k l = l
@@ -648,6 +665,8 @@ mutual
   live-enter (IF ps) k p l h g = h
   live-enter (WHILE e s) k p l h g = h
   live-enter (ALT gs) k p l h g = h
+  live-enter (TIME x) k p l h g = h
+  live-enter (WAIT e) k p l h g = h
 
   live-all : (ss : Stmts) (k : List Frame) (p : Process) (l : List Site) → ((x : Site) → List·Memᴰ x (liveIn k) → List·Memᴰ x l)
       → ((x : Site) → List·Memᴰ x (liveIn (framesOf p)) → List·Memᴰ x l) → (x : Site) → List·Memᴰ x (liveIn (framesOf (enterAll ss k p)))
@@ -667,36 +686,65 @@ pub live-begin : (s : Stmt) (k : List Frame) (l : List Site) → ((x : Site) →
     → List·Memᴰ x (liveIn (framesOf (begin s k))) → List·Memᴰ x l
 live-begin s k l h = live-enter s k (resume k) l h (live-resume k l h)
 
--- they are no outputs
+-- such a process begins a statement, is about to read the clock, or has finished
+pub data Entering : Process → Type 0 where
+  en-before : {s : Stmt} {k : List Frame} → Entering (before s k)
+  en-read : {x : Site} {k : List Frame} → Entering (toRead x k)
+  en-finished : Entering finished
+
 mutual
   unfolding enter enterAll
 
-  silent-enter : (s : Stmt) (k : List Frame) {p : Process} {c : Site} {v : ℕ} {f : List Frame} → p ≢ atOutput c v f
-      → enter s k p ≢ atOutput c v f
-  silent-enter SKIP k n e = never (cc)
-  silent-enter STOP k n e = never (cc)
-  silent-enter (assign x y) k n e = never (cc)
-  silent-enter (input d x) k n e = never (cc)
-  silent-enter (output d y) k n e = never (cc)
-  silent-enter (VAR q m s) k n e = never (cc)
-  silent-enter (CHAN q m s) k n e = never (cc)
-  silent-enter (SEQ ss) k n e = silent-all ss k n e
-  silent-enter (PAR q ss) k n e = never (cc)
-  silent-enter (IF ps) k n e = never (cc)
-  silent-enter (WHILE y s) k n e = never (cc)
-  silent-enter (ALT gs) k n e = never (cc)
+  enters : (s : Stmt) (k : List Frame) {p : Process} → Entering p → Entering (enter s k p)
+  enters SKIP k e = en-before
+  enters STOP k e = en-before
+  enters (assign x y) k e = en-before
+  enters (input d x) k e = en-before
+  enters (output d y) k e = en-before
+  enters (VAR q m s) k e = en-before
+  enters (CHAN q m s) k e = en-before
+  enters (SEQ ss) k e = enters-all ss k e
+  enters (PAR q ss) k e = en-before
+  enters (IF ps) k e = en-before
+  enters (WHILE y s) k e = en-before
+  enters (ALT gs) k e = en-before
+  enters (TIME x) k e = en-read
+  enters (WAIT x) k e = en-before
 
-  silent-all : (ss : Stmts) (k : List Frame) {p : Process} {c : Site} {v : ℕ} {f : List Frame} → p ≢ atOutput c v f
-      → enterAll ss k p ≢ atOutput c v f
-  silent-all noStmt k n e = n e
-  silent-all (stmt s ss) k n e = silent-enter s (inSeq ss ∷ k) (silent-all ss k n) e
+  enters-all : (ss : Stmts) (k : List Frame) {p : Process} → Entering p → Entering (enterAll ss k p)
+  enters-all noStmt k e = e
+  enters-all (stmt s ss) k e = enters s (inSeq ss ∷ k) (enters-all ss k e)
+
+resumes : (k : List Frame) → Entering (resume k)
+unfolding resume
+resumes [] = en-finished
+resumes (inSeq ss ∷ k) = enters-all ss k (resumes k)
+resumes (inVar xs ∷ k) = resumes k
+resumes (inWhile x s ∷ k) = en-before
+
+-- so it is at no output
+entering-silent : {p : Process} {c : Site} {v : ℕ} {f : List Frame} → Entering p → p ≢ atOutput c v f
+entering-silent en-before e = never (cc)
+entering-silent en-read e = never (cc)
+entering-silent en-finished e = never (cc)
 
 pub silent-resume : (k : List Frame) {c : Site} {v : ℕ} {f : List Frame} → resume k ≢ atOutput c v f
-unfolding resume
-silent-resume [] e = never (cc)
-silent-resume (inSeq ss ∷ k) e = silent-all ss k (silent-resume k) e
-silent-resume (inVar xs ∷ k) e = silent-resume k e
-silent-resume (inWhile x s ∷ k) e = never (cc)
+silent-resume k e = entering-silent (resumes k) e
 
 pub silent-begin : (s : Stmt) (k : List Frame) {c : Site} {v : ℕ} {f : List Frame} → begin s k ≢ atOutput c v f
-silent-begin s k e = silent-enter s k (silent-resume k) e
+silent-begin s k e = entering-silent (enters s k (resumes k)) e
+
+-- a process that does not wait for the clock
+abbrev pub Awake : Process → Type 0
+Awake q = (t : ℕ) (k : List Frame) → q ≢ atWait t k
+
+entering-awake : {p : Process} → Entering p → Awake p
+entering-awake en-before t k e = never (cc)
+entering-awake en-read t k e = never (cc)
+entering-awake en-finished t k e = never (cc)
+
+pub awake-resume : (k : List Frame) → Awake (resume k)
+awake-resume k = entering-awake (resumes k)
+
+pub awake-begin : (s : Stmt) (k : List Frame) → Awake (begin s k)
+awake-begin s k = entering-awake (enters s k (resumes k))

@@ -30,8 +30,7 @@ use Rattle.model.proofs.Invariant.Stays.{ready-stays, disabling-stays}
 use Rattle.model.proofs.Effects.OneWord.{cpuOf}
 use Rattle.model.proofs.Effects.Queues.{apart-none}
 use Rattle.model.proofs.Quiet.PathEnds.{Moving, begins, alters, ends, alt-kind, alt-moving}
-use Rattle.model.proofs.Invariant.Kernel.{Loaded, S, root, LeafAt, Rest, Lined, Real}
-use Rattle.model.proofs.Invariant.Writes.{part-small, sits-at}
+use Rattle.model.proofs.Invariant.Kernel.{Loaded, S, root, LeafAt, Rest, Lined, Real, part-small, sits-at}
 use Rattle.model.proofs.Invariant.Grounds.{small-size}
 use Rattle.model.proofs.Invariant.Running.{Only, Nobody, StartsLeft, Later, l-here, l-next, NotStarted, not-started, Starting, Here}
 use Rattle.model.proofs.Invariant.Running.{ToStart, Now, now-goes, now-alt, NowStarts, Inv, runs, starts, idle}
@@ -373,13 +372,17 @@ module _ (L : Loaded) where
               silent-begin r [] (some-same (sym (now .all-to-start n r _ _ h .leaf .found) ∙ ap (λ z. look z (st .process)) (sym p) ∙ e))
         ]
 
+  -- nobody is queued
+  pub none-lined : {st : State} {t : Tree (S L) (root L) (st .process)} {Out : List ℕ → Type 0} → Lined L st t Out []
+  none-lined = record { each = λ w m. absurd (List·Memᴰ·not-nil m); once = apart-none }
+
   pub idle-ground : {s : World} {st : State} {μ : Mem} {t : Tree (S L) (root L) (st .process)} → Real L s st μ [] → cpuOf s .running ≡ false
       → cpuOf s .operand ≡ 0 → Rest L st μ t Nobody [] → Ground s st μ t Nobody []
   idle-ground real stop operand rest =
       record {
         real = real;
         rest = rest;
-        lined = record { each = λ w m. absurd (List·Memᴰ·not-nil m); once = apart-none };
+        lined = none-lined;
         known = λ other. inr (λ o. o);
         silent = λ other c v k e o. o;
         marks = λ other p a j k o c m n. absurd o;

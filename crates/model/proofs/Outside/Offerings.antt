@@ -123,6 +123,7 @@ module _ (L : Loaded) where
         offers = λ n h. offer-same L (st .store) (st .process) (r .offers n h) (e n);
         beyond = λ n h. sym (e n) ∙ r .beyond n h;
         timed = r .timed;
+        front = r .front;
       }
 
   -- and where one is held
@@ -139,6 +140,7 @@ module _ (L : Loaded) where
         offers = λ n l. by n (ℕ-discrete n k) (r .offers n l);
         beyond = λ n l. rw (ne-eqb n k (λ e. absurd (omega arith))) (r .beyond n l);
         timed = r .timed;
+        front = r .front;
       }
     where
       by : (n : ℕ) → Dec (n ≡ k) → Offer L s st n → Offer L (holding k v s) (changed (st .store) (withOffer k v (st .offers)) st) n

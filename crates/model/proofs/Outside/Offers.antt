@@ -34,14 +34,13 @@ use Rattle.model.proofs.Invariant.Leaves.{member, Unmarked, Resumes, Wa
 use Rattle.model.proofs.Invariant.Stays.{Intact, intact-trans}
 use Rattle.model.proofs.Effects.OneWord.{cpuOf, stored}
 use Rattle.model.proofs.Effects.Acts.{notify-waiting, notify-other}
-use Rattle.model.proofs.Invariant.Kernel.{Loaded, S, root, size, LeafAt, Rest, Lined, Real}
-use Rattle.model.proofs.Invariant.Writes.{changed, after-leaf, after-lined, node, apart-parts, own-one, part-small, sits-at}
-use Rattle.model.proofs.Invariant.Writes.{write-var, change-offers}
+use Rattle.model.proofs.Invariant.Kernel.{Loaded, S, root, size, LeafAt, Rest, Lined, Real, node, part-small, sits-at}
+use Rattle.model.proofs.Invariant.Writes.{changed, after-leaf, after-lined, apart-parts, own-one, write-var, change-offers}
 use Rattle.model.proofs.Invariant.Puts.{putting}
 use Rattle.model.proofs.Invariant.Grounds.{var-in, small-size}
 use Rattle.model.proofs.Invariant.Traces.{Trace, t-none, t-step, t-event}
 use Rattle.model.proofs.Invariant.Running.{Only, Here, Now, now-goes, now-alt, Inv, runs, starts, idle}
-use Rattle.model.proofs.Invariant.Moving.{same-leaf, rest-in, rest-out, lined-out}
+use Rattle.model.proofs.Invariant.Moving.{same-leaf, rest-in, lined-out, rest-with}
 use Rattle.model.proofs.Invariant.Reals.{size-is, mirrored, real-state, real-stored, link-any, link-var, link-chan}
 use Rattle.model.proofs.Steps.Channels.{Holder, holds-input, holds-output, holds-wait, holds-woken, holds-out, holder, input-at}
 use Rattle.model.proofs.Steps.Meets.{not-own, clear-chan, var-above, chan-above, rest-below, real-below}
@@ -143,7 +142,7 @@ module _ (L : Loaded) {s : World} {st : State} {μ : Mem} {t : Tree (S L) (root 
     rest₁ : Rest L st₁ ν t (With Out other) ws
     rest₁ =
         rest-below L chooser₁ (inr refl) (sits-at L chooser .placed) (stateWord (j .w)) ready (t-low .0) (t-low .1)
-        (change-offers L (withOffer k v (st .offers)) (rest-out L (λ here o. inl o) (G .rest)) (λ path r b i x n. (
+        (change-offers L (withOffer k v (st .offers)) (rest-with L chooser (λ t f e. never (cc)) (G .rest)) (λ path r b i x n. (
           (λ y m g. more-senders st k v g),
           (λ y m z o g. fewer-senders st k v (λ e. own-one L (apart-parts L chooser x (λ q. n (inr q))) own-chooser
               (subst (λ z. Own b (μ (S L .word z))) e o)) g),
@@ -205,7 +204,7 @@ module _ (L : Loaded) {s : World} {st : State} {μ : Mem} {t : Tree (S L) (root 
         → μ (stateWord (j .w)) ≡ waiting → μ (j .w) ≡ noneSelected → Marked (S L) d st (j .vars) (j .chans) gs μ (j .w) → Goal
     did-wake guarded unqueued r state chosen marks =
         let lines = after-lined L (lined-out L chooser unqueued (λ y q. ⊎-elim (λ p. inr p) (λ p. inl p) q) (G .lined)) in
-        let held : Held (S L) d j st₁ ν true (atAlt gs l) =
+        let held : Held (S L) (L .sleeps) d j st₁ ν true (atAlt gs l) =
         h-woken a (resumes₁ r) (upd-same μ (stateWord (j .w)) ready)
         (record {
           marks = marked₁ marks;
@@ -220,7 +219,7 @@ module _ (L : Loaded) {s : World} {st : State} {μ : Mem} {t : Tree (S L) (root 
     did-tell : member (j .w) ws ≡ true → Resumes (S L) d j st μ (to + 2 + sizeEnable gs + 1) far → μ (stateWord (j .w)) ≡ ready
         → Disabling (S L) d st (j .vars) (j .chans) l gs gs (a .choice) μ (j .w) → Goal
     did-tell queued r state dis =
-        let held : Held (S L) d j st₁ ν true (atAlt gs l) =
+        let held : Held (S L) (L .sleeps) d j st₁ ν true (atAlt gs l) =
         h-woken a (resumes₁ r) (upd-same μ (stateWord (j .w)) ready)
         (record {
           marks = marked₁ (dis .marks);
@@ -228,8 +227,8 @@ module _ (L : Loaded) {s : World} {st : State} {μ : Mem} {t : Tree (S L) (root 
           chosen = ⊎-elim (λ y. let (n, q, g, x) = y in inl (n, q, picks-more (λ y. more-senders st k v) refl g, base-word ∙ x))
               (λ y. inr (base-word ∙ y .0, ready-more (λ y. more-senders st k v) refl (y .1))) (dis .chosen);
         }) in
-        let rest₂ = rest-in L {Out′ = Out} chooser₁ (subst (λ y. Held (S L) d j st₁ ν y (atAlt gs l)) (sym queued) held)
-        (λ y n q. ⊎-elim (λ o. o) (λ e. absurd (n e)) q) rest₁ in
+        let rest₂ = rest-in L {Out′ = Out} chooser₁ (subst (λ y. Held (S L) (L .sleeps) d j st₁ ν y (atAlt gs l)) (sym queued) held)
+        (λ y n q. ⊎-elim (λ o. o) (λ e. absurd (n e)) q) (λ y o. inl o) (λ t f e. never (cc)) rest₁ in
         let inv = G .stays s₁ st₁ ν t ws same-regs keeps idle-empty real₁ rest₂ (after-lined L (G .lined)) in
         answers s₁ (Demand.outside (offers k v Offered) [] st₁ ∷ [])
         (tells state refl s₁
@@ -283,7 +282,8 @@ module _ (L : Loaded) {s : World} {st : State} {μ : Mem} {t : Tree (S L) (root 
     rest₃ =
         change-offers L (passedOffer k v (st .offers))
         (clear-chan L receiver₂ (inr refl)
-        (write-var L receiver (rest-out L (λ here o. inl o) (G .rest)) x v (target .0) (target .1) small (inr refl)) c (waits .scope)
+        (write-var L receiver (rest-with L receiver (λ t f e. never (cc)) (G .rest)) x v (target .0) (target .1) small (inr refl)) c
+        (waits .scope)
         (inr own-then))
         (λ path r b i y n. ((λ a m g. same-senders {st = st₂} same-offers g), (λ a m z o g. senders-same {st = st₂} same-offers g)))
 

@@ -28,13 +28,13 @@ use Rattle.model.proofs.Invariant.Trees.{Info, Tree, bytesLeft}
 use Rattle.model.proofs.Invariant.Leaves.{member, Unmarked, Waits}
 use Rattle.model.proofs.Effects.OneWord.{cpuOf, sizeOf, stored, poke-in}
 use Rattle.model.proofs.Effects.Acts.{when-true, when-false, peek-at}
-use Rattle.model.proofs.Invariant.Kernel.{Loaded, S, root, size, LeafAt, Rest, Lined, Real}
-use Rattle.model.proofs.Invariant.Writes.{apart-parts, own-one, part-small, sits-at}
+use Rattle.model.proofs.Invariant.Kernel.{Loaded, S, root, size, LeafAt, Rest, Lined, Real, part-small, sits-at}
+use Rattle.model.proofs.Invariant.Writes.{apart-parts, own-one}
 use Rattle.model.proofs.Invariant.Puts.{putting}
 use Rattle.model.proofs.Invariant.Grounds.{small-size}
 use Rattle.model.proofs.Invariant.Traces.{t-none, t-event}
 use Rattle.model.proofs.Invariant.Running.{Inv, runs, starts, idle}
-use Rattle.model.proofs.Invariant.Moving.{rest-out, lined-out}
+use Rattle.model.proofs.Invariant.Moving.{lined-out, rest-with}
 use Rattle.model.proofs.Invariant.Reals.{size-is, mirrored, real-stored, link-chan}
 use Rattle.model.proofs.Steps.Channels.{Holder, holds-input, holds-output, holds-wait, holds-woken, holds-out, holder, Sends, sends}
 use Rattle.model.proofs.Steps.Channels.{sender-at, output-at}
@@ -134,7 +134,7 @@ module _ (L : Loaded) {s : World} {st : State} {μ : Mem} {t : Tree (S L) (root 
     lines = lined-out L sender unqueued (λ here o. ⊎-elim (λ o. inr o) (λ e. inl e) o) (G .lined)
 
     rest : Rest L st ν t (With Out other) ws
-    rest = clear-chan L sender (inr refl) (rest-out L (λ here o. inl o) (G .rest)) c (waits .scope) (inr own-sender)
+    rest = clear-chan L sender (inr refl) (rest-with L sender (λ t f e. never (cc)) (G .rest)) c (waits .scope) (inr own-sender)
 
     real : Real L (stored (S L .word c) notProcess s) st ν ws
     real = real-stored L (S L .word c) notProcess c-in (link-chan L lines sender (inr refl) c (waits .scope)) (G .real)

@@ -33,10 +33,9 @@ use Rattle.model.proofs.Invariant.Leaves.{Unmarked, Waits, Held}
 use Rattle.model.proofs.Invariant.Stays.{Intact, intact-trans}
 use Rattle.model.proofs.Effects.OneWord.{cpuOf}
 use Rattle.model.proofs.Effects.Acts.{when-true, when-false, testPlace-in}
-use Rattle.model.proofs.Effects.Queues.{joined, released, join-queue-free, free-queue}
-use Rattle.model.proofs.Invariant.Kernel.{Loaded, S, root, size, LeafAt, Owned, Rest, Lined, Real}
-use Rattle.model.proofs.Invariant.Writes.{changed, stateWith, node, apart-zones, apart-parts, part-small, sits-at, sender-stored}
-use Rattle.model.proofs.Invariant.Writes.{sender-kept}
+use Rattle.model.proofs.Effects.Queues.{joined, released, join-queue, join-queue-free, free-queue}
+use Rattle.model.proofs.Invariant.Kernel.{Loaded, S, root, size, LeafAt, Owned, Rest, Lined, Real, node, part-small, sits-at}
+use Rattle.model.proofs.Invariant.Writes.{changed, stateWith, apart-zones, apart-parts, sender-stored, sender-kept}
 use Rattle.model.proofs.Invariant.Puts.{putting, treeThen, here-then, other-then, lined-then, rest-then, moved, sender-then}
 use Rattle.model.proofs.Invariant.Puts.{sender-before}
 use Rattle.model.proofs.Invariant.Grounds.{chan-in, small-size, sound-at, code-end}
@@ -199,11 +198,11 @@ module _ (L : Loaded) where
       {other : List ℕ} {r : Process} {d : Part} {j : Info} (real : Real L s st μ ws) (rest : Rest L st μ t (With Out other) ws)
       (lines : Lined L st t (With Out other) ws) (leaf : LeafAt L st t other r d j) (strange : Out other → ⊥)
       (keeps : Keeps L st₀ st μ₀ μ t₀ t Out) where
-    joins-back : cpuOf s₀ .running ≡ true → Held (S L) d j st μ true r → Joins (j .w) s st (bytesLeft (S L) t)
+    joins-back : cpuOf s₀ .running ≡ true → Held (S L) (L .sleeps) d j st μ true r → Joins (j .w) s st (bytesLeft (S L) t)
     joins-back run held =
         let woken = wakes L {Out′ = Out} real rest lines leaf (inr refl) held (λ here n o. ⊎-elim (λ x. x) (λ e. absurd (n e)) o)
-        (λ here o. inl o) strange (same-regs .run ∙ run) in
-        joins (joined (j .w) ws s) [] (woken .joins) refl t-none
+        (λ here o. inl o) strange in
+        joins (joined (j .w) ws s) [] (join-queue (j .w) s (same-regs .run ∙ run) (woken .enqueued)) refl t-none
         (G .stays (joined (j .w) ws s) st (linkedTo L (j .w) ws μ) t (ws ++ j .w ∷ [])
         (record { run = same-regs .run; place = same-regs .place; operand = same-regs .operand; regs = same-regs .regs })
         (λ path q b i k o. let (k′, intact) = keeps path q b i k o in (k′, intact-trans intact (woken .intact k′ o)))
@@ -226,13 +225,13 @@ module _ (L : Loaded) where
       free-real = real-queue L (cpuOf taken) (free-queue (j .w) s) real
 
       free-rest : Rest L st μ t (Only other) []
-      free-rest = subst (λ l. Rest L st μ t (Only other) l) (F .unqueued) (rest-out L only rest)
+      free-rest = subst (λ l. Rest L st μ t (Only other) l) (F .unqueued) (rest-out L only (λ here tm k b i l n e. n (inr e)) rest)
 
       free-lines : Lined L st t (Only other) []
       free-lines = subst (λ l. Lined L st t (Only other) l) (F .unqueued) (lined-in L (λ here e. inr e) lines)
 
       -- it gets the processor
-      joins-free : Held (S L) d j st μ true r → Joins (j .w) s st (bytesLeft (S L) t)
+      joins-free : Held (S L) (L .sleeps) d j st μ true r → Joins (j .w) s st (bytesLeft (S L) t)
       joins-free held =
           let given : Given L taken μ (j .w) = record {
             run = refl;
@@ -242,7 +241,7 @@ module _ (L : Loaded) where
           } in
           elim (gets L given free-real free-rest free-lines leaf held) [ got g ms inv ↦ joins taken g join-is refl ms inv ]
 
-    pub goes-on : Held (S L) d j st μ true r → Joins (j .w) s st (bytesLeft (S L) t)
+    pub goes-on : Held (S L) (L .sleeps) d j st μ true r → Joins (j .w) s st (bytesLeft (S L) t)
     goes-on held = ⊎-elim (λ run. joins-back run held) (λ F. joins-free F held) (G .free)
 
     -- it waited at a channel, whose word is another now: it goes on behind its input or output

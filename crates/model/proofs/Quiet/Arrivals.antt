@@ -14,7 +14,7 @@ use Rattle.model.specs.Word.{low, less, minus, notProcess}
 use Rattle.model.specs.Code.{functionIn, operandIn}
 use Rattle.model.specs.Counts.{need}
 use Rattle.model.specs.Syntax.{Site, Expr, Stmt, SKIP, STOP, assign, input, output, VAR, CHAN, SEQ, PAR, IF, WHILE, ALT, Stmts}
-use Rattle.model.specs.Syntax.{noStmt, stmt, Pairs, noPair, pair, Guards}
+use Rattle.model.specs.Syntax.{noStmt, stmt, Pairs, noPair, pair, Guards, TIME, WAIT}
 use Rattle.model.specs.Reader.{names}
 use Rattle.model.specs.Instruction.{ldc, ldlp, cj, ajw, stl, Instruction, plain, distance, operation}
 use Rattle.model.specs.Instruction as I
@@ -22,7 +22,7 @@ use Rattle.model.specs.Scheme.{initialise, howMany, wholeSize, size, siz
 use Rattle.model.specs.Scheme.{local, wholeCode, inputCode, code, codeAll, codePairs, codeStarts, codeEnds, codeEnable, codeDisable}
 use Rattle.model.specs.Scheme.{codeBranches}
 use Rattle.model.specs.Occam.{Store, eval, Frame, inWhile, Process, before, finished, framesOf, resume, begin, enter, enterAll}
-use Rattle.model.specs.Occam.{firstTrue}
+use Rattle.model.specs.Occam.{firstTrue, toRead}
 use Rattle.model.specs.Demand.{liveIn}
 use Rattle.model.proofs.Quiet.Ways.{Regs, Quiet, pushing, pointing, reversing, placing, moving, Mem, Way, arrived, through, quiet}
 use Rattle.model.proofs.Quiet.Ways.{jumps, falls, quiet-ldc, quiet-ajw, quiet-ldlp, quiet-rev, quiet-mint, quiet-ldpi}
@@ -38,7 +38,7 @@ use Rattle.model.proofs.Quiet.Continuations.{Placed, placed-down, Cont,
 use Rattle.model.proofs.Quiet.Continuations.{cont-inside, cont-low, cont-placed, cont-bound}
 use Rattle.model.proofs.Quiet.Marks.{Skips, Settled, s-none, s-skip, s-par, AltCode, Opening, ParCode, Spare, Clear, Point, pt-stop}
 use Rattle.model.proofs.Quiet.Marks.{pt-assign, pt-var, pt-chan, pt-taken, pt-none, pt-while, pt-in, pt-out, pt-par-place, pt-end}
-use Rattle.model.proofs.Quiet.Marks.{pt-alt}
+use Rattle.model.proofs.Quiet.Marks.{pt-alt, pt-read, pt-wait-for}
 
 -- two stretches of instructions, one behind the other
 pub seg-join : {xs ys zs : List Instruction} {i m i′ : ℕ} → Seg xs i ys m → Seg xs m zs i′ → Seg xs i (ys ++ zs) i′
@@ -404,6 +404,14 @@ module _ (S : Setting) (a : Part) where
         comes s-none tt (here c) (λ μ r q. through-expr c v (before (assign x e) k) e (f .1) g q (λ μ′ r′ val q′.
         arrived (onto r′ q′ (pt-assign y named f val (eval-word σ (v .values) e (f .1 .0)) c near-on)) (cont-bound S a c)))
 
+    wait-comes : (e : Expr) {hi i m i′ w : ℕ} {vars chans : List Site} {k : List Frame} → Seg (S .xs) i (wholeCode (S .word) w e) m
+        → Seg (S .xs) m (operation I.tin ∷ []) i′ → Fine (S .word) a vars chans w (WAIT e) → (c : Cont S a hi vars chans k i′ w)
+        → hi ≤ whole S + S .off i → Sound S a σ vars chans → Comes vars chans hi (before (WAIT e) k) i w
+    wait-comes e {hi} {i} {m} {k = k} g (at y nil) f c near v =
+        let near-on : hi ≤ whole S + S .off m = omega (arith, rises-le S i m (omega (arith, seg-length g)) (omega (arith, inside S y))) in
+        comes s-none tt (here c) (λ μ r q. through-expr c v (before (WAIT e) k) e (f .1) g q (λ μ′ r′ val q′.
+        arrived (onto r′ q′ (pt-wait-for y val (eval-word σ (v .values) e (f .1 .0)) f c near-on)) (cont-bound S a c)))
+
     input-comes : (d x : Site) {hi i i′ w : ℕ} {vars chans : List Site} {k : List Frame} → Seg (S .xs) i (inputCode (S .word) w d x) i′
         → Fine (S .word) a vars chans w (input d x) → (c : Cont S a hi vars chans k i′ w) → hi ≤ whole S + S .off i
         → Sound S a σ vars chans → Comes vars chans hi (before (input d x) k) i w
@@ -529,6 +537,19 @@ module _ (S : Setting) (a : Part) where
           (arrived (onto (moving (minus 1) r) down
           (subst (λ n. Point S a σ vars chans (before (ALT gs) k) hi μ n (setW (w - 1) (moving (minus 1) r))) one (pt-alt t′ same))) bound))
 
+      time-comes : (x : Site) → Seg (S .xs) i (code (S .word) w i (TIME x)) i′ → Fine (S .word) a vars chans w (TIME x)
+          → Comes vars chans hi (toRead x k) i w
+      unfolding code
+      time-comes x g f = by g c
+        where
+          by : {j : ℕ} → Seg (S .xs) i (operation I.ldtimer ∷ plain stl (local (S .word) w x) ∷ []) j → Cont S a hi vars chans k j w
+              → Comes vars chans hi (toRead x k) i w
+          by (at y (at z nil)) c′ =
+              let named : low (w + less (S .word x) w) ≡ S .word x = local-word w (S .word x) (wide c v) (v .vars-word x (f .0)) in
+              let same : hi ≤ hi = omega arith in
+              let bound : S .off (suc i) ≤ hi = omega (arith, cont-bound S a c′, up S z) in
+              comes s-none tt (here c′) (λ μ r q. arrived (onto r q (pt-read y z named f c′ same near)) bound)
+
     mutual
       unfolding enter enterAll code resume
 
@@ -555,6 +576,10 @@ module _ (S : Setting) (a : Part) where
       enters (IF ps) g f c near v rest = if-comes c near v ps g f
       enters (WHILE e s) g f c near v rest = while-comes c near v e s g f
       enters (ALT gs) g f c near v rest = alt-comes c near v gs g f
+      enters (TIME x) g f c near v rest = time-comes c near v x g f
+      enters (WAIT e) {i} {w} g f c near v rest =
+          let (g₁, g₂) = cut (wholeCode (S .word) w e) (i + wholeSize e) (omega (arith, whole-length (S .word) w e)) g in
+          wait-comes e g₁ g₂ f c near v
 
       pub enters-all : (ss : Stmts) {hi i i′ w : ℕ} {vars chans : List Site} {k : List Frame} → Seg (S .xs) i (codeAll (S .word) w i ss) i′
           → FineAll (S .word) a vars chans w ss

@@ -6,7 +6,7 @@ use mathlib.Core.Bool.{true, false}
 use mathlib.Core.List.{List, _∷_, _++_, List·Memᴰ}
 use Rattle.model.specs.Word.{low, less, notProcess}
 use Rattle.model.specs.Syntax.{Site, Expr, Stmt, SKIP, STOP, assign, input, output, VAR, CHAN, SEQ, PAR, IF, WHILE, ALT, Stmts}
-use Rattle.model.specs.Syntax.{noStmt, stmt, Pairs, Guard, inputGuard, skipGuard, Guards, noGuard, guard}
+use Rattle.model.specs.Syntax.{noStmt, stmt, Pairs, Guard, inputGuard, skipGuard, Guards, noGuard, guard, TIME, WAIT}
 use Rattle.model.specs.Reader.{names}
 use Rattle.model.specs.Counts.{need, sumNeed}
 use Rattle.model.specs.Instruction.{ldc, ldlp, cj, ajw, stl, Instruction, plain, distance, operation}
@@ -17,12 +17,12 @@ use Rattle.model.specs.Code.{operandIn}
 use Rattle.model.specs.Alternative.{enabling, ready, noneSelected}
 use Rattle.model.specs.Machine.{stateWord, nameOf, spaceOf}
 use Rattle.model.specs.Occam.{Store, eval, isTrue, Frame, inWhile, Process, before, atInput, atOutput, atStop, atAlt, inPar, finished}
-use Rattle.model.specs.Occam.{resume, begin, firstTrue, State, Sender, branchOf, Ready}
+use Rattle.model.specs.Occam.{resume, begin, firstTrue, State, Sender, branchOf, Ready, toRead, hasRead, atWait}
 use Rattle.model.proofs.Quiet.Names.{name-back}
 use Rattle.model.proofs.Quiet.Ways.{Regs, Mem}
 use Rattle.model.proofs.Quiet.Stretches.{Seg}
 use Rattle.model.proofs.Quiet.Setting.{Setting, whole, At}
-use Rattle.model.proofs.Words.Parts.{Part, joins, Words, FineWhole, Fine, FinePairs, FineBranches}
+use Rattle.model.proofs.Words.Parts.{Part, joins, Words, FineWhole, Fine, FinePairs, FineBranches, Target}
 use Rattle.model.proofs.Quiet.Continuations.{Placed, Cont}
 
 -- a guard of a list is ready
@@ -82,14 +82,19 @@ Coded (PAR p (stmt s ss)) = Unit {0}
 Coded (IF ps) = Unit {0}
 Coded (WHILE e s) = Unit {0}
 Coded (ALT gs) = Unit {0}
+Coded (TIME x) = Unit {0}
+Coded (WAIT e) = Unit {0}
 
--- a process that begins a statement with code, or has finished
+-- a process that begins a statement with code, is about to read the clock or has read it, or has finished
 abbrev pub Settled : Process → Type 0
 Settled (before s k) = Coded s
 Settled (atInput c x k) = ⊥
 Settled (atOutput c v k) = ⊥
 Settled (atStop k) = ⊥
 Settled (atAlt gs k) = ⊥
+Settled (atWait t k) = ⊥
+Settled (toRead x k) = Unit {0}
+Settled (hasRead x v k) = Unit {0}
 Settled (inPar bs k) = ⊥
 Settled finished = Unit {0}
 
@@ -200,6 +205,17 @@ module _ (S : Setting) (a : Part) where
       -- a branch's end
       pt-end : {d : ℕ} {up : ℕ} {μ : Mem} {i : ℕ} {r : Regs} → a .ending ≡ joins d → At S i (operation I.endp) → r .a ≡ a .top + d
           → r .w ≡ a .top → Point finished up μ i r
+      -- TIME: LDTIMER, and the STL of what was read
+      pt-read : {x : Site} {k : List Frame} {up : ℕ} {μ : Mem} {i o hi : ℕ} {r : Regs} → At S i (operation I.ldtimer)
+          → At S (suc i) (plain stl o) → low (r .w + o) ≡ S .word x → Target a vars x → Cont S a hi vars chans k (suc (suc i)) (r .w)
+          → hi ≤ up → hi ≤ whole S + S .off i → Point (toRead x k) up μ i r
+      pt-store : {x : Site} {v : ℕ} {k : List Frame} {up : ℕ} {μ : Mem} {i o hi : ℕ} {r : Regs} → At S i (plain stl o)
+          → low (r .w + o) ≡ S .word x → Target a vars x → r .a ≡ v → v < 2 ^ 32 → Cont S a hi vars chans k (suc i) (r .w)
+          → hi ≤ whole S + S .off i → Point (hasRead x v k) up μ i r
+      -- WAIT: TIN
+      pt-wait-for : {e : Expr} {k : List Frame} {up : ℕ} {μ : Mem} {i hi : ℕ} {r : Regs} → At S i (operation I.tin) → r .a ≡ eval σ e
+          → eval σ e < 2 ^ 32 → Fine (S .word) a vars chans (r .w) (WAIT e) → Cont S a hi vars chans k (suc i) (r .w)
+          → hi ≤ whole S + S .off i → Point (before (WAIT e) k) up μ i r
       -- an ALT
       pt-alt : {gs : Guards} {k : List Frame} {up : ℕ} {μ : Mem} {i hi : ℕ} {r : Regs} → AltCode gs vars chans k hi i (r .w + 1) → hi ≤ up
           → Point (before (ALT gs) k) up μ (i + 1) r

@@ -13,7 +13,7 @@ use Rattle.model.proofs.Words.Parts.{Part}
 use Rattle.model.proofs.Quiet.Onwards.{AltAt, AltGoes, alt-goes}
 use Rattle.model.proofs.Quiet.Marks.{Enables, e-input, e-skip, Disables, d-input, d-skip, AltPoint, pt-enable, pt-wait, pt-disable}
 use Rattle.model.proofs.Quiet.Marks.{pt-choose, Point, pt-stop, pt-assign, pt-var, pt-chan, pt-taken, pt-none, pt-while, pt-in}
-use Rattle.model.proofs.Quiet.Marks.{pt-out, pt-par-place, pt-par-count, pt-end, pt-alt, StartPoint}
+use Rattle.model.proofs.Quiet.Marks.{pt-out, pt-par-place, pt-par-count, pt-end, pt-alt, StartPoint, pt-read, pt-store, pt-wait-for}
 
 -- a process that begins a statement, is at an ALT, or has finished
 pub data Moving : Process → Type 0 where
@@ -86,6 +86,9 @@ module _ (S : Setting) where
     point-in h μ i r (pt-par-place x y z c v l) = inside S x
     point-in h μ i r (pt-par-count x v c m) = inside S x
     point-in h μ i r (pt-end e x v w) = inside S x
+    point-in h μ i r (pt-wait-for x v small f c n) = inside S x
+    point-in h μ i r (pt-read x y w f c l n) = inside S x
+    point-in h μ i r (pt-store x w f v small c n) = inside S x
     point-in h μ i r (pt-alt c l) = inside S (c .begins)
 
     enables-in : {st : State} {vars chans : List Site} {gs : Guards} {i j : ℕ} {r : Regs} → Enables S a st vars chans gs i r j

@@ -1,7 +1,7 @@
 -- Quiet paths. Between two significant instructions a process only loads, computes in its registers, stores values in spare words of its
 -- own, moves its workspace and jumps. A path says that from an instruction, with some registers, the next significant instruction is
 -- reached, and in how many bytes. It reads the variables in scope and its spare words, so it stays as it is whatever happens elsewhere.
-use Prim.Native.Nat.{ℕ, suc, _+_, _*_, _≤_}
+use Prim.Native.Nat.{ℕ, suc, _+_, _*_, _^_, _≤_}
 use mathlib.Core.Path.{_≡_, refl, sym, subst}
 use mathlib.Core.Logic.{_≢_}
 use mathlib.Core.Bool.{cond}
@@ -127,6 +127,10 @@ quiet-ldpi s e = rw (← e)
 -- what a memory holds at each word
 abbrev pub Mem : Type 0
 Mem = ℕ → ℕ
+
+-- the front of the timer queue is shown as a word beyond every memory
+abbrev pub frontWord : ℕ
+frontWord = 2 ^ 32
 
 -- a memory in which one word is another
 abbrev pub upd : Mem → (v z : ℕ) → Mem

@@ -3,16 +3,16 @@ use Prim.Native.Nat.{ℕ, _+_, _^_, _≤_, _<_}
 use native.Mathlib.Omega.{arith}
 use mathlib.Core.Path.{_≡_, refl, sym, subst}
 use mathlib.Core.Logic.{_⊎_}
-use mathlib.Core.List.{List, _++_, map, List·Memᴰ}
+use mathlib.Core.List.{List, _++_, map, List·Memᴰ, []}
 use Rattle.model.specs.Word.{notProcess}
 use Rattle.model.specs.Syntax.{Site}
 use mathlib.Core.Bool.{false}
 use Rattle.model.specs.Machine.{World, done, release}
-use Rattle.model.specs.Occam.{Frame, Process, atOutput, framesOf, put, State, Communication, Step}
+use Rattle.model.specs.Occam.{Frame, Process, atOutput, framesOf, put, State, Step}
 use Rattle.model.specs.Demand.{liveIn, talkOf}
 use Rattle.model.proofs.Quiet.Ways.{Mem}
 use Rattle.model.proofs.Quiet.Setting.{whole}
-use Rattle.model.proofs.Occam.Paths.{Leaf}
+use Rattle.model.proofs.Occam.Paths.{Leaf, Awake}
 use Rattle.model.proofs.Words.Parts.{Part, Within}
 use Rattle.model.proofs.Quiet.Continuations.{Placed}
 use Rattle.model.proofs.Quiet.Arrivals.{Comes}
@@ -48,8 +48,8 @@ module _ (L : Loaded) {u : World} {st : State} {ν : Mem} {t : Tree (S L) (root 
         (λ c v k e other r d z y n m. no-sender c v k e) (λ c v k e other r d z y n m h o. silent c v k e)
 
     -- by a step, to where its code leads it
-    pub advances : {did : World → Type 0} {s : World} {st₀ : State} {cs : List Communication} {nx hi n₀ : ℕ}
-        → Step st₀ cs (putting path p st) → did u → u .talk ≡ s .talk ++ map (talkOf (L .prog)) cs → Stands L u j nx
+    pub advances : {did : World → Type 0} {s : World} {st₀ : State} {nx hi n₀ : ℕ}
+        → Step st₀ [] (putting path p st) → did u → u .talk ≡ s .talk ++ map (talkOf (L .prog)) [] → Stands L u j nx
         → Comes (S L) b (st .store) (j .vars) (j .chans) hi p nx (j .w) → Unmarked (S L) b j st ν → hi ≤ whole (S L) + L .off nx
         → Did L did s st₀ n₀
     advances one ran talk stands code unmarked near =
@@ -62,16 +62,16 @@ module _ (L : Loaded) {u : World} {st : State} {ν : Mem} {t : Tree (S L) (root 
     {i : Info} {ws : List ℕ} (real : Real L u st ν ws) (leaf : LeafAt L st t path q b i) (lines : Lined L st t (Only path) ws)
     (p : Process) (l : Leaf p) (j : Info) (sits : Sits (S L) b j)
     (rest : Rest L (putting path p st) ν (treeThen L leaf p l j sits) (Only path) ws) where
-  pub leaves-as : {did : World → Type 0} {s : World} {st₀ : State} {cs : List Communication} {n₀ : ℕ}
-      → Held (S L) b j (putting path p st) ν false p → cpuOf u .operand ≡ 0 → Step st₀ cs (putting path p st)
-      → ((v : World) → release u ≡ done tt v → v .machine .setup ≡ setup L → did v) → u .talk ≡ s .talk ++ map (talkOf (L .prog)) cs
+  pub leaves-as : {did : World → Type 0} {s : World} {st₀ : State} {n₀ : ℕ} → Awake p
+      → Held (S L) (L .sleeps) b j (putting path p st) ν false p → cpuOf u .operand ≡ 0 → Step st₀ [] (putting path p st)
+      → ((v : World) → release u ≡ done tt v → v .machine .setup ≡ setup L → did v) → u .talk ≡ s .talk ++ map (talkOf (L .prog)) []
       → Did L did s st₀ n₀
-  leaves-as held operand one ran talk =
+  leaves-as awake held operand one ran talk =
       let here = here-then L leaf p l j sits in
       let lined = lined-then L leaf p l j sits refl lines in
       let unheld = unqueued L {Out = Only path} here refl lined in
       step-lets-go L one ran talk
       (lets-go L operand (real-state L (put path p (st .process)) (st .store) real)
-      (rest-in L {Out′ = Nobody} here (subst (λ f. Held (S L) b j (putting path p st) ν f p) (sym unheld) held)
-      (λ other d e. absurd (d e)) rest)
+      (rest-in L {Out′ = Nobody} here (subst (λ f. Held (S L) (L .sleeps) b j (putting path p st) ν f p) (sym unheld) held)
+      (λ other d e. absurd (d e)) (λ other o. absurd o) awake rest)
       (lined-in L (λ other o. absurd o) lined))

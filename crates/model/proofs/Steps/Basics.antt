@@ -4,19 +4,19 @@ use native.Mathlib.Omega.{arith}
 use mathlib.Core.Path.{_≡_, refl, sym, ap, _∙_, subst}
 use mathlib.Core.Logic.{_≢_}
 use mathlib.Core.Bool.{true}
-use mathlib.Core.List.{List, _∷_, List·Memᴰ}
+use mathlib.Core.List.{List, _∷_, List·Memᴰ, []}
 use lib.ListN.{length}
 use lib.Dec.{eqb}
 use borrow.Author.Tests.{eqb-true, eqb-false}
 use Rattle.model.specs.Word.{low, less}
-use Rattle.model.specs.Syntax.{Site, Expr, Stmt, STOP, assign, IF, WHILE, Pairs}
+use Rattle.model.specs.Syntax.{Site, Expr, Stmt, STOP, IF, WHILE, Pairs}
 use Rattle.model.specs.Instruction.{Instruction, plain, distance, operation}
 use Rattle.model.specs.Instruction as I
 use Rattle.model.specs.Code.{functionIn, operandIn}
 use Rattle.model.specs.Scheme.{code}
 use Rattle.model.specs.Machine.{World, withCpu, goto, resumeWord, pop}
 use Rattle.model.specs.Occam.{eval, store, Frame, inWhile, Process, before, atStop, resume, begin, moved, go, firstTrue, framesOf}
-use Rattle.model.specs.Occam.{State, begins}
+use Rattle.model.specs.Occam.{State, Step}
 use Rattle.model.specs.Demand.{liveIn}
 use Rattle.model.proofs.Cases.{never, by-bool}
 use Rattle.model.proofs.Quiet.Ways.{upd-other, upd, Mem}
@@ -24,7 +24,7 @@ use Rattle.model.proofs.Quiet.Stretches.{Seg, seg-length}
 use Rattle.model.proofs.Quiet.Setting.{whole}
 use Rattle.model.proofs.Quiet.CodeParts.{inside, rises-le}
 use Rattle.model.proofs.Occam.Paths.{Leaf, l-stop, leaf-resume, leaf-begin, live-resume, live-begin, silent-resume, silent-begin}
-use Rattle.model.proofs.Words.Parts.{Part, Fine}
+use Rattle.model.proofs.Words.Parts.{Part, Fine, Target, Within}
 use Rattle.model.proofs.Quiet.Continuations.{Placed, Cont, cont-inside, cont-placed}
 use Rattle.model.proofs.Quiet.Marks.{Own}
 use Rattle.model.proofs.Quiet.Arrivals.{Comes, enters, arrives}
@@ -32,9 +32,9 @@ use Rattle.model.proofs.Invariant.Trees.{Info, Sits, Tree, bytesLeft}
 use Rattle.model.proofs.Invariant.Leaves.{Unmarked, h-stop}
 use Rattle.model.proofs.Effects.OneWord.{cpuOf, stored, exec-stl, exec-cj-jumps, exec-cj-goes-on}
 use Rattle.model.proofs.Effects.Acts.{exec-stopp-general}
-use Rattle.model.proofs.Invariant.Kernel.{Loaded, S, root, size, LeafAt, Rest, Real}
-use Rattle.model.proofs.Invariant.Writes.{changed, after-leaf, after-lined, node, part-small, write-own, write-var, left-out}
-use Rattle.model.proofs.Invariant.Puts.{rest-then}
+use Rattle.model.proofs.Invariant.Kernel.{Loaded, S, root, size, LeafAt, Rest, Real, node, part-small}
+use Rattle.model.proofs.Invariant.Writes.{changed, after-leaf, after-lined, write-own, write-var, left-out}
+use Rattle.model.proofs.Invariant.Puts.{rest-then, putting}
 use Rattle.model.proofs.Invariant.Traces.{begins-as}
 use Rattle.model.proofs.Invariant.Grounds.{var-in, small-size, sound-at}
 use Rattle.model.proofs.Invariant.Running.{Only, Did, Executes, executes, Acting}
@@ -48,18 +48,12 @@ pub before-silent : (s : Stmt) (k : List Frame) → Silent (before s k)
 before-silent s k c v f e = never (cc)
 
 module _ (L : Loaded) where
-  -- STL: the assignment
-  module _ {s : World} {st : State} {μ : Mem} {t : Tree (S L) (root L) (st .process)} {path : List ℕ} {y : Site}
-      {e : Expr} {k : List Frame}
-      {b : Part} {i : Info} {ws : List ℕ} {at hi h : ℕ}
-      (A : Acting L s st μ t path (before (assign y e) k) b i (Only path) ws at hi) (o : ℕ)
-      (named : low (cpuOf s .workspace + o) ≡ S L .word y) (f : Fine (S L .word) b (i .vars) (i .chans) (cpuOf s .workspace) (assign y e))
-      (v : cpuOf s .a ≡ eval (st .store) e) (small : eval (st .store) e < 2 ^ 32)
+  -- STL: a variable gets a value
+  module _ {s : World} {st : State} {μ : Mem} {t : Tree (S L) (root L) (st .process)} {path : List ℕ} {q : Process} (y : Site) (z : ℕ)
+      (k : List Frame) {b : Part} {i : Info} {ws : List ℕ} {at hi h : ℕ} (A : Acting L s st μ t path q b i (Only path) ws at hi) (o : ℕ)
+      (named : low (cpuOf s .workspace + o) ≡ S L .word y) (target : Target b (i .vars) y) (v : cpuOf s .a ≡ z) (small : z < 2 ^ 32)
       (c : Cont (S L) b h (i .vars) (i .chans) k (suc at) (cpuOf s .workspace)) (near : h ≤ whole (S L) + L .off at)
       (clean : Unmarked (S L) b i st μ) where
-    abbrev z : ℕ
-    z = eval (st .store) e
-
     abbrev st₀ : State
     st₀ = changed (store y z (st .store)) (st .offers) st
 
@@ -70,36 +64,36 @@ module _ (L : Loaded) where
     u = withCpu (pop (cpuOf s)) (stored (S L .word y) z s)
 
     in-memory : S L .word y < size L
-    in-memory = omega (arith, var-in L (node L (A .leaf)) y (f .0 .0))
+    in-memory = omega (arith, var-in L (node L (A .leaf)) y (target .0))
 
     assigned : Executes L (plain I.stl o) s u
     unfolding functionIn operandIn
     assigned = executes (exec-stl o (S L .word y) s named (rw (size-is L (A .real)) in-memory) ∙ rw v)
 
     rest₀ : Rest L st₀ ν t (Only path) ws
-    rest₀ = write-var L (A .leaf) (A .rest) y z (f .0 .0) (f .0 .1) small refl
+    rest₀ = write-var L (A .leaf) (A .rest) y z (target .0) (target .1) small refl
 
     real₀ : Real L u st₀ ν ws
     real₀ =
         real-cpu L (pop (cpuOf s)) refl refl refl
         (real-state L (st .process) (store y z (st .store))
-        (real-stored L (S L .word y) z in-memory (link-var L (A .lined) (A .leaf) refl y (f .0 .0)) (A .real)))
+        (real-stored L (S L .word y) z in-memory (link-var L (A .lined) (A .leaf) refl y (target .0)) (A .real)))
 
     clean₀ : Unmarked (S L) b i st₀ ν
     clean₀ d m q =
         clean d m (subst (Own b) (upd-other μ (S L .word y) z (S L .word d)
-        (λ w. cont-placed (S L) b c .scoped .apart y d (f .0 .0) m (sym w))) q)
+        (λ w. cont-placed (S L) b c .scoped .apart y d (target .0) m (sym w))) q)
 
-    pub did-assign : Did L (Executes L (plain I.stl o) s) s st (bytesLeft (S L) t)
-    unfolding go
-    did-assign =
-        let leaf₀ : LeafAt L st₀ t path (before (assign y e) k) b i = after-leaf L (A .leaf) in
+    pub did-store : Silent q → Within (liveIn k) (i .vars) → Step st [] (putting path (resume k) st₀)
+        → Did L (Executes L (plain I.stl o) s) s st (bytesLeft (S L) t)
+    did-store quiet live one =
+        let leaf₀ : LeafAt L st₀ t path q b i = after-leaf L (A .leaf) in
         let p = cont-placed (S L) b c in
         let near-on : h ≤ whole (S L) + L .off (suc at) = omega (arith, S L .rises at (suc at) (omega arith) (A .inside)) in
-        advances L real₀ leaf₀ rest₀ (after-lined L (A .lined)) clean₀ (before-silent (assign y e) k) (resume k) (leaf-resume k)
+        advances L real₀ leaf₀ rest₀ (after-lined L (A .lined)) clean₀ quiet (resume k) (leaf-resume k)
         (record { vars = i .vars; chans = i .chans; w = cpuOf s .workspace; left = whole (S L) }) p (omega arith)
-        (rest₀ .vars (node L leaf₀)) (rest₀ .chans (node L leaf₀)) (live-resume k (i .vars) (A .rest .live (A .leaf)))
-        (λ c v f e. silent-resume k e) (begins path (A .leaf .found)) assigned (silent L s u refl)
+        (rest₀ .vars (node L leaf₀)) (rest₀ .chans (node L leaf₀)) (live-resume k (i .vars) live)
+        (λ c v f e. silent-resume k e) one assigned (silent L s u refl)
         (record { run = A .run; operand = A .operand; place = A .placed; work = refl; inside = A .inside })
         (arrives (S L) b (st₀ .store) c near-on (sound-at L rest₀ leaf₀)) clean₀ near-on
 
@@ -235,7 +229,7 @@ module _ (L : Loaded) where
         (rest-then L (A .leaf) (atStop k) l-stop j sits stop-rest refl (stop-rest .vars (node L (A .leaf)))
         (stop-rest .chans (node L (A .leaf))) (A .rest .live (A .leaf)) (λ c m o. m) (λ c v f e other r d z y n m. never (cc))
         (λ c v f e other r d z y n m g o. never (cc)))
-        (h-stop stop-clean) (A .operand) (begins-as path (A .leaf .found) stops)
+        (λ t f e. never (cc)) (h-stop stop-clean) (A .operand) (begins-as path (A .leaf .found) stops)
         (λ x f g. executes (exec-stopp-general (cpuOf s .workspace) (cpuOf s .place) s refl refl
         (rw (size-is L (A .real)) (omega (arith, v-high, high))) ∙ f))
         (silent L s (stored v (cpuOf s .place) s) refl)

@@ -14,7 +14,7 @@ use Rattle.model.specs.Occam.{Frame, Process, finished, inPar, Branches,
 use Rattle.model.specs.Occam.{State, Sender, process, outside}
 use Rattle.model.specs.Demand.{liveIn}
 use Rattle.model.proofs.Cases.{never}
-use Rattle.model.proofs.Quiet.Ways.{upd-same, upd-other, upd, Mem}
+use Rattle.model.proofs.Quiet.Ways.{upd-same, upd-other, upd, Mem, frontWord}
 use Rattle.model.proofs.Quiet.Setting.{Setting}
 use Rattle.model.proofs.Occam.Paths.{l-output, leaf-par, leaf-resume, leaf-below, leaf-found, look-append, look-prefix, prefixed}
 use Rattle.model.proofs.Occam.Paths.{look-under, under, par-whole, look-put-same, look-put-other, look-after, into, aside}
@@ -27,11 +27,12 @@ use Rattle.model.proofs.Quiet.Arrivals.{cont-live}
 use Rattle.model.proofs.Invariant.Trees.{some-same, distanceOf, BranchPart, Label, alone, parted, alone-parted, Info, Sits, Tree}
 use Rattle.model.proofs.Invariant.Trees.{t-leaf, t-par, Forest, labelAt, running, partAt, part-nil, parts-apart, label-alone}
 use Rattle.model.proofs.Invariant.Trees.{labelled, owner-of, owner, par-part, rebuild, Rebuilt, EndedAt, ended-at}
-use Rattle.model.proofs.Invariant.Zones.{zoneOf}
+use Rattle.model.proofs.Invariant.Zones.{zoneOf, zone-under}
 use Rattle.model.proofs.Invariant.Leaves.{Unmarked}
 use Rattle.model.proofs.Invariant.Stays.{Intact, held-stays}
-use Rattle.model.proofs.Invariant.Kernel.{Loaded, S, root, LeafAt, NodeAt, Owned, owned, Rest, whose, Lined}
-use Rattle.model.proofs.Invariant.Writes.{node, own-one, apart-zones, part-small, sits-at}
+use Rattle.model.proofs.Invariant.Kernel.{Loaded, S, root, LeafAt, NodeAt, Owned, owned, Rest, whose, Lined, node, part-small}
+use Rattle.model.proofs.Invariant.Kernel.{sits-at}
+use Rattle.model.proofs.Invariant.Writes.{own-one, apart-zones, sleepers-by, time-same}
 use Rattle.model.proofs.Invariant.Puts.{putting}
 use Rattle.model.proofs.Invariant.Running.{Only, Nobody}
 use Rattle.model.proofs.Invariant.Moving.{same-leaf}
@@ -264,8 +265,11 @@ module _ (L : Loaded) {st : State} {t : Tree (S L) (root L) (st .process)} {path
             live = last-live;
             leaf = λ h out. ⊎-elim (λ e. absurd (out e))
                 (λ y. held-stays (S L) _ _ (omega (arith, part-small L (y .1), S L .top-small)) (sits-at L (y .1)) (last-intact (y .1))
-                (rest .leaf (y .1) (λ e. beside n (y .0) (sym e ∙ is)))) (last-back h);
+                (λ t s. s) (rest .leaf (y .1) (λ e. beside n (y .0) (sym e ∙ is)))) (last-back h);
             par = last-par;
+            sleepers = sleepers-by L (rest .sleepers) refl refl (λ v z. (refl, refl))
+                (λ other tm f d j h y. (last-on y h, λ x. leaf-off h x))
+                (λ other tm f d j h y. ⊎-elim (λ e. absurd (y e)) (λ z. (z .1, λ e. beside n (z .0) (sym e ∙ is))) (last-back h));
           }
 
       pub last-lined : Lined L st t (Only path) ws → Lined L lastState lastTree (Only ρ) ws
@@ -494,8 +498,14 @@ module _ (L : Loaded) {st : State} {t : Tree (S L) (root L) (st .process)} {path
             live = λ h x z. rest .live (more-back h .1) x z;
             leaf = λ h out.
                 let (d, y) = more-back h in
-                held-stays (S L) _ _ (omega (arith, part-small L y, S L .top-small)) (sits-at L y) (more-intact y) (rest .leaf y d);
+                held-stays (S L) _ _ (omega (arith, part-small L y, S L .top-small)) (sits-at L y) (more-intact y) (λ t s. s)
+                (rest .leaf y d);
             par = more-par;
+            sleepers = sleepers-by L (rest .sleepers) refl
+                (upd-other μ (w + 1) (left (endBranch n bs)) frontWord
+                (λ e. absurd (omega (arith, zone-under (S L) t ρ (par-node .label) .below, S L .top-small))))
+                (time-same L ν rest (λ other q d j h y. more-intact h .own)) (λ other tm f d j h y. (more-on y h, λ x. x))
+                (λ other tm f d j h y. let (d, z) = more-back h in (z, d));
           }
 
       pub more-lined : Lined L st t (Only path) ws → Lined L moreState moreTree Nobody ws

@@ -25,6 +25,7 @@ use Rattle.model.proofs.Quiet.Onwards.{guarded-fine}
 use Rattle.model.proofs.Invariant.Trees.{Label, Info, Tree, labelled, label-alone}
 use Rattle.model.proofs.Invariant.Zones.{zoneOf}
 use Rattle.model.proofs.Invariant.Leaves.{member, Resumes, Waits, Held, h-queued, h-woken, h-input, h-output, h-stop, h-wait}
+use Rattle.model.proofs.Invariant.Leaves.{h-asleep}
 use Rattle.model.proofs.Invariant.Kernel.{Loaded, S, root, LeafAt, NodeAt, Owned, owned, Rest, Real, Offer, no-offer, held-offer}
 use Rattle.model.proofs.Invariant.Grounds.{OutsideAt, an-input, an-output, channel-at}
 use Rattle.model.proofs.Invariant.Moving.{skips-silent}
@@ -59,7 +60,8 @@ module _ (L : Loaded) where
     where
       -- by what a process waits for
       by-held : {path : List ℕ} {q : Process} {b : Part} {i : Info} {f : Bool} (c : Site) → LeafAt L st t path q b i → (Out path → ⊥)
-          → member (i .w) ws ≡ f → List·Memᴰ c (i .chans) → Own b (μ (S L .word c)) → Held (S L) b i st μ f q → Holder st μ t Out ws c
+          → member (i .w) ws ≡ f → List·Memᴰ c (i .chans) → Own b (μ (S L .word c)) → Held (S L) (L .sleeps) b i st μ f q
+          → Holder st μ t Out ws c
       by-held c k n e m o (h-queued z r h u) = absurd (u c m o)
       by-held {b = b} {i} c k n e m o (h-woken a r s d) =
           let g = d .marks c m o in
@@ -69,6 +71,7 @@ module _ (L : Loaded) where
       by-held c k n e m o (h-output w out l v z) = subst (λ z. Holder st μ t Out ws z) (sym (w .only c m o))
           (holds-output k n e w out l v z)
       by-held c k n e m o (h-stop u) = absurd (u c m o)
+      by-held c k n e m o (h-asleep a s) = absurd (a .unmarked c m o)
       by-held {b = b} {i} c k n e m o (h-wait a r s v all free d) =
           let g = d c m o in
           holds-wait k n e a r s v all free d (g .0) (g .1)
@@ -87,7 +90,7 @@ module _ (L : Loaded) where
             → μ (S L .word c) ≡ nameOf (i .w) → List·Memᴰ c (b .outputs) → List·Memᴰ c (i .chans) → Sends c
 
       sends-held : {path : List ℕ} {c : Site} {v : ℕ} {k : List Frame} {b : Part} {i : Info} {f : Bool}
-          → LeafAt L st t path (atOutput c v k) b i → (Out path → ⊥) → Held (S L) b i st μ f (atOutput c v k) → Sends c
+          → LeafAt L st t path (atOutput c v k) b i → (Out path → ⊥) → Held (S L) (L .sleeps) b i st μ f (atOutput c v k) → Sends c
       sends-held l n (h-queued (comes sk settled sub way) r h u) = absurd (skips-silent sk settled refl)
       sends-held l n (h-output w out z v s) = sends l n (w .here) out (w .scope)
 

@@ -37,8 +37,7 @@ use Rattle.model.proofs.Effects.OneWord.{cpuOf}
 use Rattle.model.proofs.Effects.Acts.{disabled, exec-disc-off, exec-disc-held-first, exec-disc-held-later, exec-disc-empty}
 use Rattle.model.proofs.Effects.Acts.{exec-disc-marked, exec-disc-sender-first, exec-disc-sender-later, unskipped, exec-diss-off}
 use Rattle.model.proofs.Effects.Acts.{exec-diss-first, exec-diss-later, exec-altend}
-use Rattle.model.proofs.Invariant.Kernel.{Loaded, S, root}
-use Rattle.model.proofs.Invariant.Writes.{node}
+use Rattle.model.proofs.Invariant.Kernel.{Loaded, S, root, node}
 use Rattle.model.proofs.Invariant.Grounds.{sound-at}
 use Rattle.model.proofs.Invariant.Running.{Only, Did, Executes, executes, Acting}
 use Rattle.model.proofs.Invariant.Moving.{relaid}

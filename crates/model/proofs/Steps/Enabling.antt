@@ -40,8 +40,8 @@ use Rattle.model.proofs.Invariant.Stays.{Intact, noticed-stays, marked-
 use Rattle.model.proofs.Effects.OneWord.{cpuOf, sizeOf, stored}
 use Rattle.model.proofs.Effects.Acts.{exec-alt, enabled, exec-enbc-off, exec-enbc-held, exec-enbc-empty, exec-enbc-marked}
 use Rattle.model.proofs.Effects.Acts.{exec-enbc-sender, exec-enbs-off, exec-enbs, exec-altwt-ready, exec-altwt-wait}
-use Rattle.model.proofs.Invariant.Kernel.{Loaded, S, root, size, LeafAt, owned, Rest, Real}
-use Rattle.model.proofs.Invariant.Writes.{node, apart-parts, own-one, part-small, sits-at, write-own, write-chan, left-out}
+use Rattle.model.proofs.Invariant.Kernel.{Loaded, S, root, size, LeafAt, owned, Rest, Real, node, part-small, sits-at}
+use Rattle.model.proofs.Invariant.Writes.{apart-parts, own-one, write-own, write-chan, left-out}
 use Rattle.model.proofs.Invariant.Puts.{putting, treeThen, here-then, lined-then, rest-then, sender-then, sender-before}
 use Rattle.model.proofs.Invariant.Grounds.{chan-in, sound-at}
 use Rattle.model.proofs.Invariant.Traces.{t-none, t-step}
@@ -632,7 +632,7 @@ module _ (L : Loaded) {s : World} {st : State} {μ : Mem} {t : Tree (S L) (root 
           (own-marked L A c μ₂ resume-word (L .off (suc at)) (resume-mine L A c)
           (own-marked L A c μ₁ state-word waiting (state-mine L A c) marks₁))
 
-      asleep-held : Held (S L) b waits-as then-at μ₃ false (atAlt gs k)
+      asleep-held : Held (S L) (L .sleeps) b waits-as then-at μ₃ false (atAlt gs k)
       asleep-held =
           let e : suc at ≡ i₀ + 2 + sizeEnable gs + 1 = omega arith in
           h-wait c
@@ -647,7 +647,7 @@ module _ (L : Loaded) {s : World} {st : State} {μ : Mem} {t : Tree (S L) (root 
       altwt-waits =
           let no-ready : enabling ≢ ready = λ e. omega arith in
           leaves-as L (asleep-shows .real) (A .leaf) (A .lined) (atAlt gs k) l-alt waits-as sits-there (rest-there (asleep-shows .rest))
-          asleep-held (A .operand) comes-to
+          (λ t f e. never (cc)) asleep-held (A .operand) comes-to
           (λ v e f. executes
           (exec-altwt-wait (space s) (L .off (suc at)) enabling s refl (A .placed) (mine-size L A c (base-mine L A c)) state-size
           (mine-holds L A c (state-mine L A c) set-enabling) no-ready (mine-size L A c (resume-mine L A c))

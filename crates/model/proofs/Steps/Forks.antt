@@ -26,11 +26,12 @@ use Rattle.model.proofs.Invariant.Trees.{started, started-label, starte
 use Rattle.model.proofs.Invariant.Zones.{Zone, zoneOf}
 use Rattle.model.proofs.Invariant.Leaves.{Unmarked}
 use Rattle.model.proofs.Invariant.Stays.{Intact, held-stays}
-use Rattle.model.proofs.Invariant.Kernel.{Loaded, S, root, LeafAt, NodeAt, Owned, owned, Rest, whose, Lined}
-use Rattle.model.proofs.Invariant.Writes.{node, part-small, sits-at}
+use Rattle.model.proofs.Invariant.Kernel.{Loaded, S, root, LeafAt, NodeAt, Owned, owned, Rest, whose, Lined, node, part-small}
+use Rattle.model.proofs.Invariant.Kernel.{sits-at}
 use Rattle.model.proofs.Invariant.Puts.{putting}
 use Rattle.model.proofs.Invariant.Running.{Only}
 use Rattle.model.proofs.Invariant.Moving.{same-leaf}
+use Rattle.model.proofs.Invariant.Writes.{sleepers-by}
 
 parted-w : {a b : Part} {vs us cs ds : List Site} {v w on to : ℕ} → parted a vs cs v on ≡ parted b us ds w to → v ≡ w
 parted-w e = cc
@@ -209,6 +210,11 @@ module _ (L : Loaded) {st : State} {t : Tree (S L) (root L) (st .process)} {path
         by (apart x) =
             rest .par (sym (look-put-other parted-process (st .process) x) ∙ e) (record { label = sym (forked .aside other x) ∙ h .label })
 
+    -- who was there is no branch
+    not-branch : {other : List ℕ} {q : Process} {d : Part} {j : Info} → LeafAt L st t other q d j → Branch path other → ⊥
+    not-branch h (branch-of l x) =
+        never (cc (leaf-below path l [] (st .process) (at .found) (at .leaf), ap (λ y. look y (st .process)) x, h .found))
+
     pub fork-rest : Rest L forkState μ forkTree (Branch path) ws
     fork-rest =
         record {
@@ -226,20 +232,22 @@ module _ (L : Loaded) {st : State} {t : Tree (S L) (root L) (st .process)} {path
           leaf = λ h n. elim (which h) [
             | a-branch m r e f g ↦ absurd (n (branch-of m f))
             | aside-one a y ↦
-                held-stays (S L) _ _ (omega (arith, part-small L y, S L .top-small)) (sits-at L y) (fork-intact y)
+                held-stays (S L) _ _ (omega (arith, part-small L y, S L .top-small)) (sits-at L y) (fork-intact y) (λ t s. s)
                 (rest .leaf y (apart-differ a))
           ];
           par = fork-par;
+          sleepers = sleepers-by L (rest .sleepers) refl refl (λ v m. (refl, refl)) (λ other tm f d j h n. (fork-other n h, not-branch h))
+              (λ other tm f d j h n. elim (which h) [
+                | a-branch m r e x g ↦ absurd (n (branch-of m x))
+                | aside-one a y ↦ (y, apart-differ a)
+              ]);
         }
 
     pub fork-lined : Lined L st t (Only path) ws → Lined L forkState forkTree (Branch path) ws
     fork-lined lines =
         record {
           each = λ v m. elim (lines .each v m) [
-            | whose {path = other} h e n ↦ whose (fork-other n h) e (λ o. elim o [
-              | branch-of l x ↦
-                  never (cc (leaf-below path l [] (st .process) (at .found) (at .leaf), ap (λ y. look y (st .process)) x, h .found))
-            ])
+            | whose h e n ↦ whose (fork-other n h) e (not-branch h)
           ];
           once = lines .once;
         }

@@ -37,9 +37,8 @@ use Rattle.model.proofs.Invariant.Trees.{Info, Sits, Tree, bytesLeft}
 use Rattle.model.proofs.Invariant.Leaves.{member, Unmarked, Waits, h-input}
 use Rattle.model.proofs.Effects.OneWord.{cpuOf, stored}
 use Rattle.model.proofs.Effects.Acts.{dropped, parked, exec-in-held, exec-in-wait, exec-in-sender}
-use Rattle.model.proofs.Invariant.Kernel.{Loaded, S, root, size, setup, LeafAt, Rest, Lined, Real}
-use Rattle.model.proofs.Invariant.Writes.{changed, after-leaf, after-lined, node, apart-parts, apart-zones, part-small, sits-at}
-use Rattle.model.proofs.Invariant.Writes.{write-var, change-offers}
+use Rattle.model.proofs.Invariant.Kernel.{Loaded, S, root, size, setup, LeafAt, Rest, Lined, Real, node, part-small, sits-at}
+use Rattle.model.proofs.Invariant.Writes.{changed, after-leaf, after-lined, apart-parts, apart-zones, write-var, change-offers}
 use Rattle.model.proofs.Invariant.Puts.{putting, treeThen, here-then, other-then, lined-then, rest-then, sender-before}
 use Rattle.model.proofs.Invariant.Grounds.{var-in, chan-in, small-size, sound-at}
 use Rattle.model.proofs.Invariant.Traces.{Trace, t-none, t-step}
@@ -47,14 +46,14 @@ use Rattle.model.proofs.Invariant.Running.{Only, Did, Executes, execute
 use Rattle.model.proofs.Invariant.Reals.{size-is, mirrored, real-state, real-stored, real-talk, real-dropped, withoutOffer, link-var}
 use Rattle.model.proofs.Invariant.Reals.{link-chan}
 use Rattle.model.proofs.Invariant.Scheduling.{settle, linkedTo, Woken}
-use Rattle.model.proofs.Effects.Queues.{joined}
+use Rattle.model.proofs.Effects.Queues.{joined, join-queue}
 use Rattle.model.proofs.Invariant.Finish.{then-settles, silent}
 use Rattle.model.proofs.Steps.Advance.{Silent, goes-as, leaves-as}
 use Rattle.model.proofs.Steps.Basics.{before-silent}
 use Rattle.model.proofs.Steps.Channels.{Holder, holds-input, holds-output, holds-wait, holds-woken, holds-out, holder, Sends, sends}
 use Rattle.model.proofs.Steps.Channels.{sender-at, held-at, not-held, held-here}
 use Rattle.model.proofs.Steps.Meets.{Both, not-own, clear-chan, mark-chan, chan-above, rest-below, real-below, partner-goes}
-use Rattle.model.proofs.Invariant.Moving.{same-leaf, rest-out, lined-out}
+use Rattle.model.proofs.Invariant.Moving.{same-leaf, lined-out, rest-with}
 
 pub output-channel : {c d : Site} {v w : ℕ} {k l : List Frame} → atOutput c v k ≡ atOutput d w l → c ≡ d
 output-channel e = cc
@@ -261,7 +260,7 @@ module _ (L : Loaded) {s : World} {st : State} {μ : Mem} {t : Tree (S L) (root 
         (rest-then L (A .leaf) (atInput c x k) l-input j sits-j rest₃ refl (rest₃ .vars (node L (A .leaf)))
         (rest₃ .chans (node L (A .leaf))) (A .rest .live (A .leaf)) (λ d m o. m) (λ d v g e other r p z y n m. never (cc))
         (λ d v g e other r p z y n m q o. never (cc)))
-        (h-input (record {
+        (λ t f e. never (cc)) (h-input (record {
           scope = f .2;
           onward = cont;
           near = near-on;
@@ -307,7 +306,8 @@ module _ (L : Loaded) {s : World} {st : State} {μ : Mem} {t : Tree (S L) (root 
     rest₂ : Rest L st₂ η t (Both path other) ws
     rest₂ =
         clear-chan L sender₂ (inr refl)
-        (write-var L (A .leaf) (rest-out L (λ z e. inl e) (A .rest)) x v (f .1 .0) (f .1 .1) small (inl refl)) c (waits .scope)
+        (write-var L (A .leaf) (rest-with L sender (λ t f e. never (cc)) (A .rest)) x v (f .1 .0) (f .1 .1) small (inl refl)) c
+        (waits .scope)
         (inr own-sender)
 
     lines₂ : Lined L st₂ t (Both path other) ws
@@ -350,7 +350,7 @@ module _ (L : Loaded) {s : World} {st : State} {μ : Mem} {t : Tree (S L) (root 
     woken : Woken L s₂ (putting other (resume l) st₂) η
         (treeThen L sender₂ (resume l) (leaf-resume l) j (sits-at L sender₂)) (Only path) (j .w) ws
     woken =
-        partner-goes L real₂ rest₂ lines₂ sender₂ apart (A .run) waits sender-same refl sender-clean
+        partner-goes L real₂ rest₂ lines₂ sender₂ apart waits sender-same refl sender-clean
         (λ a y q e here p z n k o i. apart-parts L (after-leaf L (A .leaf)) k (λ w. o (inl w)) .inputs c (f .3)
         (subst (λ g. List·Memᴰ g (z .inputs)) (output-channel (sym e)) i))
 
@@ -407,7 +407,7 @@ module _ (L : Loaded) {s : World} {st : State} {μ : Mem} {t : Tree (S L) (root 
         (rw (size-is L (A .real)) small-j) (mirrored L (A .real) (stateWord (j .w)) small-j (waits .message-at))
         (rw (size-is L (A .real)) (omega (arith, low, part-small L sender)))
         (mirrored L (A .real) (j .w) (omega (arith, low, part-small L sender)) holds) (rw (size-is L (A .real)) x-in)
-        ∙ rw (woken .joins))
+        ∙ rw (join-queue (j .w) s₂ (A .run) (woken .enqueued)))
 
     pub did-receive : Did L (Executes L (operation I.«in») s) s st (bytesLeft (S L) t)
     did-receive =

@@ -33,9 +33,8 @@ use Rattle.model.proofs.Invariant.Trees.{some-same, Label, alone, Info,
 use Rattle.model.proofs.Invariant.Zones.{zoneOf}
 use Rattle.model.proofs.Invariant.Leaves.{Unmarked}
 use Rattle.model.proofs.Effects.OneWord.{cpuOf, stored, exec-stl}
-use Rattle.model.proofs.Invariant.Kernel.{Loaded, S, root, LeafAt, NodeAt, Owned, Rest, Real}
-use Rattle.model.proofs.Invariant.Writes.{changed, after-leaf, after-lined, node, apart-zones, part-small, rest-same, sender-stored}
-use Rattle.model.proofs.Invariant.Writes.{sender-kept}
+use Rattle.model.proofs.Invariant.Kernel.{Loaded, S, root, LeafAt, NodeAt, Owned, Rest, Real, node, part-small}
+use Rattle.model.proofs.Invariant.Writes.{changed, after-leaf, after-lined, apart-zones, rest-same, sender-stored, sender-kept}
 use Rattle.model.proofs.Invariant.Puts.{putting, here-then}
 use Rattle.model.proofs.Invariant.Grounds.{small-size, sound-at}
 use Rattle.model.proofs.Invariant.Running.{Only, Did, Executes, executes, Acting}
@@ -58,7 +57,7 @@ module _ (L : Loaded) where
         chans = λ c m. inl refl;
         sends = λ c m s. sender-stored L s;
         none-sends = λ c m g o s. sender-kept L s;
-      })
+      }) refl
       (λ path l n x m e k. (same path l n x m ∙ e, subst (λ v. v < 2 ^ 32) (sym (same path l n x m)) k)) (λ path l n c m. inl refl)
       (λ path a vs cs w onward n. (refl, refl))
 

@@ -3,30 +3,30 @@ use Prim.Native.Nat.{ℕ, suc, _+_, _-_, _≤_}
 use native.Mathlib.Omega.{arith}
 use mathlib.Core.Path.{_≡_, refl, sym, _∙_, subst}
 use mathlib.Core.Logic.{_≢_, inl}
-use mathlib.Core.Bool.{true}
+use mathlib.Core.Bool.{true, false}
 use mathlib.Core.List.{List, [], _∷_, _++_, List·Memᴰ}
 use lib.ListN.{length}
-use Rattle.model.specs.Syntax.{Site, Stmt, noStmt, stmt}
-use Rattle.model.specs.Instruction.{Instruction, plain, distance}
+use Rattle.model.specs.Syntax.{Site, Stmt, noStmt, stmt, assign}
+use Rattle.model.specs.Instruction.{Instruction, plain, distance, operation}
 use Rattle.model.specs.Instruction as I
 use Rattle.model.specs.Code.{functionIn, operandIn}
-use Rattle.model.specs.Word.{low, less}
+use Rattle.model.specs.Word.{low, less, after}
 use Rattle.model.specs.Machine.{World, withCpu, goto}
 use Rattle.model.specs.declared.Cpu.{Cpu}
-use Rattle.model.specs.Occam.{Process, State}
+use Rattle.model.specs.Occam.{Process, State, now, eval, begins, stores, go}
+use Rattle.model.proofs.Cases.{never}
 use Rattle.model.proofs.Quiet.Ways.{Regs, regsOf, load, Mem, Way, arrived, through, quiet, loads, stores, reloads, jumps, falls}
 use Rattle.model.proofs.Quiet.Setting.{At}
 use Rattle.model.proofs.Quiet.CodeParts.{inside}
 use Rattle.model.proofs.Words.Parts.{Part}
 use Rattle.model.proofs.Quiet.Marks.{Point, pt-stop, pt-assign, pt-var, pt-chan, pt-taken, pt-none, pt-while, pt-in, pt-out}
-use Rattle.model.proofs.Quiet.Marks.{pt-par-place, pt-par-count, pt-end, pt-alt, Spare, Settled}
+use Rattle.model.proofs.Quiet.Marks.{pt-par-place, pt-par-count, pt-end, pt-alt, Spare, Settled, pt-read, pt-store, pt-wait-for}
 use Rattle.model.proofs.Quiet.Arrivals.{Goes, Comes}
 use Rattle.model.proofs.Quiet.Onwards.{AltGoes, alt-goes, Starts}
-use Rattle.model.proofs.Invariant.Trees.{Info, Tree, bytesLeft}
+use Rattle.model.proofs.Invariant.Trees.{some-same, Info, Tree, bytesLeft}
 use Rattle.model.proofs.Invariant.Leaves.{Unmarked}
 use Rattle.model.proofs.Effects.OneWord.{cpuOf, exec-cj-jumps}
-use Rattle.model.proofs.Invariant.Kernel.{Loaded, S, root, LeafAt, Rest, Lined, Real}
-use Rattle.model.proofs.Invariant.Writes.{sits-at}
+use Rattle.model.proofs.Invariant.Kernel.{Loaded, S, root, LeafAt, Rest, Lined, Real, sits-at}
 use Rattle.model.proofs.Invariant.Traces.{t-none}
 use Rattle.model.proofs.Invariant.Running.{Only, StartsLeft, Later, Starting, Here, fresh, off-small, ToStart, starts, Did, came}
 use Rattle.model.proofs.Invariant.Running.{Executes, executes, Acting}
@@ -36,7 +36,9 @@ use Rattle.model.proofs.Quiet.PathEnds.{way-bound, start-in}
 use Rattle.model.proofs.Invariant.Finish.{silent}
 use Rattle.model.proofs.Steps.Quiets.{reached, Carries, carries-goes, carries-alt, pass-quiet, pass-loads, pass-stores, pass-reloads}
 use Rattle.model.proofs.Steps.Quiets.{pass-falls, pass-jumps}
-use Rattle.model.proofs.Steps.Basics.{did-assign, did-taken, did-none, did-while, did-stop}
+use Rattle.model.proofs.Steps.Basics.{before-silent, did-store, did-taken, did-none, did-while, did-stop}
+use Rattle.model.proofs.Steps.Times.{did-read}
+use Rattle.model.proofs.Steps.Tin.{did-tin}
 use Rattle.model.proofs.Steps.In.{did-in}
 use Rattle.model.proofs.Steps.Outword.{did-out}
 use Rattle.model.proofs.Steps.Initialise.{did-var-store, did-chan-store}
@@ -46,27 +48,49 @@ use Rattle.model.proofs.Steps.ParStarts.{did-place, count-one, count-mo
 use Rattle.model.proofs.Steps.Startp.{branch-differ, did-start}
 use Rattle.model.proofs.Steps.Endp.{did-end}
 
+-- at a TIN what is known of a process that waits for the clock is known of the one at work, where its time is still to come
+abbrev pub Told : Loaded → Instruction → World → Type 0
+Told L x s =
+    let c = s .machine .timer .clock in
+    x ≡ operation I.tin → after c (cpuOf s .a) ≡ false → L .sleeps (cpuOf s .workspace) (cpuOf s .a) c
+
 module _ (L : Loaded) {s : World} {st : State} {μ : Mem} {t : Tree (S L) (root L) (st .process)} {path : List ℕ} {b : Part} {i : Info}
     {ws : List ℕ} {x : Instruction} where
   -- a significant instruction
-  point-acts : {at hi : ℕ} {q : Process} → At (S L) at x → Acting L s st μ t path q b i (Only path) ws at hi → Unmarked (S L) b i st μ
+  point-acts : {at hi : ℕ} {q : Process} → At (S L) at x → Acting L s st μ t path q b i (Only path) ws at hi → Told L x s
+      → Unmarked (S L) b i st μ
       → Point (S L) b (st .store) (i .vars) (i .chans) q hi μ at (regsOf (cpuOf s)) → Did L (Executes L x s) s st (bytesLeft (S L) t)
-  point-acts here A clean (pt-stop a c) = same-does L _ here a (did-stop L A clean c)
-  point-acts here A clean (pt-assign {o} a w f v small c n) = same-does L _ here a (did-assign L A o w f v small c n clean)
-  point-acts here A clean (pt-var {j = m′} op f l j e z m) =
+  unfolding go
+  point-acts here A told clean (pt-stop a c) = same-does L _ here a (did-stop L A clean c)
+  point-acts here A told clean (pt-assign {x = y} {e} {k} {o} a w f v small c n) =
+      same-does L _ here a
+      (did-store L y (eval (st .store) e) k A o w (f .0) v small c n clean (before-silent (assign y e) k) (A .rest .live (A .leaf))
+      (begins path (A .leaf .found)))
+  point-acts here A told clean (pt-read a y w f c l n) = same-does L _ here a (did-read L A y w f c l n clean)
+  point-acts here A told clean (pt-store {x = y} {v} {k} {o} a w f e small c n) =
+      same-does L _ here a
+      (did-store L y v k A o w f e small c n clean (λ d z f g. never (cc)) (A .rest .live (A .leaf)) (stores path (A .leaf .found)))
+  point-acts here A told clean (pt-var {j = m′} op f l j e z m) =
       same-does L _ here (subst (λ n. At (S L) n (plain I.stl m′)) (sym e) (op .inits _ j .1)) (did-var-store L A clean op f l j e z m)
-  point-acts here A clean (pt-chan {j = m′} op f l j e z m) =
+  point-acts here A told clean (pt-chan {j = m′} op f l j e z m) =
       same-does L _ here (subst (λ n. At (S L) n (plain I.stl m′)) (sym e) (op .inits _ j .1)) (did-chan-store L A clean op f l j e z m)
-  point-acts here A clean (pt-taken d a v fa e g f c n) = same-does L _ here a (did-taken L d A clean v e g f c n)
-  point-acts here A clean (pt-none a c fa e) = same-does L _ here a (did-none L A clean c e)
-  point-acts here A clean (pt-while a l fe v g f c n d m) = same-does L _ here a (did-while L A clean l v g f c n d m)
-  point-acts here A clean (pt-in a v c y f k n) = same-does L _ here a (did-in L A v c y f k n clean)
-  point-acts here A clean (pt-out a v small c f y k n) = same-does L _ here a (did-out L A v small c f y k n clean)
-  point-acts here A clean (pt-par-place a y z c v l) = same-does L _ here a (did-place L A clean y z c v l)
-  point-acts here A clean (pt-par-count {ss = noStmt} a v c m) = same-does L _ here a (count-one L A clean c v m)
-  point-acts here A clean (pt-par-count {ss = stmt r rs} a v c m) = same-does L _ here a (count-more L A clean c v m)
-  point-acts here A clean (pt-end e a v w) = same-does L _ here a (did-end L A clean e v)
-  point-acts here A clean (pt-alt c l) = same-does L _ here (c .begins) (alt-begins L A c refl l clean)
+  point-acts here A told clean (pt-taken d a v fa e g f c n) = same-does L _ here a (did-taken L d A clean v e g f c n)
+  point-acts here A told clean (pt-none a c fa e) = same-does L _ here a (did-none L A clean c e)
+  point-acts here A told clean (pt-while a l fe v g f c n d m) = same-does L _ here a (did-while L A clean l v g f c n d m)
+  point-acts here A told clean (pt-in a v c y f k n) = same-does L _ here a (did-in L A v c y f k n clean)
+  point-acts here A told clean (pt-out a v small c f y k n) = same-does L _ here a (did-out L A v small c f y k n clean)
+  point-acts here A told clean (pt-par-place a y z c v l) = same-does L _ here a (did-place L A clean y z c v l)
+  point-acts here A told clean (pt-par-count {ss = noStmt} a v c m) = same-does L _ here a (count-one L A clean c v m)
+  point-acts here A told clean (pt-par-count {ss = stmt r rs} a v c m) = same-does L _ here a (count-more L A clean c v m)
+  point-acts here A told clean (pt-end e a v w) = same-does L _ here a (did-end L A clean e v)
+  point-acts here A told clean (pt-wait-for {e} a v small f c n) =
+      same-does L _ here a
+      (did-tin L A v small f c n clean
+      (λ ahead.
+      let k : s .machine .timer .clock ≡ now st = A .real .timed .clock-read in
+      let known = told (some-same (sym here ∙ a)) (rw (k, v) ahead) in
+      subst (λ y. L .sleeps (cpuOf s .workspace) y (now st)) v (subst (λ y. L .sleeps (cpuOf s .workspace) (cpuOf s .a) y) k known)))
+  point-acts here A told clean (pt-alt c l) = same-does L _ here (c .begins) (alt-begins L A c refl l clean)
 
   -- on a path of some kind, where it is known what its significant instructions and its jumps do
   module _ {at hi : ℕ} {q : Process} (here : At (S L) at x) (A : Acting L s st μ t path q b i (Only path) ws at hi)
@@ -92,11 +116,11 @@ module _ (L : Loaded) {s : World} {st : State} {μ : Mem} {t : Tree (S L) (root 
     acts (falls a k z f v) = same-does L _ here a (pass-falls L A Path carry k z f v)
 
   -- on the way to a significant instruction
-  pub way-acts : {at hi : ℕ} {q : Process} → At (S L) at x → Acting L s st μ t path q b i (Only path) ws at hi → Settled q
+  pub way-acts : {at hi : ℕ} {q : Process} → At (S L) at x → Acting L s st μ t path q b i (Only path) ws at hi → Told L x s → Settled q
       → Unmarked (S L) b i st μ
       → Goes (S L) b (st .store) (i .vars) (i .chans) q hi μ at (regsOf (cpuOf s)) → Did L (Executes L x s) s st (bytesLeft (S L) t)
-  way-acts here A settled clean way =
-      acts here A (carries-goes L A settled clean) (λ y l. l .0) (λ v m. m) (point-acts here A clean)
+  way-acts here A told settled clean way =
+      acts here A (carries-goes L A settled clean) (λ y l. l .0) (λ v m. m) (point-acts here A told clean)
       (λ k hi a h c reach v. same-does L _ here a (pass-jumps L A h c reach v settled clean)) way
 
   -- in an ALT

@@ -21,14 +21,14 @@ use Rattle.model.proofs.Quiet.Marks.{Own}
 use Rattle.model.proofs.Quiet.Arrivals.{Sound, arrives}
 use Rattle.model.proofs.Invariant.Trees.{Info, Tree}
 use Rattle.model.proofs.Invariant.Leaves.{Unmarked, Waits, Held, h-queued}
-use Rattle.model.proofs.Invariant.Kernel.{Loaded, S, root, LeafAt, owned, Rest, Lined, Real}
-use Rattle.model.proofs.Invariant.Writes.{node, apart-parts, own-one, part-small, sits-at, write-own, write-chan, left-out}
+use Rattle.model.proofs.Invariant.Kernel.{Loaded, S, root, LeafAt, owned, Rest, Lined, Real, node, part-small, sits-at}
+use Rattle.model.proofs.Invariant.Writes.{apart-parts, own-one, write-own, write-chan, left-out}
 use Rattle.model.proofs.Invariant.Puts.{putting, treeThen, here-then, lined-then, rest-then}
 use Rattle.model.proofs.Invariant.Grounds.{small-size, sound-at}
 use Rattle.model.proofs.Invariant.Running.{Only}
 use Rattle.model.proofs.Invariant.Reals.{real-stored, real-state, link-own}
 use Rattle.model.proofs.Invariant.Scheduling.{Woken, wakes}
-use Rattle.model.proofs.Effects.OneWord.{cpuOf, stored}
+use Rattle.model.proofs.Effects.OneWord.{stored}
 
 -- two processes are left out
 abbrev pub Both : List ℕ → List ℕ → List ℕ → Type 0
@@ -39,9 +39,10 @@ pub not-own : (b : Part) → b .top ≤ wordLimit → Own b notProcess → ⊥
 not-own b h o = absurd (omega (arith, o .below, none-high))
 
 -- a process that waited goes on, once its channel's word is another
-pub resumed : (S : Setting) (b : Part) (i : Info) {st st′ : State} {μ ν : Mem} {c : Site} {k : List Frame} {at hi m : ℕ}
+pub resumed : (S : Setting) {sleeps : (w t clock : ℕ) → Type 0} (b : Part) (i : Info) {st st′ : State} {μ ν : Mem} {c : Site}
+    {k : List Frame} {at hi m : ℕ}
     → Waits S b i st μ c k at hi m → ν (resumeWord (i .w)) ≡ μ (resumeWord (i .w)) → Unmarked S b i st′ ν
-    → Sound S b (st′ .store) (i .vars) (i .chans) → Held S b i st′ ν true (resume k)
+    → Sound S b (st′ .store) (i .vars) (i .chans) → Held S sleeps b i st′ ν true (resume k)
 resumed S b i {st′ = st′} w same clean sound =
     h-queued (arrives S b (st′ .store) (w .onward) (w .near) sound)
     (record { place = same ∙ w .resumes .place; soon = w .resumes .soon }) (cont-inside S b (w .onward)) clean
@@ -112,7 +113,7 @@ module _ (L : Loaded) where
   module _ {s : World} {st : State} {μ : Mem} {t : Tree (S L) (root L) (st .process)} {path other : List ℕ}
       {ws : List ℕ} {r : Process} {d : Part}
       {j : Info} (real : Real L s st μ ws) (rest : Rest L st μ t (Both path other) ws) (lines : Lined L st t (Both path other) ws)
-      (leaf : LeafAt L st t other r d j) (apart : path ≢ other) (run : cpuOf s .running ≡ true) {st₀ : State} {μ₀ : Mem}
+      (leaf : LeafAt L st t other r d j) (apart : path ≢ other) {st₀ : State} {μ₀ : Mem}
       {c : Site} {k : List Frame}
       {at hi m : ℕ} (waits : Waits (S L) d j st₀ μ₀ c k at hi m) (same : μ (resumeWord (j .w)) ≡ μ₀ (resumeWord (j .w)))
       (frames : framesOf r ≡ k) (clean : Unmarked (S L) d j st μ)
@@ -131,7 +132,7 @@ module _ (L : Loaded) where
     pub partner-leaf : LeafAt L then (treeThen L leaf (resume k) (leaf-resume k) j (sits-at L leaf)) other (resume k) d j
     partner-leaf = here-then L leaf (resume k) (leaf-resume k) j (sits-at L leaf)
 
-    pub partner-held : Held (S L) d j then μ true (resume k)
+    pub partner-held : Held (S L) (L .sleeps) d j then μ true (resume k)
     partner-held = resumed (S L) d j waits same clean (sound-at L partner-rest partner-leaf)
 
     pub partner-lines : Lined L then (treeThen L leaf (resume k) (leaf-resume k) j (sits-at L leaf)) (Both path other) ws
@@ -143,4 +144,4 @@ module _ (L : Loaded) where
     pub partner-goes : Woken L s then μ (treeThen L leaf (resume k) (leaf-resume k) j (sits-at L leaf)) (Only path) (j .w) ws
     partner-goes =
         wakes L {Out′ = Only path} partner-real partner-rest partner-lines partner-leaf (inr refl) partner-held
-        (λ here n o. ⊎-elim (λ e. e) (λ e. absurd (n e)) o) (λ here e. inl e) (λ e. apart e) run
+        (λ here n o. ⊎-elim (λ e. e) (λ e. absurd (n e)) o) (λ here e. inl e) (λ e. apart e)

@@ -1,14 +1,17 @@
 -- One byte: a prefix is gathered, or an instruction is executed. Either way the invariant goes on, and what was done is a part of a run.
-use Prim.Native.Nat.{ℕ, suc, _+_, _-_, _≤_}
+use Prim.Native.Nat.{ℕ, suc, _+_, _-_, _/_, _≤_, _<_}
 use native.Mathlib.Omega.{arith}
 use mathlib.Core.Path.{_≡_, refl, sym, ap, ap₂, _∙_, subst}
 use mathlib.Core.Logic.{inl}
 use mathlib.Core.Bool.{true, false, _&&_}
-use mathlib.Core.List.{List, [], _++_, map}
-use lib.ListN.{length}
+use mathlib.Core.List.{List, [], _++_, map, List·Memᴰ, List·Memᴰ·head}
+use lib.ListN.{length, getD}
+use lib.Dec.{eqb}
 use borrow.Author.Tests.{eq-eqb}
-use Rattle.model.specs.Word.{low}
-use Rattle.model.specs.Instruction.{Instruction}
+use Rattle.model.specs.Word.{low, after}
+use Rattle.model.specs.Instruction.{Instruction, opr, functionCode, operationCode, tin}
+use Rattle.model.specs.Prefix.{gathered}
+use Rattle.model.specs.History.{waitsFor, notes}
 use Rattle.model.specs.Code.{functionIn, operandIn}
 use Rattle.model.specs.Machine.{World, done, withCpu, gathering, next}
 use Rattle.model.specs.Execute.{execute}
@@ -17,7 +20,7 @@ use Rattle.model.specs.Occam.{Process, State}
 use Rattle.model.specs.Demand.{talkOf}
 use Rattle.model.specs.declared.Setup.{Setup}
 use Rattle.model.proofs.Cases.{never}
-use Rattle.model.proofs.Coding.Bytes.{Standing, Turn, prefixed, last, turn, advance, lands}
+use Rattle.model.proofs.Coding.Bytes.{Standing, Completes, Turn, prefixed, last, turn, advance, lands}
 use Rattle.model.proofs.Quiet.Ways.{Mem, regsOf}
 use Rattle.model.proofs.Quiet.Setting.{At}
 use Rattle.model.proofs.Quiet.CodeParts.{inside}
@@ -28,8 +31,7 @@ use Rattle.model.proofs.Quiet.Onwards.{AltGoes, Starts}
 use Rattle.model.proofs.Invariant.Trees.{Info, Tree, bytesLeft}
 use Rattle.model.proofs.Invariant.Leaves.{Unmarked}
 use Rattle.model.proofs.Effects.OneWord.{cpuOf}
-use Rattle.model.proofs.Invariant.Kernel.{Loaded, S, root, setup, LeafAt, Rest, Lined, Real}
-use Rattle.model.proofs.Invariant.Writes.{sits-at}
+use Rattle.model.proofs.Invariant.Kernel.{Loaded, S, root, setup, LeafAt, Rest, Lined, Real, sits-at}
 use Rattle.model.proofs.Invariant.Grounds.{code-end}
 use Rattle.model.proofs.Invariant.Traces.{t-none}
 use Rattle.model.proofs.Invariant.Running.{Only, StartsLeft, Starting, Here, within, at-end, off-small, Now, now-goes, now-alt}
@@ -38,7 +40,7 @@ use Rattle.model.proofs.Invariant.Moving.{relaid, relabelled, relabel}
 use Rattle.model.proofs.Invariant.Reals.{real-cpu}
 use Rattle.model.proofs.Quiet.PathEnds.{way-far, point-in, alt-far, start-in}
 use Rattle.model.proofs.Invariant.Finish.{silent}
-use Rattle.model.proofs.Steps.Instructions.{way-acts, alt-acts, starts-on, starts-acts}
+use Rattle.model.proofs.Steps.Instructions.{Told, way-acts, alt-acts, starts-on, starts-acts}
 
 -- what lands where no process runs
 lands-idle : (s : World) → cpuOf s .running ≡ false → land s ≡ done tt s
@@ -70,9 +72,38 @@ module _ (L : Loaded) where
       → cpuOf s .place ≡ L .off at → ended (s .machine) ≡ true
   at-the-end {s} real run e h = ap₂ _&&_ run (eq-eqb _ _ (h ∙ ap (L .off) e ∙ code-end L ∙ sym (code-is s (real .setup-kept))))
 
+  -- before its end it stands in the code
+  here-inside : {s : World} {st : State} {μ : Mem} {ws : List ℕ} {at o : ℕ} → Real L s st μ ws → cpuOf s .running ≡ true
+      → ended (s .machine) ≡ false → Here L at (cpuOf s .place) o → cpuOf s .place < length (L .code)
+  here-inside {at = at} real run no-end (within e h) = omega (arith, h .upto, off-small L (suc at) (inside (S L) e))
+  here-inside real run no-end (at-end e h) = never (cc (no-end, at-the-end real run e h))
+
+  pub inv-inside : {s : World} {st : State} {n : ℕ} → Inv L s st n → ended (s .machine) ≡ false → waits (s .machine) ≡ false
+      → cpuOf s .place < length (L .code)
+  inv-inside (runs real run leaf rest lines (now-goes h way settled clean soon)) no-end busy = here-inside real run no-end h
+  inv-inside (runs real run leaf rest lines (now-alt h way soon)) no-end busy = here-inside real run no-end h
+  inv-inside (starts B real run leaf rest lines now) no-end busy = here-inside real run no-end (now .here)
+  inv-inside (idle real run operand rest) no-end busy = never (cc (busy, run))
+
   -- a byte
   abbrev pub Byte : World → World → Type 0
   Byte s t = byte (L .code) s ≡ done tt t
+
+  -- what a byte tells of times is known of the process that waits then
+  abbrev pub Known : World → Type 0
+  Known s =
+      let c = s .machine .timer .clock in
+      (w t : ℕ) → List·Memᴰ (waitsFor w t) (notes (L .code) (s .machine)) → after c t ≡ false → L .sleeps w t c
+
+  -- so it is known at its TIN
+  told-at : {s : World} {x : Instruction} → Known s → Completes (L .code) (L .off) x s → Told L x s
+  unfolding notes functionIn operandIn
+  told-at {s} known whole e ahead =
+      let b = getD (L .code) (cpuOf s .place) 0 in
+      let f : eqb (b / 16) (functionCode opr) ≡ true = eq-eqb _ _ (whole .function ∙ ap (λ y. functionCode (functionIn y)) e) in
+      let o : eqb (gathered (cpuOf s .operand) b) (operationCode tin) ≡ true =
+      eq-eqb _ _ (whole .operand ∙ ap (λ y. operandIn (L .off) y) e) in
+      known (cpuOf s .workspace) (cpuOf s .a) (rw (f, o) (List·Memᴰ·head refl)) ahead
 
   -- the last byte of an instruction executes it
   executing : {s u : World} {st : State} {n : ℕ} {x : Instruction} → u .talk ≡ s .talk
@@ -83,7 +114,7 @@ module _ (L : Loaded) where
 
   module _ {s : World} {st : State} {μ : Mem} {t : Tree (S L) (root L) (st .process)} {path : List ℕ} {q : Process} {b : Part} {i : Info}
       {ws : List ℕ} {at : ℕ} {x : Instruction} (real : Real L s st μ ws) (run : cpuOf s .running ≡ true) (leaf : LeafAt L st t path q b i)
-      (e : At (S L) at x) (h : Standing (L .code) (L .off) at x (cpuOf s .place) (cpuOf s .operand)) where
+      (e : At (S L) at x) (h : Standing (L .code) (L .off) at x (cpuOf s .place) (cpuOf s .operand)) (known : Known s) where
     below : L .off (suc at) ≤ length (L .code)
     below = off-small L (suc at) (inside (S L) e)
 
@@ -142,7 +173,8 @@ module _ (L : Loaded) where
     goes rest lines way settled clean soon (prefixed o eq h′) =
         gathers rest lines soon (way-far (S L) (point-in (S L) b) (inside (S L) e) way) o eq
         (λ less. now-goes (onward h′) way settled clean less)
-    goes rest lines way settled clean soon (last eq pl) = executing refl eq (way-acts L e (acting rest lines soon pl) settled clean way)
+    goes rest lines way settled clean soon (last eq pl whole) =
+        executing refl eq (way-acts L e (acting rest lines soon pl) (told-at known whole) settled clean way)
 
     goes-alt : {hi : ℕ} → Rest L st μ t (Only path) ws → Lined L st t (Only path) ws
         → AltGoes (S L) b st (i .vars) (i .chans) q hi μ at (regsOf (cpuOf s)) → hi ≤ i .left + cpuOf s .place
@@ -150,7 +182,7 @@ module _ (L : Loaded) where
         → Did L (Byte s) s st (bytesLeft (S L) t)
     goes-alt rest lines way soon (prefixed o eq h′) =
         gathers rest lines soon (alt-far (S L) b (inside (S L) e) way) o eq (λ less. now-alt (onward h′) way less)
-    goes-alt rest lines way soon (last eq pl) = executing refl eq (alt-acts L e (acting rest lines soon pl) way)
+    goes-alt rest lines way soon (last eq pl whole) = executing refl eq (alt-acts L e (acting rest lines soon pl) way)
 
     goes-start : (B : StartsLeft) → Rest L st μ t (Starting path B) ws → Lined L st t (Starting path B) ws
         → (now : NowStarts L s st μ t path q b i B)
@@ -163,7 +195,7 @@ module _ (L : Loaded) where
         (now .unmarked) r at real
         leaf rest lines eq refl refl refl run (onward h′) (omega (arith, now .soon, one-on)) (omega (arith, now .soon, far, ends, h .upto))
         (subst (λ n. Starts (S L) (st .store) (B .s) (B .ss) (B .d) (B .b) (B .first) (B .w) (now .hi) μ n (regsOf r)) is (now .way))
-    goes-start B rest lines now is (last eq pl) =
+    goes-start B rest lines now is (last eq pl whole) =
         executing refl eq
         (starts-acts L B (now .first-branch) (now .next-one) (now .same-w) (now .all-to-start) (now .own) (now .inner) (now .near)
         (now .unmarked) (acting rest lines (now .soon) pl) e
@@ -171,18 +203,19 @@ module _ (L : Loaded) where
         (now .way)))
 
   -- a process that has the processor takes a byte
-  pub byte-goes : {s : World} {st : State} {n : ℕ} → Inv L s st n → ended (s .machine) ≡ false → waits (s .machine) ≡ false
+  pub byte-goes : {s : World} {st : State} {n : ℕ} → Inv L s st n → Known s → ended (s .machine) ≡ false → waits (s .machine) ≡ false
       → Did L (Byte s) s st n
-  byte-goes (runs real run leaf rest lines (now-goes (within e h) way settled clean soon)) no-end busy =
-      goes real run leaf e h rest lines way settled clean soon (turned real run leaf e h)
-  byte-goes (runs real run leaf rest lines (now-alt (within e h) way soon)) no-end busy =
-      goes-alt real run leaf e h rest lines way soon (turned real run leaf e h)
-  byte-goes {s} (runs real run leaf rest lines (now-goes (at-end e h) way settled clean soon)) no-end busy =
+  byte-goes (runs real run leaf rest lines (now-goes (within e h) way settled clean soon)) known no-end busy =
+      goes real run leaf e h known rest lines way settled clean soon (turned real run leaf e h known)
+  byte-goes (runs real run leaf rest lines (now-alt (within e h) way soon)) known no-end busy =
+      goes-alt real run leaf e h known rest lines way soon (turned real run leaf e h known)
+  byte-goes {s} (runs real run leaf rest lines (now-goes (at-end e h) way settled clean soon)) known no-end busy =
       never (cc (no-end, at-the-end real run e h))
-  byte-goes {s} (runs real run leaf rest lines (now-alt (at-end e h) way soon)) no-end busy = never (cc (no-end, at-the-end real run e h))
-  byte-goes {s} {st} (starts {t} B real run leaf rest lines now) no-end busy = by (now .here) refl
+  byte-goes {s} (runs real run leaf rest lines (now-alt (at-end e h) way soon)) known no-end busy = never
+      (cc (no-end, at-the-end real run e h))
+  byte-goes {s} {st} (starts {t} B real run leaf rest lines now) known no-end busy = by (now .here) refl
     where
       by : {k : ℕ} → Here L k (cpuOf s .place) (cpuOf s .operand) → now .at ≡ k → Did L (Byte s) s st (bytesLeft (S L) t)
-      by (within e h) is = goes-start real run leaf e h B rest lines now is (turned real run leaf e h)
+      by (within e h) is = goes-start real run leaf e h known B rest lines now is (turned real run leaf e h known)
       by (at-end e h) is = never (cc (no-end, at-the-end real run e h))
-  byte-goes {s} (idle real run operand rest) no-end busy = never (cc (busy, run))
+  byte-goes {s} (idle real run operand rest) known no-end busy = never (cc (busy, run))

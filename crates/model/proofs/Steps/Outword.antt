@@ -33,23 +33,22 @@ use Rattle.model.proofs.Invariant.Trees.{alone, Info, Sits, Tree, bytes
 use Rattle.model.proofs.Invariant.Leaves.{member, Unmarked, Resumes, Waits, Held, h-output, h-woken}
 use Rattle.model.proofs.Effects.OneWord.{cpuOf, stored}
 use Rattle.model.proofs.Effects.Acts.{parked, exec-out-wait, exec-out-alt, exec-out-receiver, notify-waiting, notify-other}
-use Rattle.model.proofs.Invariant.Kernel.{Loaded, S, root, size, LeafAt, owned, Rest, Lined, Real}
-use Rattle.model.proofs.Invariant.Writes.{changed, after-leaf, after-lined, node, apart-parts, apart-zones, own-one, part-small}
-use Rattle.model.proofs.Invariant.Writes.{sits-at, write-var, write-chan}
+use Rattle.model.proofs.Invariant.Kernel.{Loaded, S, root, size, LeafAt, owned, Rest, Lined, Real, node, part-small, sits-at}
+use Rattle.model.proofs.Invariant.Writes.{changed, after-leaf, after-lined, apart-parts, apart-zones, own-one, write-var, write-chan}
 use Rattle.model.proofs.Invariant.Puts.{putting, treeThen, here-then, other-then, lined-then, rest-then, sender-then}
 use Rattle.model.proofs.Invariant.Grounds.{var-in, chan-in, small-size, sound-at}
 use Rattle.model.proofs.Invariant.Traces.{Trace, t-none, t-step}
 use Rattle.model.proofs.Invariant.Running.{Only, Nobody, Did, Executes, executes, Acting}
 use Rattle.model.proofs.Invariant.Reals.{size-is, mirrored, real-state, real-stored, real-talk, link-any, link-var, link-chan}
 use Rattle.model.proofs.Invariant.Scheduling.{settle, lets-go, linkedTo, wakes, Woken}
-use Rattle.model.proofs.Effects.Queues.{joined}
+use Rattle.model.proofs.Effects.Queues.{joined, join-queue}
 use Rattle.model.proofs.Invariant.Finish.{then-settles, step-lets-go, silent}
 use Rattle.model.proofs.Steps.Advance.{Silent, goes-as, leaves-as}
 use Rattle.model.proofs.Steps.Basics.{before-silent}
 use Rattle.model.proofs.Steps.Channels.{Holder, holds-input, holds-output, holds-wait, holds-woken, holds-out, holder}
 use Rattle.model.proofs.Steps.Meets.{Both, not-own, clear-chan, mark-chan, var-above, chan-above, rest-below, real-below}
 use Rattle.model.proofs.Steps.Meets.{partner-goes}
-use Rattle.model.proofs.Invariant.Moving.{same-leaf, rest-in, rest-out, lined-in, lined-out, unqueued}
+use Rattle.model.proofs.Invariant.Moving.{same-leaf, rest-in, lined-in, lined-out, unqueued, rest-with}
 use Rattle.model.proofs.Steps.In.{output-channel}
 use Rattle.model.specs.Alternative.{notify, isAltState, enabling, waiting, ready, noneSelected}
 use Rattle.model.specs.Execute.{execute}
@@ -195,7 +194,8 @@ module _ (L : Loaded) {s : World} {st : State} {μ : Mem} {t : Tree (S L) (root 
 
   -- what holds of it as it waits, in a memory that has these words
   waits-here : {st′ : State} {ν : Mem} → ((v : ℕ) → b .bottom ≤ v → v < b .top → ν v ≡ ν₃ v)
-      → ((d : Site) → List·Memᴰ d (i .chans) → ν (S L .word d) ≡ ν₃ (S L .word d)) → Held (S L) b waiting-info st′ ν false (atOutput c z k)
+      → ((d : Site) → List·Memᴰ d (i .chans) → ν (S L .word d) ≡ ν₃ (S L .word d)) → Held (S L) (L .sleeps) b waiting-info st′ ν false
+      (atOutput c z k)
   waits-here {ν = ν} own chans =
       h-output (record {
         scope = f .2;
@@ -229,7 +229,7 @@ module _ (L : Loaded) {s : World} {st : State} {μ : Mem} {t : Tree (S L) (root 
       (λ d v g q other r p y x n m inp o.
       own-one L (apart-parts L (A .leaf) x n) own-w
       (subst (Own p) (ap (λ a. ν₃ (S L .word a)) (output-channel (sym q)) ∙ chan-now c (f .2) ∙ upd-same ν₀ (S L .word c) (nameOf w)) o)))
-      (waits-here (λ v lo hi. refl) (λ d m. refl)) (A .operand) coming
+      (λ t f e. never (cc)) (waits-here (λ v lo hi. refl) (λ d m. refl)) (A .operand) coming
       (λ y q g. executes (exec-out-wait (S L .word c) z w (cpuOf s .place) s ea eb refl refl (rw (size-is L (A .real)) w-in)
       (rw (size-is L (A .real)) c-in) c-not-w (mirrored L (A .real) (S L .word c) c-in empty)
       (rw (size-is L (A .real)) (omega (arith, r-low .1, w-in))) (rw (size-is L (A .real)) (omega (arith, s-low .1, w-in))) ∙ q))
@@ -273,7 +273,8 @@ module _ (L : Loaded) {s : World} {st : State} {μ : Mem} {t : Tree (S L) (root 
     rest₂ : Rest L st₂ η t (Both path other) ws
     rest₂ =
         clear-chan L receiver₂ (inr refl)
-        (write-var L receiver (rest-below L (A .leaf) (inl refl) above w z (w-low .0) (w-low .1) (rest-out L (λ y q. inl q) (A .rest))) x z
+        (write-var L receiver (rest-below L (A .leaf) (inl refl) above w z (w-low .0) (w-low .1)
+        (rest-with L receiver (λ t f e. never (cc)) (A .rest))) x z
         (target .0) (target .1) small (inr refl)) c (waits .scope) (inr own-receiver)
 
     lines₂ : Lined L st₂ t (Both path other) ws
@@ -323,7 +324,7 @@ module _ (L : Loaded) {s : World} {st : State} {μ : Mem} {t : Tree (S L) (root 
     woken : Woken L s₂ (putting other (resume l) st₂) η
         (treeThen L receiver₂ (resume l) (leaf-resume l) j (sits-at L receiver₂)) (Only path) (j .w) ws
     woken =
-        partner-goes L real₂ rest₂ lines₂ receiver₂ apart (A .run) waits receiver-same refl receiver-clean
+        partner-goes L real₂ rest₂ lines₂ receiver₂ apart waits receiver-same refl receiver-clean
         (λ a y q p here r g n v o m. never (cc))
 
     abbrev st₃ : State
@@ -382,7 +383,7 @@ module _ (L : Loaded) {s : World} {st : State} {μ : Mem} {t : Tree (S L) (root 
         (mirrored L (A .real) (stateWord (j .w)) small-j (waits .message-at))
         (no-alt-state (S L .word x) (omega (arith, x-in, small-size L)))
         (rw size-s x-in)
-        ∙ rw (woken .joins))
+        ∙ rw (join-queue (j .w) s₂ (A .run) (woken .enqueued)))
 
     pub did-send : Did L (Executes L (operation I.outword) s) s st (bytesLeft (S L) t)
     did-send =
@@ -430,7 +431,8 @@ module _ (L : Loaded) {s : World} {st : State} {μ : Mem} {t : Tree (S L) (root 
     rest₁ =
         parks (inl refl)
         (write-chan L (A .leaf)
-        (rest-below L (A .leaf) (inl refl) above w z (w-low .0) (w-low .1) (rest-out L (λ y q. inl q) (A .rest))) c (nameOf w) (f .2)
+        (rest-below L (A .leaf) (inl refl) above w z (w-low .0) (w-low .1) (rest-with L chooser (λ t f e. never (cc)) (A .rest))) c
+        (nameOf w) (f .2)
         (λ y r p g x n. (
           (λ o. own-one L (apart-parts L chooser x (λ q. n (inr q))) own-j
               (subst (Own p) (upd-other μ w z (S L .word c) c-not-w ∙ here) o)),
@@ -541,15 +543,15 @@ module _ (L : Loaded) {s : World} {st : State} {μ : Mem} {t : Tree (S L) (root 
         let tall : j .w + 1 ≤ d .top = cont-low (S L) d (a .after) in
         let unheld = unqueued L {Out = Both path other} leaf₅ (inl refl) lines₅ in
         let rest₆ = rest-in L {Out′ = Only other} leaf₅
-        (subst (λ y. Held (S L) b waiting-info st₁ ν₄ y (atOutput c z k)) (sym unheld) (waits-here own₄ chans₄))
-        (λ y n q. ⊎-elim (λ e. absurd (n e)) (λ e. e) q) rest₅ in
+        (subst (λ y. Held (S L) (L .sleeps) b waiting-info st₁ ν₄ y (atOutput c z k)) (sym unheld) (waits-here own₄ chans₄))
+        (λ y n q. ⊎-elim (λ e. absurd (n e)) (λ e. e) q) (λ y q. inr q) (λ t f e. never (cc)) rest₅ in
         let resume-word : ν₄ (resumeWord (j .w)) ≡ μ (resumeWord (j .w)) =
         alt-word (resumeWord (j .w)) (omega (arith, p .room, p .low, part-small L chooser, small-size L))
         (omega (arith, p .room, p .low, part-small L chooser, small-size L))
         (λ q. absurd (omega (arith, a .fine .0, p .low, part-small L chooser, small-size L))) in
         let base-word : ν₄ (j .w) ≡ μ (j .w) =
         alt-word (j .w) (omega (arith, p .room)) (omega arith) (λ q. absurd (omega (arith, t-low .1))) in
-        let held : Held (S L) d j st₁ ν₄ true (atAlt gs l) =
+        let held : Held (S L) (L .sleeps) d j st₁ ν₄ true (atAlt gs l) =
         h-woken a (record { place = resume-word ∙ r .place; soon = r .soon }) (upd-same ν₃ (stateWord (j .w)) ready)
         (record {
           marks = alt-marked marks;
@@ -558,9 +560,10 @@ module _ (L : Loaded) {s : World} {st : State} {μ : Mem} {t : Tree (S L) (root 
         }) in
         let woken = wakes L {Out′ = Nobody} (real₄ lines) rest₆
         (lined-in L (λ y q. inr q) lines₅) chooser₅ refl held (λ y n q. absurd (n q))
-        (λ y q. absurd q) (λ q. q) (A .run) in
+        (λ y q. absurd q) (λ q. q) in
         step-lets-go L coming
-        (λ y q g. executes (told state refl ∙ rw (notify-waiting (j .w) s₃ (rw (size-is L (A .real)) alt-in), woken .joins) q))
+        (λ y q g. executes (told state refl
+        ∙ rw (notify-waiting (j .w) s₃ (rw (size-is L (A .real)) alt-in), join-queue (j .w) s₄ (A .run) (woken .enqueued)) q))
         (silent L s (joined (j .w) ws s₄) refl) (lets-go L (A .operand) (woken .real) (woken .rest) (woken .lines))
 
     -- it was woken before: it stays Ready
@@ -581,7 +584,7 @@ module _ (L : Loaded) {s : World} {st : State} {μ : Mem} {t : Tree (S L) (root 
         alt-word (j .w) (omega (arith, p .room)) (omega arith) (λ q. absurd (omega (arith, t-low .1))) in
         let more : (y : Site) → Sender st y → Sender st₁ y =
         λ y q. sender-then L (A .leaf) (atOutput c z k) l-output waiting-info sits-here y (λ v g e. never (cc)) q in
-        let held : Held (S L) d j st₁ ν₄ true (atAlt gs l) =
+        let held : Held (S L) (L .sleeps) d j st₁ ν₄ true (atAlt gs l) =
         h-woken a (record { place = resume-word ∙ r .place; soon = r .soon }) (upd-same ν₃ (stateWord (j .w)) ready)
         (record {
           marks = alt-marked (dis .marks);
@@ -590,10 +593,10 @@ module _ (L : Loaded) {s : World} {st : State} {μ : Mem} {t : Tree (S L) (root 
               (λ y. inr (base-word ∙ y .0, ready-more more refl (y .1))) (dis .chosen);
         }) in
         let rest₆ = rest-in L {Out′ = Only other} leaf₅
-        (subst (λ y. Held (S L) b waiting-info st₁ ν₄ y (atOutput c z k)) (sym unheld) (waits-here own₄ chans₄))
-        (λ y n q. ⊎-elim (λ e. absurd (n e)) (λ e. e) q) rest₅ in
-        let rest₇ = rest-in L {Out′ = Nobody} chooser₅ (subst (λ y. Held (S L) d j st₁ ν₄ y (atAlt gs l)) (sym queued) held)
-        (λ y n q. absurd (n q)) rest₆ in
+        (subst (λ y. Held (S L) (L .sleeps) b waiting-info st₁ ν₄ y (atOutput c z k)) (sym unheld) (waits-here own₄ chans₄))
+        (λ y n q. ⊎-elim (λ e. absurd (n e)) (λ e. e) q) (λ y q. inr q) (λ t f e. never (cc)) rest₅ in
+        let rest₇ = rest-in L {Out′ = Nobody} chooser₅ (subst (λ y. Held (S L) (L .sleeps) d j st₁ ν₄ y (atAlt gs l)) (sym queued) held)
+        (λ y n q. absurd (n q)) (λ y q. absurd q) (λ t f e. never (cc)) rest₆ in
         step-lets-go L coming
         (λ y q g. executes
         (told state refl ∙ rw (notify-other (j .w) ready s₃ (rw (size-is L (A .real)) alt-in) (λ q. absurd (omega arith))) q))

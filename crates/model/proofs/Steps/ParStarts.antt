@@ -31,8 +31,7 @@ use Rattle.model.proofs.Quiet.Onwards.{Started, all-start, ends-next, s
 use Rattle.model.proofs.Invariant.Trees.{distanceOf, Info, newInfo, Tree, bytesLeft}
 use Rattle.model.proofs.Invariant.Leaves.{Unmarked}
 use Rattle.model.proofs.Effects.OneWord.{cpuOf, stored, exec-stl}
-use Rattle.model.proofs.Invariant.Kernel.{Loaded, S, root, LeafAt, Rest, Lined, Real}
-use Rattle.model.proofs.Invariant.Writes.{part-small}
+use Rattle.model.proofs.Invariant.Kernel.{Loaded, S, root, LeafAt, Rest, Lined, Real, part-small}
 use Rattle.model.proofs.Invariant.Grounds.{small-size, sound-at}
 use Rattle.model.proofs.Invariant.Traces.{t-none, t-step}
 use Rattle.model.proofs.Invariant.Running.{Only, StartsLeft, Later, l-here, l-next, not-started, Starting, fresh, ToStart, starts}
@@ -236,7 +235,8 @@ module _ (L : Loaded) {s : World} {st : State} {μ : Mem} {t : Tree (S L) (root 
       let none : cpuOf s .workspace - 0 ≡ cpuOf s .workspace = omega arith in
       step-settles L (forks L A clean c val place) (counted L A clean c val place) (silent L s (u L A clean c val place) refl)
       (settle L (real₀ L A clean c val place) leaf
-      (rest-narrow L (λ other q e j m o. only-first A c m o) (rest₁ L A clean c val place))
+      (rest-narrow L (λ other q e j m o. only-first A c m o)
+      (λ other o. branch-of 0 (sym o)) (rest₁ L A clean c val place))
       (lined-in L (λ other o. branch-of 0 (sym o)) (lines₁ L A clean c val place)) (whole (S L))
       (record {
         run = A .run;
@@ -335,7 +335,8 @@ module _ (L : Loaded) {s : World} {st : State} {μ : Mem} {t : Tree (S L) (root 
       came X (step [] (forkState L (A .leaf) c) ∷ []) (counted L A clean c val place)
       (t-step (forks L A clean c val place) t-none) (silent L s X refl)
       (starts all-to-start (real₀ L A clean c val place) (A .run) (branch-leaf L A clean c val place last)
-      (rest-narrow L (λ other q e j m o. all-starting m o) (rest₁ L A clean c val place))
+      (rest-narrow L (λ other q e j m o. all-starting m o)
+      (λ other o. branch-starting o) (rest₁ L A clean c val place))
       (lined-in L (λ other o. branch-starting o) (lines₁ L A clean c val place))
       (record {
         hi = hi₁;

@@ -26,9 +26,10 @@ use Rattle.model.proofs.Quiet.Onwards.{AltWay, alt-goes}
 use Rattle.model.proofs.Invariant.Trees.{Info, Tree, bytesLeft}
 use Rattle.model.proofs.Invariant.Leaves.{Unmarked, Held, h-queued}
 use Rattle.model.proofs.Effects.OneWord.{cpuOf, stored, exec-ldl, exec-stl, exec-cj-jumps, exec-j}
+use Rattle.model.proofs.Effects.Queues.{join-queue}
 use Rattle.model.proofs.Effects.Acts.{exec-j-over, testPlace-in}
-use Rattle.model.proofs.Invariant.Kernel.{Loaded, S, root, size, LeafAt, Rest, Real}
-use Rattle.model.proofs.Invariant.Writes.{node, part-small, sits-at, write-own, left-out}
+use Rattle.model.proofs.Invariant.Kernel.{Loaded, S, root, size, LeafAt, Rest, Real, node, part-small, sits-at}
+use Rattle.model.proofs.Invariant.Writes.{write-own, left-out}
 use Rattle.model.proofs.Invariant.Grounds.{var-in, small-size}
 use Rattle.model.proofs.Invariant.Traces.{t-none}
 use Rattle.model.proofs.Invariant.Running.{Only, Nobody, off-small, Did, Executes, executes, Acting}
@@ -184,7 +185,7 @@ module _ (L : Loaded) {s : World} {st : State} {μ : Mem} {t : Tree (S L) (root 
 
     -- it is queued, to go on where the jump leads
     queued-as : {u : Tree (S L) (root L) (st .process)} → LeafAt L st u path q b (relaid w (i .left - 1) i) → 1 ≤ i .left
-        → Held (S L) b (relaid w (i .left - 1) i) st (upd μ v (L .off k)) true q
+        → Held (S L) (L .sleeps) b (relaid w (i .left - 1) i) st (upd μ v (L .off k)) true q
     queued-as leaf more =
         h-queued
         (comes s-none settled
@@ -200,11 +201,12 @@ module _ (L : Loaded) {s : World} {st : State} {μ : Mem} {t : Tree (S L) (root 
         elim (relabel L (A .leaf) refl w (i .left - 1) placed (omega (arith, sits-at L (A .leaf) .few)) parked-rest (A .lined)) [
           | relabelled t′ leaf rest lines e others ↦
               let woken = wakes L {Out′ = Nobody} parked-real rest lines leaf refl (queued-as leaf more) (λ other d p. absurd (d p))
-              (λ other p. absurd p) (λ p. p) (A .run) in
+              (λ other p. absurd p) (λ p. p) in
               then-lets-go L t-none (inl (omega arith))
               (λ x f g. executes
               (exec-j-over _ (L .off k) w s c (target k h) refl (rw (size-is L (A .real)) (omega (arith, v-high, high)))
-              ∙ rw (woken .joins, f) (testPlace-in (L .off k) x (rw g (off-small L k h)))))
+              ∙ rw (join-queue w (stored v (L .off k) s) (A .run) (woken .enqueued), f)
+              (testPlace-in (L .off k) x (rw g (off-small L k h)))))
               (silent L s (stored v (L .off k) s) refl) (lets-go L (A .operand) (woken .real) (woken .rest) (woken .lines))
         ]
 

@@ -30,9 +30,8 @@ use Rattle.model.proofs.Invariant.Leaves.{Unmarked, Held, h-queued}
 use Rattle.model.proofs.Invariant.Stays.{unmarked-stays}
 use Rattle.model.proofs.Effects.OneWord.{cpuOf, stored}
 use Rattle.model.proofs.Effects.Acts.{exec-startp}
-use Rattle.model.proofs.Effects.Queues.{joined}
-use Rattle.model.proofs.Invariant.Kernel.{Loaded, S, root, LeafAt, Rest, Lined, Real}
-use Rattle.model.proofs.Invariant.Writes.{part-small, sits-at}
+use Rattle.model.proofs.Effects.Queues.{joined, join-queue}
+use Rattle.model.proofs.Invariant.Kernel.{Loaded, S, root, LeafAt, Rest, Lined, Real, part-small, sits-at}
 use Rattle.model.proofs.Invariant.Grounds.{small-size, sound-at}
 use Rattle.model.proofs.Invariant.Traces.{t-none}
 use Rattle.model.proofs.Invariant.Running.{Only, StartsLeft, Later, l-here, l-next, not-started, Starting, fresh, ToStart, starts}
@@ -119,7 +118,7 @@ module _ (L : Loaded) {s : World} {st : State} {μ : Mem} {t : Tree (S L) (root 
   apart : path ≢ child
   apart e = branch-differ (B .par) (λ z. absurd (omega (arith, next-one, z))) (sym first-branch ∙ e)
 
-  started-held : Held (S L) part info st μ₁ true (begin (B .s) [])
+  started-held : Held (S L) (L .sleeps) part info st μ₁ true (begin (B .s) [])
   started-held =
       h-queued (next-start .comes)
       (record {
@@ -146,7 +145,7 @@ module _ (L : Loaded) {s : World} {st : State} {μ : Mem} {t : Tree (S L) (root 
         executes
         (exec-startp w (cpuOf s .b) (L .off (suc at)) s (point .child) refl (A .placed)
         (rw (size-is L (A .real)) (omega (arith, below-v, placed .low, part-small L (next-start .leaf))))
-        ∙ rw (point .place, woken .joins))
+        ∙ rw (point .place, join-queue w s₁ (A .run) (woken .enqueued)))
 
     fewer-left : i .left - 1 + 1 ≡ i .left
     fewer-left = omega (arith, A .left, near, rises-le (S L) (suc at) (B .first) (omega (arith, seg-length (point .rest))) inner)
@@ -160,7 +159,7 @@ module _ (L : Loaded) {s : World} {st : State} {μ : Mem} {t : Tree (S L) (root 
       only-left other n (inr (not-started (suc k) few z)) = absurd (omega (arith, ap howMany e))
 
       last-woken : Woken L s₁ st μ₁ u (Only path) w ws
-      last-woken = wakes L real₁ rest lines child-leaf out started-held only-left (λ other z. inl z) apart (A .run)
+      last-woken = wakes L real₁ rest lines child-leaf out started-held only-left (λ other z. inl z) apart
 
       last-started : Did L (Executes L (operation I.startp) s) s st (bytesLeft (S L) t)
       unfolding codeStarts
@@ -226,7 +225,7 @@ module _ (L : Loaded) {s : World} {st : State} {μ : Mem} {t : Tree (S L) (root 
       not-child (inr (not-started k few z)) = branch-differ (B .par) (λ y. absurd (omega (arith, y))) z
 
       next-woken : Woken L s₁ st μ₁ u (Starting path C) w ws
-      next-woken = wakes L real₁ rest lines child-leaf out started-held still fewer not-child (A .run)
+      next-woken = wakes L real₁ rest lines child-leaf out started-held still fewer not-child
 
       abbrev μ₂ : Mem
       μ₂ = linkedTo L w ws μ₁

@@ -17,6 +17,7 @@ use Rattle.model.specs.declared.kinds.ExprKind.{ExprKind}
 use Rattle.model.specs.declared.kinds.ExprKind.the-variants.{Constant, Variable, Not, Binary}
 use Rattle.model.specs.declared.kinds.StmtKind.{StmtKind}
 use Rattle.model.specs.declared.kinds.StmtKind.the-variants.{Skip, Stop, Assign, Input, Output, Var, Chan, Seq, Par, If, While, Alt}
+use Rattle.model.specs.declared.kinds.StmtKind.the-variants.{Time, Wait}
 use Rattle.model.specs.declared.kinds.GuardKind.{GuardKind}
 use Rattle.model.specs.declared.kinds.GuardKind.the-variants.{Input as InputGuard, Skip as SkipGuard}
 use Rattle.model.specs.Usage.{firstClash}
@@ -139,6 +140,8 @@ module _ (scope : Scope) (inner : Inner) (expr : Tells (inner .expr)) (body : (s
   of-stmtOf p If = bind (of-readCount _ _) (λ n. bind (of-readMany _ _ _ of-readPair n) (λ ps. gives _))
   of-stmtOf p While = bind expr (λ e. bind (body scope) (λ s. gives _))
   of-stmtOf p Alt = bind (of-readCount _ _) (λ n. bind (of-readMany _ _ _ of-readGuard n) (λ gs. gives _))
+  of-stmtOf p Time = bind of-variable (λ x. gives _)
+  of-stmtOf p Wait = bind expr (λ e. gives _)
 
 of-readStmt : (d : ℕ) (scope : Scope) → Tells (readStmt d scope)
 unfolding readStmt

@@ -19,6 +19,7 @@ use Rattle.model.specs.declared.kinds.ExprKind.{ExprKind}
 use Rattle.model.specs.declared.kinds.ExprKind.the-variants.{Constant, Variable, Not, Binary}
 use Rattle.model.specs.declared.kinds.StmtKind.{StmtKind}
 use Rattle.model.specs.declared.kinds.StmtKind.the-variants.{Skip, Stop, Assign, Input, Output, Var, Chan, Seq, Par, If, While, Alt}
+use Rattle.model.specs.declared.kinds.StmtKind.the-variants.{Time, Wait}
 use Rattle.model.specs.declared.kinds.GuardKind.{GuardKind}
 use Rattle.model.specs.declared.kinds.GuardKind.the-variants.{Input as InputGuard, Skip as SkipGuard}
 use Rattle.model.specs.Scheme.{howMany}
@@ -250,6 +251,8 @@ module _ {end : ℕ} {sc : Scope} {inner : Inner} (i : InnerSound end sc inner) 
       next (count-reads 0 partLimit at) λ at₁ n le₁ gn.
       next (many-reads (λ n. ReadGuards sc) (λ at. (tt, λ lo h. h)) (λ k. guard-reads) n at₁) λ to ps le₂ g.
       done (g .0, λ lo l. g .1 lo (omega arith))
+  stmt-of p at lt Time = next (variable-reads sc at) λ to x le₁ gx. done (gx, λ lo l. omega arith)
+  stmt-of p at lt Wait = next (i .whole at) λ to e le₁ ge. done (ge, λ lo l. omega arith)
 
 stmt-reads : {end : ℕ} (d : ℕ) (sc : Scope) (at : ℕ) → Sound end Stmt at (ReadStmt sc at) (readStmt d sc at)
 unfolding readStmt

@@ -6,7 +6,7 @@ use mathlib.Core.List.{[], _++_, List·Memᴰ}
 use Rattle.model.specs.Limits.{channelLimit, nameLimit, branchLimit}
 use Rattle.model.specs.Syntax.{Site, inputOf, outputOf, Expr, constant, variable, NOT, binary, Stmt, SKIP, STOP, assign, input}
 use Rattle.model.specs.Syntax.{output, VAR, CHAN, SEQ, PAR, IF, WHILE, ALT, Stmts, noStmt, stmt, Pairs, noPair, pair, Guards, noGuard}
-use Rattle.model.specs.Syntax.{Guard, inputGuard, skipGuard, guard, Program}
+use Rattle.model.specs.Syntax.{Guard, inputGuard, skipGuard, guard, Program, TIME, WAIT}
 use Rattle.model.specs.Reader.{Scope, canInput, canOutput, withVariables, withChannels, numbered}
 use Rattle.model.specs.Counts.{need}
 use Rattle.model.specs.Scheme.{howMany}
@@ -41,6 +41,8 @@ abbrev mutual
   Well sc (IF ps) = WellPairs sc ps
   Well sc (WHILE e s) = WellExpr sc e × Well sc s
   Well sc (ALT gs) = WellGuards sc gs
+  Well sc (TIME x) = List·Memᴰ x (sc .variables)
+  Well sc (WAIT e) = WellExpr sc e
 
   pub WellAll : Scope → Stmts → Type 0
   WellAll sc noStmt = Unit {0}
@@ -76,6 +78,8 @@ abbrev mutual
   Placed lo hi (IF ps) = PlacedPairs lo hi ps
   Placed lo hi (WHILE e s) = Placed lo hi s
   Placed lo hi (ALT gs) = PlacedGuards lo hi gs
+  Placed lo hi (TIME x) = lo ≤ hi
+  Placed lo hi (WAIT e) = lo ≤ hi
 
   pub PlacedAll : (lo hi : ℕ) → Stmts → Type 0
   PlacedAll lo hi noStmt = lo ≤ hi
@@ -105,6 +109,8 @@ module _ (at : ℕ → ℕ) where
     Laid w (IF ps) = LaidPairs w ps
     Laid w (WHILE e s) = Laid w s
     Laid w (ALT gs) = LaidGuards w gs
+    Laid w (TIME x) = Unit {0}
+    Laid w (WAIT e) = Unit {0}
 
     pub LaidAll : (w : ℕ) → Stmts → Type 0
     LaidAll w noStmt = Unit {0}

@@ -9,7 +9,7 @@ use mathlib.Core.List.{List·Memᴰ·head, List·Memᴰ·tail, List·Memᴰ·eq-
 use mathlib.Core.Option.{none}
 use Rattle.model.specs.Syntax.{Site, inputOf, outputOf, declared, Expr, constant, variable, NOT, binary, Stmt, SKIP, STOP, assign}
 use Rattle.model.specs.Syntax.{input, output, VAR, CHAN, SEQ, PAR, IF, WHILE, ALT, Stmts, noStmt, stmt, Pairs, noPair, pair, Guard}
-use Rattle.model.specs.Syntax.{inputGuard, skipGuard, condition, Guards, noGuard, guard, Program}
+use Rattle.model.specs.Syntax.{inputGuard, skipGuard, condition, Guards, noGuard, guard, Program, TIME, WAIT}
 use Rattle.model.specs.Reader.{Scope, canInput, canOutput, names, numbered, withVariables, withChannels, program}
 use Rattle.model.specs.Usage.{Usage, _⊕_, reads, reading, usage, usageAll, usagePairs, guardUsage, usageGuards, clash, clashesLater}
 use Rattle.model.specs.Usage.{anyClash, firstClash, firstClashAll, firstClashPairs, firstClashGuards}
@@ -306,6 +306,11 @@ module _ (word : Site → ℕ) where
         omega arith,
         fine-guards gs a sc vars chans lo hi w k h pl l c f (omega arith) t,
       )
+      fine (TIME x) a sc vars chans lo hi w k h pl l c f n t = (k .variables x h, c .changes x (List·Memᴰ·head refl))
+      fine (WAIT e) a sc vars chans lo hi w k h pl l c f n t = (
+        omega arith,
+        fine-whole a sc vars (k .variables) e h (c .reads) w 0 (omega (arith, lowered-few (temporaries e))),
+      )
 
       fine-all : (ss : Stmts) (a : Part) (sc : Scope) (vars chans : List Site) (lo hi w : ℕ) → Scoped sc vars chans lo
           → WellAll sc ss → PlacedAll lo hi ss → LaidAll at w ss → Covers a (usageAll ss) (declaresAll ss)
@@ -446,6 +451,8 @@ mutual
   one-way (IF ps) sc l h = one-way-pairs ps sc l h
   one-way (WHILE e s) sc l h = one-way s sc l (h .1)
   one-way (ALT gs) sc l h = one-way-guards gs sc l h
+  one-way (TIME x) sc l h = no-way
+  one-way (WAIT e) sc l h = no-way
 
   one-way-all : (ss : Stmts) (sc : Scope) (l : ℕ) → WellAll sc ss → OneWay l (usageAll ss .outputs) (usageAll ss .inputs)
   one-way-all noStmt sc l h = no-way

@@ -7,7 +7,7 @@ use mathlib.Core.Logic.{_⊎_}
 use mathlib.Core.List.{List, [], _++_, List·Memᴰ}
 use Rattle.model.specs.Syntax.{Site, declared, Expr, Stmt, SKIP, STOP, assign, input, output, VAR, CHAN, SEQ, PAR, IF, WHILE, ALT}
 use Rattle.model.specs.Syntax.{Stmts, noStmt, stmt, Pairs, noPair, pair, Guard, inputGuard, skipGuard, condition, Guards, noGuard}
-use Rattle.model.specs.Syntax.{guard}
+use Rattle.model.specs.Syntax.{guard, TIME, WAIT}
 use Rattle.model.specs.Reader.{names}
 use Rattle.model.specs.Counts.{temporaries, need, sumNeed}
 use Rattle.model.specs.Usage.{usage}
@@ -29,6 +29,8 @@ need-two (PAR p ss) = omega arith
 need-two (IF ps) = omega arith
 need-two (WHILE e s) = omega arith
 need-two (ALT gs) = omega arith
+need-two (TIME x) = omega arith
+need-two (WAIT e) = omega arith
 
 -- the words of the first branch and of the others
 pub sum-first : (s : Stmt) (ss : Stmts) → sumNeed (stmt s ss) ≡ need s + sumNeed ss
@@ -71,6 +73,8 @@ unfoldable mutual
   declares (IF ps) = declaresPairs ps
   declares (WHILE e s) = declares s
   declares (ALT gs) = declaresGuards gs
+  declares (TIME x) = []
+  declares (WAIT e) = []
 
   pub declaresAll : Stmts → List Site
   declaresAll noStmt = []
@@ -173,6 +177,8 @@ module _ (word : Site → ℕ) where
     Fine a vars chans w (IF ps) = (a .bottom + 2 ≤ w) × FinePairs a vars chans w ps
     Fine a vars chans w (WHILE e s) = (a .bottom + 2 ≤ w) × FineWhole a vars w 0 e × Fine a vars chans w s
     Fine a vars chans w (ALT gs) = (a .bottom + 4 ≤ w) × FineGuards a vars chans w gs
+    Fine a vars chans w (TIME x) = Target a vars x
+    Fine a vars chans w (WAIT e) = (a .bottom + 5 ≤ w) × FineWhole a vars w 0 e
 
     pub FineAll : Part → (vars chans : List Site) (w : ℕ) → Stmts → Type 0
     FineAll a vars chans w noStmt = Unit {0}

@@ -2,12 +2,10 @@
 -- they are numbers (02, order 4: a time must lie less than 2^30 ticks before or after every clock word in force).
 use Prim.Native.Nat.{ℕ, _+_, _-_, _^_, _≤_, _<_}
 use native.Mathlib.Omega.{arith}
-use mathlib.Core.Path.{_≡_, refl, sym, _∙_}
-use mathlib.Core.Bool.{Bool, true, false, cond}
-use lib.Dec.{ltb}
-use lib.IntN.{ℤ, pos, negsuc}
-use lib.Signed.{ltZ}
-use borrow.Author.Tests.{lt-ltb, le-ltb, ltb-true, ltb-false}
+use mathlib.Core.Path.{_≡_}
+use mathlib.Core.Bool.{true, false}
+use lib.Dec.{ltb, leb}
+use borrow.Author.Tests.{lt-ltb, ltb-true, ltb-false, leb-true, leb-false}
 use Rattle.model.specs.Word.{low, less, signed, after}
 use Rattle.model.proofs.Cases.{by-bool, never}
 
@@ -59,3 +57,19 @@ stays-past {c} {d} {t} cw dw tw n m e p =
     (λ g.
     let b = ltb-false (distance d t) (2 ^ 30) g in
     never (cc (is-after c d (omega (arith, n .before, m .behind)) (omega (arith, n .before, m .behind))))))
+
+-- where a near time is not past, none at a larger distance is
+pub stays-ahead : {c t u : ℕ} → c < 2 ^ 32 → t < 2 ^ 32 → u < 2 ^ 32 → Near c t → Near c u → distance c t ≤ distance c u → after c t ≡ false
+    → after c u ≡ false
+stays-ahead {c} {t} {u} cw tw uw n m h e =
+    by-bool (after c u) (λ p. never (cc (e, near-past cw tw n (omega (arith, h, past-near cw uw m p))))) (λ f. f)
+
+-- times that are near two clock words lie in the same order seen from both
+pub order-kept : {c d t u : ℕ} → c < 2 ^ 32 → d < 2 ^ 32 → t < 2 ^ 32 → u < 2 ^ 32 → Near c t → Near c u → Near d t → Near d u
+    → distance c t ≤ distance c u → distance d t ≤ distance d u
+order-kept {c} {d} {t} {u} cw dw tw uw n m k l h =
+    by-bool (leb (distance d t) (distance d u)) (λ e. leb-true _ _ e)
+    (λ e. never (cc (
+      later-after dw tw uw k l (omega (arith, leb-false (distance d t) (distance d u) e)),
+      earlier-not cw tw uw n m h,
+    )))

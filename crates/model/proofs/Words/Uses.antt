@@ -8,7 +8,7 @@ use mathlib.Core.List.{List, [], _∷_, _++_, List·Memᴰ, List·Memᴰ·append
 use mathlib.Core.List.{List·Memᴰ·eq-of-singleton, Memᴰ·cast}
 use Rattle.model.specs.Syntax.{Site, declared, Expr, constant, variable, NOT, binary, Stmt, SKIP, STOP, assign, input, output, VAR}
 use Rattle.model.specs.Syntax.{CHAN, SEQ, PAR, IF, WHILE, ALT, Stmts, noStmt, stmt, Pairs, noPair, pair, Guard, inputGuard, skipGuard}
-use Rattle.model.specs.Syntax.{Guards, noGuard, guard}
+use Rattle.model.specs.Syntax.{Guards, noGuard, guard, TIME, WAIT}
 use Rattle.model.specs.Reader.{Scope, names, numbered, withVariables, withChannels}
 use Rattle.model.specs.Usage.{Usage, reads, usage, usageAll, usagePairs, guardUsage, usageGuards, isIn, share, clash}
 use Rattle.model.proofs.Cases.{never}
@@ -84,6 +84,8 @@ mutual
   placed-le (IF ps) h = placed-le-pairs ps h
   placed-le (WHILE e s) h = placed-le s h
   placed-le (ALT gs) h = placed-le-guards gs h
+  placed-le (TIME x) h = h
+  placed-le (WAIT e) h = h
 
   placed-le-all : (ss : Stmts) {lo hi : ℕ} → PlacedAll lo hi ss → lo ≤ hi
   placed-le-all noStmt h = h
@@ -118,6 +120,8 @@ mutual
   declares-from (IF ps) h = declares-pairs ps h
   declares-from (WHILE e s) h = declares-from s h
   declares-from (ALT gs) h = declares-guards gs h
+  declares-from (TIME x) h = from-none
+  declares-from (WAIT e) h = from-none
 
   declares-all : (ss : Stmts) {lo hi : ℕ} → PlacedAll lo hi ss → From [] lo hi (declaresAll ss)
   declares-all noStmt h = from-none
@@ -171,6 +175,8 @@ mutual
   uses-from (WHILE e s) sc w h =
       from-both (reads e) (usage s .uses) (from-reads sc e (w .0)) (uses-from s sc (w .1) h)
   uses-from (ALT gs) sc w h = uses-guards gs sc w h
+  uses-from (TIME x) sc w h = from-one x w
+  uses-from (WAIT e) sc w h = from-reads sc e w
 
   uses-all : (ss : Stmts) (sc : Scope) {lo hi : ℕ} → WellAll sc ss → PlacedAll lo hi ss
       → From (sc .variables) lo hi (usageAll ss .uses)

@@ -24,8 +24,16 @@ returns-5 : tie.Need-returns-5
 unfolding simpleInto
 returns-5 c ns h = simp (c .before .before .enum-told5 .given .1) (c .gen-output .ensures ns h)
 
+returns-6 : tie.Need-returns-6
+unfolding simpleInto
+returns-6 c ns h = simp (c .before .before .enum-told6 .given .1) (c .gen-time .ensures (ns .variables) (h .variables))
+
+returns-7 : tie.Need-returns-7
+unfolding simpleInto
+returns-7 c ns h = simp (c .before .before .enum-told7 .given .1) (c .gen-wait .ensures (ns .variables) (h .variables))
+
 pub gen-simple-spec : {M : Type 1} → statement M
 gen-simple-spec =
     tie.close (tie.spec (λ c. search needs) (λ c. search needs) (λ c κs. search needs) (λ c. search needs) (λ c κs. search needs)
-    (λ c. search needs) (λ c κs. search needs) (λ c. search needs) (λ c κs. search needs) returns returns-2 returns-3 returns-4
-    returns-5)
+    (λ c. search needs) (λ c κs. search needs) (λ c. search needs) (λ c κs. search needs) (λ c. search needs) (λ c κs. search needs)
+    (λ c. search needs) (λ c κs. search needs) returns returns-2 returns-3 returns-4 returns-5 returns-6 returns-7)

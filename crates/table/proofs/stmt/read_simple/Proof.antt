@@ -78,6 +78,18 @@ returns-8 c =
     let e = k .before .before .before .enum-told5 .given .1 in
     let h = sym (k .before .before .read-name2 .ensures) ∙ k .n3 .given .1 in (simp (e, h), simp (e, h))
 
+returns-9 : tie.Need-returns-9
+unfolding simpleAt simpleUses
+returns-9 c =
+    let e = c .before .before .enum-told6 .given .1 in
+    (simp (e, c .read-time .ensures .0), simp (e, c .read-time .ensures .1))
+
+returns-10 : tie.Need-returns-10
+unfolding simpleAt simpleUses
+returns-10 c =
+    let e = c .before .before .enum-told7 .given .1 in
+    (simp (e, c .read-value3 .ensures .0), simp (e, c .read-value3 .ensures .1))
+
 pub read-simple-spec : {M : Type 1} → statement M
 read-simple-spec =
     tie.close
@@ -103,6 +115,10 @@ read-simple-spec =
     mark-requires
     (λ c κs. search needs)
     (λ c. search needs)
+    (λ c. search needs)
+    (λ c κs. search needs)
+    (λ c. search needs)
+    (λ c κs. search needs)
     returns
     returns-2
     returns-3
@@ -110,4 +126,6 @@ read-simple-spec =
     returns-5
     returns-6
     returns-7
-    returns-8)
+    returns-8
+    returns-9
+    returns-10)
