@@ -2,8 +2,8 @@
 common with the Rattle side, and gives the test programs' expected output (expect.py); docs/DECISIONS.md, 65, says how far that goes. Names
 in brackets are places in the documents."""
 
-# The largest kind of a statement and of a guard that the reader takes. Order 4 of document 02 brings guard 2 besides.
-LAST_STATEMENT, LAST_GUARD = 13, 1
+# The largest kind of a statement and of a guard that the reader takes: those of order 4 of document 02.
+LAST_STATEMENT, LAST_GUARD = 13, 2
 
 WORD = 1 << 32
 NOT_PROCESS = 0x80000000

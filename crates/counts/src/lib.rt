@@ -1,9 +1,9 @@
 // What is counted of the parts of a program, for the reader and for the compiler: registers and stored values (document 02, order 2), and
 // words (document 01, "Workspace and code"; 02, order 4). Stored values are at most 255 where they are summed: an expression of 32 levels
-// has fewer than 32, and an entry of the compiler's plan has 8 bits for them.
+// has fewer than 32, and an entry of the compiler's plan has 8 bits for them. Two sides hold at most one more.
 ghost use mathlib.Core.Path.{_≡_};
 ghost use Prim.Native.Nat.{_≤_, max};
-ghost use Rattle.model.specs.Counts.{sidesNeed, orderOf, sidesHold};
+ghost use Rattle.model.specs.Counts.{sidesNeed, orderOf, sidesHold, guardWords};
 ghost use Rattle.counts.specs.Words.{asked, leastWords};
 use model::kinds::Order;
 use numbers::kinds::Head;
@@ -15,13 +15,14 @@ pub const INPUT_WORDS: u32 = 3;
 
 pub const PAR_WORDS: u32 = 2;
 
-// What an expression that stands in no other is: a value or a condition, what is output, a guard's condition, or a time that is waited
-// for.
+// What an expression that stands in no other is: a value or a condition, what is output, a guard's condition, a time that is waited for,
+// or a time guard's time and condition together.
 pub enum Role {
     Value,
     Output,
     Guard,
     Wait,
+    Time,
 }
 
 // The larger of two.
@@ -70,16 +71,25 @@ pub fn sides_hold(order: Order, left: u32, right: u32) -> u32
     }
 }
 
+// The words that an ALT asks for, by the stored values of a guard.
+fn guard_words(stored: u32) -> u32
+    requires { ⌜ stored ≤ 256 ⌝ }
+    ensures { λ r. ⌜ r ≡ guardWords stored ⌝ }
+{
+    if stored == 0 { 0 } else { stored + 8 }
+}
+
 // The words that a statement asks for, by the stored values of an expression in it.
 pub fn ask(role: Role, stored: u32) -> u32
-    requires { ⌜ stored ≤ 255 ⌝ }
+    requires { ⌜ stored ≤ 256 ⌝ }
     ensures { λ r. ⌜ r ≡ asked role stored ⌝ }
 {
     match role {
         Role::Value => stored + 2,
         Role::Output => larger(4, stored + 3),
-        Role::Guard => { if stored == 0 { 0 } else { stored + 8 } }
+        Role::Guard => guard_words(stored),
         Role::Wait => larger(5, stored + 2),
+        Role::Time => larger(6, guard_words(stored)),
     }
 }
 

@@ -10,8 +10,9 @@ use Rattle.model.specs.declared.kinds.Order.the-variants.{LeftFirst, RightFirst
 use Rattle.numbers.specs.Items.{valueAt}
 use Rattle.expressions.specs.Emits.{Code, plainInto, operationInto}
 use Rattle.expressions.specs.Names.{localOf}
-use Rattle.plan.specs.Entries.{nextIn, registersIn, storedIn, planAt}
+use Rattle.plan.specs.Entries.{nextIn, registersIn, storedIn, planAt, sidesHeld}
 use Rattle.expressions.specs.declared.emit.Cursor.{Cursor}
+use Rattle.expressions.specs.declared.sides.Pair.{Pair}
 use Rattle.expressions.specs.declared.sides.Sides.{Sides}
 use Rattle.numbers.specs.Kinds.{exprKind, byExpr, operatorOf}
 use Rattle.model.specs.declared.kinds.Operator.{Operator}
@@ -66,35 +67,39 @@ behindInto LeftFirst h c = c
 behindInto RightFirst h c = operationInto REV c
 behindInto RightStored h c = plainInto LDL h c
 
+-- the places of an operator's sides, the left one at a place. The plan tells where right is, and what is behind it
+unfoldable pub sidesOf : (plan : List ℕ) → (at : ℕ) → Pair
+sidesOf p at = let r = nextIn (planAt p at) in record { left = at; right = r; next = nextIn (planAt p r) }
+
+-- 02, order 4: time and condition as left and right side; the condition is at a place, the time behind it
+unfoldable pub timeAndCondition : (plan : List ℕ) → (at : ℕ) → Pair
+timeAndCondition p at = let x = sidesOf p at in record { left = x .right; right = at; next = x .next }
+
 -- two sides at their places, with h values held before: their order, the side that goes first, the other side and the values held before
--- it, and the place after both
-abbrev pub inOrder : Order → (h left right next : ℕ) → Sides
-inOrder LeftFirst h l r n = record { order = LeftFirst; first = l; second = r; held = h; next = n }
-inOrder RightFirst h l r n = record { order = RightFirst; first = r; second = l; held = h; next = n }
-inOrder RightStored h l r n = record { order = RightStored; first = r; second = l; held = low (h + 1); next = n }
+-- it
+abbrev pub inOrder : Order → (h left right : ℕ) → Sides
+inOrder LeftFirst h l r = record { order = LeftFirst; first = l; second = r; held = h }
+inOrder RightFirst h l r = record { order = RightFirst; first = r; second = l; held = h }
+inOrder RightStored h l r = record { order = RightStored; first = r; second = l; held = low (h + 1) }
 
--- the same of the left one's place. The plan tells where right is and which goes first
-abbrev pub arranged : (plan : List ℕ) → (h at : ℕ) → Sides
-arranged p h at =
-    let l = planAt p at in
-    let right = nextIn l in
-    let r = planAt p right in
-    inOrder (orderOf (registersIn l) (registersIn r)) h at right (nextIn r)
+-- the same by the plan, which tells which goes first
+abbrev pub arranged : (plan : List ℕ) → (h : ℕ) → Pair → Sides
+arranged p h x = inOrder (orderOf (registersIn (planAt p (x .left))) (registersIn (planAt p (x .right)))) h (x .left) (x .right)
 
--- two sides, the left one at a place, apart from the operator; h values are held before
-unfoldable pub sidesInto : (inner : (held at : ℕ) → Code → Wrote) → (plan : List ℕ) → (h at : ℕ) → Code → Wrote
-sidesInto inner p h at c =
-    let a = arranged p h at in
+-- two sides, apart from the operator; h values are held before
+unfoldable pub sidesInto : (inner : (held at : ℕ) → Code → Wrote) → (plan : List ℕ) → (h : ℕ) → Pair → Code → Code
+sidesInto inner p h x c =
+    let a = arranged p h x in
     let one = inner h (a .first) c in
     let two = inner (a .held) (a .second) (betweenInto (a .order) h (codeOf one)) in
-    written (a .next) (behindInto (a .order) h (codeOf two))
+    behindInto (a .order) h (codeOf two)
 
 -- operator, left and right of the table: the sides, then the operation
 unfoldable pub operatedInto : (inner : (held at : ℕ) → Code → Wrote) → (plan s : List ℕ) → (h at : ℕ) → Code → Wrote
 operatedInto inner p s h at c =
     let o = valueAt s at in
-    let r = sidesInto inner p h (o .next) c in
-    written (r .next) (operatorInto (operatorOf (o .value)) (codeOf r))
+    let x = sidesOf p (o .next) in
+    written (x .next) (operatorInto (operatorOf (o .value)) (sidesInto inner p h x c))
 
 -- 01: NOT is EQC 0
 abbrev pub notInto : Wrote → Wrote
@@ -127,3 +132,11 @@ wholeInto d w more vs p s at c =
     let n = lowering (storedIn (planAt p at)) more in
     let e = exprInto d (w - n) vs p s 0 at (adjustInto n (minus n) c) in
     written (e .next) (adjustInto n n (codeOf e))
+
+-- 02, order 4: a time guard's time and condition, brought in as left and right side of an operator, with its wrap. The condition is at a
+-- place, the time behind it
+unfoldable pub bothInto : (depth w more : ℕ) → (vs plan s : List ℕ) → (at : ℕ) → Code → Wrote
+bothInto d w more vs p s at c =
+    let x = timeAndCondition p at in
+    let n = lowering (sidesHeld (planAt p (x .left)) (planAt p (x .right))) more in
+    written (x .next) (adjustInto n n (sidesInto (innerAt d (w - n) vs p s) p 0 x (adjustInto n (minus n) c)))

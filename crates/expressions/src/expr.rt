@@ -1,11 +1,11 @@
 // The code of expressions.
 ghost use mathlib.Core.Path.{_≡_};
-ghost use Rattle.plan.specs.Entries.{storedIn, planAt};
 ghost use Rattle.expressions.specs.Emits.{at as standing};
 ghost use Rattle.expressions.specs.Names.{WithVariables};
 ghost use Rattle.expressions.specs.Exprs.{wrote, operatorInto, constantInto, variableInto, sidesInto, operatedInto, innerAt};
-ghost use Rattle.expressions.specs.Exprs.{exprInto, lowering, adjustInto, wholeInto};
+ghost use Rattle.expressions.specs.Exprs.{exprInto, lowering, adjustInto, wholeInto, bothInto};
 use crate::emit::Cursor;
+use crate::sides::Pair;
 use crate::words::Scope;
 use model::kinds::ExprKind;
 use model::kinds::Operator;
@@ -70,25 +70,26 @@ fn gen_variable(
     }
 }
 
-// Two sides, the left one at a place, apart from the operator.
+// Two sides, apart from the operator.
 fn gen_sides(
     table: &[u8],
     plan: &[u32; 16384],
-    cursor: Cursor,
+    pair: Pair,
+    here: u32,
     depth: u64,
     frame: Frame,
     words: &[u32; 2112],
     list: &mut [u64; 16384],
-) -> Cursor
+) -> u32
     ensures { λ r.
-        ⌜ WithVariables (frame .variables) (now (words .entry)) (λ vs. wrote r (now (list .exit))
-        ≡ sidesInto (innerAt depth (frame .w) vs (now (plan .entry)) (now (table .entry))) (now (plan .entry)) (frame .held) (cursor .at)
-        (standing (cursor .here) (now (list .entry)))) ⌝ }
+        ⌜ WithVariables (frame .variables) (now (words .entry)) (λ vs. standing r (now (list .exit))
+        ≡ sidesInto (innerAt depth (frame .w) vs (now (plan .entry)) (now (table .entry))) (now (plan .entry)) (frame .held) pair
+        (standing here (now (list .entry)))) ⌝ }
 {
-    let sides = crate::sides::arrange(plan, cursor.at, frame.held);
+    let sides = crate::sides::arrange(plan, pair, frame.held);
     let start = Cursor {
         at: sides.first,
-        here: cursor.here,
+        here: here,
     };
     let one = gen_expr(table, plan, start, depth, frame, words, list);
     let order = sides.order;
@@ -103,11 +104,7 @@ fn gen_sides(
         variables: frame.variables,
     };
     let two = gen_expr(table, plan, second, depth, inner, words, list);
-    let end = crate::sides::put_behind(order, frame.held, list, two.here);
-    Cursor {
-        at: sides.next,
-        here: end,
-    }
+    crate::sides::put_behind(order, frame.held, list, two.here)
 }
 
 // What follows an operator's kind: operator, left, right.
@@ -126,16 +123,12 @@ fn gen_binary(
         (frame .held) (cursor .at) (standing (cursor .here) (now (list .entry)))) ⌝ }
 {
     let operator = numbers::value_at(table, cursor.at);
-    let left = Cursor {
-        at: operator.next,
-        here: cursor.here,
-    };
-    let sides = gen_sides(table, plan, left, depth, frame, words, list);
+    let pair = crate::sides::sides_of(plan, operator.next);
+    let here = gen_sides(table, plan, pair, cursor.here, depth, frame, words, list);
     let which = numbers::kinds::operator_of(operator.value as u64);
-    let end = gen_operator(which, list, sides.here);
     Cursor {
-        at: sides.at,
-        here: end,
+        at: pair.next,
+        here: gen_operator(which, list, here),
     }
 }
 
@@ -177,11 +170,10 @@ fn gen_expr(
     }
 }
 
-// By how many words W is lowered for the whole expression at a place: its stored values and so many more; without stored values by none.
-fn lowered(plan: &[u32; 16384], at: usize, more: u32) -> u32
-    ensures { λ r. ⌜ r ≡ lowering (storedIn (planAt (now (plan .entry)) at)) more ⌝ }
+// By how many words W is lowered for a whole expression: its stored values and so many more; without stored values by none.
+fn lowered(stored: u32, more: u32) -> u32
+    ensures { λ r. ⌜ r ≡ lowering stored more ⌝ }
 {
-    let stored = plan::stored_in(plan::entry_at(plan, at));
     if stored == 0 {
         return 0;
     }
@@ -213,7 +205,8 @@ pub fn gen_whole(
         ≡ wholeInto (scope .depth) (scope .w) more vs (now (plan .entry)) (now (table .entry)) (cursor .at)
         (standing (cursor .here) (now (list .entry)))) ⌝ }
 {
-    let n = lowered(plan, cursor.at, more);
+    let stored = plan::stored_in(plan::entry_at(plan, cursor.at));
+    let n = lowered(stored, more);
     let begin = put_adjust(n, crate::emit::minus(n), list, cursor.here);
     let frame = Frame {
         w: crate::words::below(scope.w, n),
@@ -229,5 +222,37 @@ pub fn gen_whole(
     Cursor {
         at: inner.at,
         here: end,
+    }
+}
+
+// A time guard's time and condition, the condition at a place: the sides of an operator that is not there, with the wrap of both.
+pub fn gen_both(
+    table: &[u8],
+    plan: &[u32; 16384],
+    cursor: Cursor,
+    more: u32,
+    scope: Scope,
+    words: &[u32; 2112],
+    list: &mut [u64; 16384],
+) -> Cursor
+    ensures { λ r.
+        ⌜ WithVariables (scope .variables) (now (words .entry)) (λ vs. wrote r (now (list .exit))
+        ≡ bothInto (scope .depth) (scope .w) more vs (now (plan .entry)) (now (table .entry)) (cursor .at)
+        (standing (cursor .here) (now (list .entry)))) ⌝ }
+{
+    let pair = crate::sides::time_and_condition(plan, cursor.at);
+    let time = plan::entry_at(plan, pair.left);
+    let condition = plan::entry_at(plan, pair.right);
+    let n = lowered(plan::sides_held(time, condition), more);
+    let begin = put_adjust(n, crate::emit::minus(n), list, cursor.here);
+    let frame = Frame {
+        w: crate::words::below(scope.w, n),
+        held: 0,
+        variables: scope.variables,
+    };
+    let behind = gen_sides(table, plan, pair, begin, scope.depth, frame, words, list);
+    Cursor {
+        at: pair.next,
+        here: put_adjust(n, n, list, behind),
     }
 }

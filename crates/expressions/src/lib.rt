@@ -11,6 +11,7 @@ pub use emit::distance;
 pub use emit::minus;
 pub use emit::operation;
 pub use emit::plain;
+pub use expr::gen_both;
 pub use expr::gen_whole;
 pub use simple::gen_input;
 pub use simple::gen_simple;

@@ -1,48 +1,73 @@
-// The order in which an operator's sides are brought in (document 02, order 2), and the instructions that it asks for.
+// The order in which an operator's sides are brought in (document 02, order 2), and the instructions that it asks for. A time guard's time
+// and condition are such sides (order 4).
 ghost use mathlib.Core.Path.{_≡_};
 ghost use Rattle.expressions.specs.Emits.{at as standing};
-ghost use Rattle.expressions.specs.Exprs.{arranged, betweenInto, behindInto};
+ghost use Rattle.expressions.specs.Exprs.{sidesOf, timeAndCondition, arranged, betweenInto, behindInto};
 use model::kinds::Order;
 
-// The order, the place of the side that goes first, that of the other and the values held before it, and the place after both.
+// The places of two sides, and the place after both.
+pub struct Pair {
+    pub left: usize,
+    pub right: usize,
+    pub next: usize,
+}
+
+// The order, the place of the side that goes first, that of the other and the values held before it.
 pub struct Sides {
     pub order: Order,
     pub first: usize,
     pub second: usize,
     pub held: u32,
-    pub next: usize,
 }
 
-// Two sides, the left one at a place, with so many values held before.
-pub fn arrange(plan: &[u32; 16384], at: usize, held: u32) -> Sides
-    ensures { λ r. ⌜ r ≡ arranged (now (plan .entry)) held at ⌝ }
+// The sides of an operator: the left one at a place, the right one behind it.
+pub fn sides_of(plan: &[u32; 16384], at: usize) -> Pair
+    ensures { λ r. ⌜ r ≡ sidesOf (now (plan .entry)) at ⌝ }
 {
-    let left = plan::entry_at(plan, at);
-    let behind = plan::next_in(left);
-    let right = plan::entry_at(plan, behind);
-    let next = plan::next_in(right);
-    let order = counts::order_of(plan::registers_in(left), plan::registers_in(right));
-    match order {
+    let right = plan::next_in(plan::entry_at(plan, at));
+    Pair {
+        left: at,
+        right: right,
+        next: plan::next_in(plan::entry_at(plan, right)),
+    }
+}
+
+// A time guard's time and condition: the right one at a place, the left one behind it.
+pub fn time_and_condition(plan: &[u32; 16384], at: usize) -> Pair
+    ensures { λ r. ⌜ r ≡ timeAndCondition (now (plan .entry)) at ⌝ }
+{
+    let sides = sides_of(plan, at);
+    Pair {
+        left: sides.right,
+        right: at,
+        next: sides.next,
+    }
+}
+
+// Two sides, with so many values held before.
+pub fn arrange(plan: &[u32; 16384], pair: Pair, held: u32) -> Sides
+    ensures { λ r. ⌜ r ≡ arranged (now (plan .entry)) held pair ⌝ }
+{
+    let left = plan::entry_at(plan, pair.left);
+    let right = plan::entry_at(plan, pair.right);
+    match counts::order_of(plan::registers_in(left), plan::registers_in(right)) {
         Order::LeftFirst => Sides {
             order: Order::LeftFirst,
-            first: at,
-            second: behind,
+            first: pair.left,
+            second: pair.right,
             held: held,
-            next: next,
         },
         Order::RightFirst => Sides {
             order: Order::RightFirst,
-            first: behind,
-            second: at,
+            first: pair.right,
+            second: pair.left,
             held: held,
-            next: next,
         },
         Order::RightStored => Sides {
             order: Order::RightStored,
-            first: behind,
-            second: at,
+            first: pair.right,
+            second: pair.left,
             held: word::plus(held, 1),
-            next: next,
         },
     }
 }

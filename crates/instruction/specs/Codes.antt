@@ -101,3 +101,15 @@ LDTIMER = 0x22
 
 abbrev pub TIN : ℕ
 TIN = 0x2b
+
+abbrev pub DIST : ℕ
+DIST = 0x2e
+
+abbrev pub ENBT : ℕ
+ENBT = 0x47
+
+abbrev pub TALT : ℕ
+TALT = 0x4e
+
+abbrev pub TALTWT : ℕ
+TALTWT = 0x51

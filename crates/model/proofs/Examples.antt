@@ -26,6 +26,7 @@ unfolding Word.signed Number.groups Number.number Reader.readNumber Reader.oneOf
     Reader.tooDeep Reader.exprOf Reader.readExpr Reader.readMany Reader.stmtOf Reader.readStmt
     Reader.readProgram Reader.readTable Usage.usage Usage.same Usage.isIn Usage.share Usage.clash Usage.clashesLater Usage.anyClash
     Usage.firstClash Counts.sidesNeed Counts.registers Counts.orderOf Counts.sidesHold Counts.temporaries Counts.guardWords
+    Counts.guardAsks
     Counts.processes Counts.need Accept.checks Accept.accept Instruction.functionCode
     Instruction.operationCode Instruction.coded Instruction.functionOf Instruction.operationOf Prefix.shifted Prefix.firstPrefix
     Prefix.prefixes Prefix.withPrefixes Prefix.enough Prefix.fewestFrom Prefix.fewest Prefix.decode Layout.layout Layout.workspaceOf

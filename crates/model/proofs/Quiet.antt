@@ -8,6 +8,7 @@ pub mod Ways
 pub mod ExprPaths
 pub mod Continuations
 pub mod Names
+pub mod Timing
 pub mod Marks
 pub mod Arrivals
 pub mod Onwards

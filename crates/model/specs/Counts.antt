@@ -6,8 +6,8 @@ use Rattle.model.specs.Limits.{registerLimit}
 use Rattle.model.specs.declared.kinds.Order.{Order}
 use Rattle.model.specs.declared.kinds.Order.the-variants.{LeftFirst, RightFirst, RightStored}
 use Rattle.model.specs.Syntax.{Expr, constant, variable, NOT, binary, Stmt, SKIP, STOP, assign, input, output, VAR, CHAN, SEQ, PAR}
-use Rattle.model.specs.Syntax.{IF, WHILE, ALT, TIME, WAIT, Stmts, noStmt, stmt, Pairs, noPair, pair, condition, Guards, noGuard}
-use Rattle.model.specs.Syntax.{guard}
+use Rattle.model.specs.Syntax.{IF, WHILE, ALT, TIME, WAIT, Stmts, noStmt, stmt, Pairs, noPair, pair, Guard, inputGuard, skipGuard}
+use Rattle.model.specs.Syntax.{timeGuard, Guards, noGuard, guard}
 
 -- 02, order 2: an operator whose sides need the same number needs one more, otherwise the larger, and never over 3
 unfoldable pub sidesNeed : (left right : ℕ) → ℕ
@@ -41,6 +41,10 @@ temporaries (constant n) = 0
 temporaries (variable x) = 0
 temporaries (NOT e) = temporaries e
 temporaries (binary op l r) = sidesHold (order l r) (temporaries l) (temporaries r)
+
+-- 02, order 4: those that a time guard's time and condition hold, as the left and right side of an operator
+abbrev pub bothHold : (time condition : Expr) → ℕ
+bothHold t e = sidesHold (order t e) (temporaries t) (temporaries e)
 
 -- 01, live processes: PAR the sum, others the largest part, each at least 1 (refusal 9)
 unfoldable mutual
@@ -85,9 +89,16 @@ unfoldable pub guardWords : (t : ℕ) → ℕ
 guardWords zero = 0
 guardWords (suc t) = suc t + 8
 
+-- the words that an ALT needs at least for one of its guards. 02, order 4: for a time guard 6
+unfoldable pub guardAsks : Guard → ℕ
+guardAsks (inputGuard e c x) = guardWords (temporaries e)
+guardAsks (skipGuard e) = guardWords (temporaries e)
+guardAsks (timeGuard e t) = max 6 (guardWords (bothHold t e))
+
 -- words that a statement needs below its workspace pointer. 01: SKIP, STOP, assignment 2; input 3; output 4; VAR or CHAN count + body;
 -- SEQ, IF, WHILE the most of the parts, at least 2; ALT likewise, at least 4; PAR 2 + the sum of branches.
--- 02, order 2: a statement with a stored expression needs at least t + 2 words; an output t + 3; an ALT t + 8. Order 4: TIME 2; WAIT 5
+-- 02, order 2: a statement with a stored expression needs at least t + 2 words; an output t + 3; an ALT t + 8. Order 4: TIME 2; WAIT 5;
+-- an ALT with a time guard 6
 unfoldable mutual
   pub need : Stmt → ℕ
   need SKIP = 2
@@ -120,7 +131,7 @@ unfoldable mutual
   pairNeed noPair = 0
   pairNeed (pair e s ps) = max (temporaries e + 2) (max (need s) (pairNeed ps))
 
-  -- ALT: the most of the parts, and of what the conditions ask for
+  -- ALT: the most of the parts, and of what the guards ask for
   pub guardNeed : Guards → ℕ
   guardNeed noGuard = 0
-  guardNeed (guard g s gs) = max (guardWords (temporaries (condition g))) (max (need s) (guardNeed gs))
+  guardNeed (guard g s gs) = max (guardAsks g) (max (need s) (guardNeed gs))

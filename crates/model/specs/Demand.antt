@@ -1,10 +1,11 @@
 -- Demand 3 as one statement.
 use Prim.Native.Nat.{ℕ, suc, _+_, _*_, _^_, _<_}
 use mathlib.Core.Path.{_≡_}
-use mathlib.Core.Bool.{Bool, true, false, cond, _&&_}
+use mathlib.Core.Bool.{Bool, true, false, cond, not, _&&_}
 use mathlib.Core.List.{List, [], _∷_, _++_, map, List·Memᴰ}
 use mathlib.Core.Option.{some}
 use lib.ListN.{length, getD}
+use lib.Dec.{eqb}
 use lib.IntN.{pos, negℤ}
 use lib.Signed.{ltZ}
 use Rattle.model.specs.Word.{less, signed, after}
@@ -16,7 +17,7 @@ use Rattle.model.specs.Machine.{Talk, talks as heard, reads as clocked}
 use Rattle.model.specs.Run.{After, start, ended, waits}
 use Rattle.model.specs.Occam.{Frame, inSeq, inVar, inWhile, Process, finished, framesOf, look, State, Communication, talks, reads}
 use Rattle.model.specs.Occam.{Step, Event, Outside, initial, Stuck}
-use Rattle.model.specs.History.{Note, waitsFor, Call, Moment, quietly, history}
+use Rattle.model.specs.History.{Note, waitsFor, guardsFor, passes, Call, Moment, quietly, history}
 use Rattle.model.specs.declared.Machine.{Machine}
 use Rattle.model.specs.declared.Kept.the-variants.{Nothing}
 use Rattle.model.specs.declared.StartAnswer.{StartAnswer}
@@ -140,28 +141,36 @@ Progress n l = (before window after : List ℕ) → l ≡ before ++ window ++ af
 abbrev pub near : (time clock : ℕ) → Bool
 near t c = let d = signed (less t c) in ltZ (negℤ (pos (2 ^ 30))) d && ltZ d (pos (2 ^ 30))
 
--- a time that a process waits for, and the process's workspace
+-- a time that a process waits for at 13 or in a true time guard, and the process's workspace
 pub record Watch : Type 0 where
   pub workspace : ℕ
   pub time : ℕ
+  pub guard : Bool
+
+-- without the guards of the ALT of a workspace
+abbrev pub passing : (workspace : ℕ) → List Watch → List Watch
+passing w [] = []
+passing w (x ∷ xs) = cond (x .guard && eqb (x .workspace) w) (passing w xs) (x ∷ passing w xs)
 
 -- the times after what a byte told
 abbrev pub noting : List Note → List Watch → List Watch
 noting [] xs = xs
-noting (waitsFor w t ∷ ns) xs = noting ns (record { workspace = w; time = t } ∷ xs)
+noting (waitsFor w t ∷ ns) xs = noting ns (record { workspace = w; time = t; guard = false } ∷ xs)
+noting (guardsFor w t ∷ ns) xs = noting ns (record { workspace = w; time = t; guard = true } ∷ xs)
+noting (passes w ∷ ns) xs = noting ns (passing w xs)
 
 -- all of them are near a clock word
 abbrev pub allNear : (clock : ℕ) → List Watch → Bool
 allNear c [] = true
 allNear c (x ∷ xs) = near (x .time) c && allNear c xs
 
--- those whose processes have not gone on: one goes on as soon as the clock is after its time, at its TIN or at a run's beginning
+-- those whose processes have not gone on: one at 13 goes on as soon as the clock is after its time, at its TIN or at a run's beginning
 abbrev pub unpassed : (clock : ℕ) → List Watch → List Watch
 unpassed c [] = []
-unpassed c (x ∷ xs) = cond (after c (x .time)) (unpassed c xs) (x ∷ unpassed c xs)
+unpassed c (x ∷ xs) = cond (not (x .guard) && after c (x .time)) (unpassed c xs) (x ∷ unpassed c xs)
 
--- 02, order 4: "a time waited for ... must lie, read signed, less than 2^30 ticks before or after every clock word in force from its TIN
--- ... until its process goes on". `xs` are the times that are waited for before these moments
+-- 02, order 4: "A time waited for, or in a true time guard, must lie, read signed, less than 2^30 ticks before or after every clock word in
+-- force from its TIN or ENBT until its process goes on or passes its ALTEND". `xs` are the times that are watched before these moments
 unfoldable pub keeps : List Watch → List Moment → Bool
 keeps xs [] = true
 keeps xs (m ∷ ms) =

@@ -8,7 +8,7 @@ use lib.ListN as L
 use lib.ListN.{length, getD, drop}
 use lib.Dec.{ltb, eqb}
 use Rattle.model.specs.Word.{low}
-use Rattle.model.specs.Instruction.{functionCode, operationCode, opr, tin}
+use Rattle.model.specs.Instruction.{functionCode, operationCode, opr, tin, enbt, altend}
 use Rattle.model.specs.Prefix.{gathered}
 use Rattle.model.specs.Machine.{Talk, World, Result, done, faults}
 use Rattle.model.specs.Run.{After, worldOf, shortMemory, byte, ended, waits, beginning, earlierClock, run}
@@ -32,13 +32,18 @@ pub data Call : Type 0 where
   callOffer : (memoryLent k value : ℕ) → Call
   callTake : (memoryLent k : ℕ) → Call
 
--- what a byte tells of times, for the condition on them alone (Demand.antt): a process begins to wait for a time
+-- what a byte tells of times, for the condition on them alone (Demand.antt): a process begins to wait for a time, a true time guard has
+-- one, or the process passes its ALTEND
 pub data Note : Type 0 where
-  waitsFor : (workspace time : ℕ) → Note
+  waitsFor guardsFor : (workspace time : ℕ) → Note
+  passes : (workspace : ℕ) → Note
 
--- what the operation of a number tells, by the registers before it: TIN
+-- what the operation of a number tells, by the registers before it: TIN, ENBT with a true condition, ALTEND
 abbrev pub noteOf : (number : ℕ) → Cpu → List Note
-noteOf n r = cond (eqb n (operationCode tin)) (waitsFor (r .workspace) (r .a) ∷ []) []
+noteOf n r =
+    cond (eqb n (operationCode tin)) (waitsFor (r .workspace) (r .a) ∷ [])
+    (cond (eqb n (operationCode enbt)) (cond (eqb (r .a) 0) [] (guardsFor (r .workspace) (r .b) ∷ []))
+    (cond (eqb n (operationCode altend)) (passes (r .workspace) ∷ []) []))
 
 -- what the byte at a machine's place tells: one that completes an operation
 unfoldable pub notes : (code : List ℕ) → Machine → List Note
@@ -75,8 +80,8 @@ onward (faults k) more = []
 unfoldable pub bytes : (budget : ℕ) → (code rest : List ℕ) → World → List Moment
 bytes zero code rest s = []
 bytes (suc n) code rest s =
-    let told = notes code (s .machine) in
-    let more = onward (byte code s) (λ t. executed told t rest ∷ bytes n code rest (worldOf (t .machine) (t .memory))) in
+    let more = onward (byte code s) (λ t. executed (notes code (s .machine)) t rest ∷ bytes n code rest
+    (worldOf (t .machine) (t .memory))) in
     cond (ended (s .machine) || waits (s .machine)) [] more
 
 -- a run that is refused, keeps a fault or cannot begin executes nothing, and its clock is not in force

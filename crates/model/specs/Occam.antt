@@ -10,7 +10,7 @@ use lib.Signed.{ltZ}
 use Rattle.model.specs.Word.{low, less, signed, after, truth}
 use Rattle.model.specs.Syntax.{Site, inputOf, outputOf, Expr, constant, variable, NOT, binary, Stmt, SKIP, STOP, assign, input}
 use Rattle.model.specs.Syntax.{output, VAR, CHAN, SEQ, PAR, IF, WHILE, ALT, TIME, WAIT, Stmts, noStmt, stmt, Pairs, noPair, pair}
-use Rattle.model.specs.Syntax.{Guard, inputGuard, skipGuard, Guards, guard, Program}
+use Rattle.model.specs.Syntax.{Guard, inputGuard, skipGuard, timeGuard, Guards, guard, Program}
 use Rattle.model.specs.declared.kinds.Operator.{Operator}
 use Rattle.model.specs.declared.kinds.Operator.the-variants.{Plus as PLUS, Minus as MINUS, Times as TIMES, Gt as GT, Eq as EQ}
 use Rattle.model.specs.declared.kinds.Operator.the-variants.{And as AND, Or as OR, Xor as XOR}
@@ -252,6 +252,7 @@ over-channel c v = talks c v ∷ []
 abbrev pub branchOf : Guard → Stmt → Stmt
 branchOf (inputGuard e c x) s = SEQ (stmt (input c x) (stmt s noStmt))
 branchOf (skipGuard e) s = s
+branchOf (timeGuard e t) s = s
 
 -- the steps of a state
 module _ (st : State) where
@@ -268,10 +269,11 @@ module _ (st : State) where
     process : (path : List ℕ) {c : Site} {v : ℕ} {k : List Frame} → look path (st .process) ≡ some (atOutput c v k) → Sender c
     outside : {n v : ℕ} → st .offers n ≡ some v → Sender (inputOf n)
 
-  -- a true guard that is SKIP or whose channel has a sender
+  -- a true guard that is SKIP, whose channel has a sender or, 02, order 4, whose time the clock is after
   pub data Ready : Guard → Type 0 where
     by-input : {e : Expr} {c x : Site} → isTrue (st .store) e ≡ true → Sender c → Ready (inputGuard e c x)
     by-skip : {e : Expr} → isTrue (st .store) e ≡ true → Ready (skipGuard e)
+    by-time : {e t : Expr} → isTrue (st .store) e ≡ true → after (now st) (eval (st .store) t) ≡ true → Ready (timeGuard e t)
 
   -- an ALT takes any one ready guard; the guard's input is a later step
   pub data Choice (k : List Frame) : Guards → Process → Type 0 where

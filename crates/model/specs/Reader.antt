@@ -10,8 +10,7 @@ use Rattle.model.specs.Number.{Number, number}
 use Rattle.model.specs.Limits.{tableLimit, depthLimit, channelLimit, nameLimit, partLimit, branchLimit}
 use Rattle.model.specs.Syntax.{Site, inputOf, outputOf, declared, Expr, constant, variable, NOT, binary, Stmt, SKIP, STOP, assign}
 use Rattle.model.specs.Syntax.{input, output, VAR, CHAN, SEQ, PAR, IF, WHILE, ALT, TIME, WAIT, noStmt, stmt, Pairs, noPair, pair}
-use Rattle.model.specs.Syntax.{Guard}
-use Rattle.model.specs.Syntax.{inputGuard, skipGuard, Guards, noGuard, guard, Program}
+use Rattle.model.specs.Syntax.{Guard, inputGuard, skipGuard, timeGuard, Guards, noGuard, guard, Program}
 use Rattle.model.specs.declared.kinds.Operator.{Operator}
 use Rattle.model.specs.declared.kinds.Operator.the-variants.{Plus as PLUS, Minus as MINUS, Times as TIMES, Gt as GT, Eq as EQ}
 use Rattle.model.specs.declared.kinds.Operator.the-variants.{And as AND, Or as OR, Xor as XOR}
@@ -21,7 +20,7 @@ use Rattle.model.specs.declared.kinds.StmtKind.{StmtKind}
 use Rattle.model.specs.declared.kinds.StmtKind.the-variants.{Skip, Stop, Assign, Input, Output, Var, Chan, Seq, Par, If, While, Alt}
 use Rattle.model.specs.declared.kinds.StmtKind.the-variants.{Time, Wait}
 use Rattle.model.specs.declared.kinds.GuardKind.{GuardKind}
-use Rattle.model.specs.declared.kinds.GuardKind.the-variants.{Input as InputGuard, Skip as SkipGuard}
+use Rattle.model.specs.declared.kinds.GuardKind.the-variants.{Input as InputGuard, Skip as SkipGuard, Time as TimeGuard}
 
 -- what was read, the place of the next byte and the bytes from there on; or a refusal's number and place
 pub data Parsed (A : Type 0) : Type 0 where
@@ -190,9 +189,9 @@ readMany empty more part (suc n) = do
 abbrev pub stmtKinds : List StmtKind
 stmtKinds = Skip ∷ Stop ∷ Assign ∷ Input ∷ Output ∷ Var ∷ Chan ∷ Seq ∷ Par ∷ If ∷ While ∷ Alt ∷ Time ∷ Wait ∷ []
 
--- 01: a guard is 0 (waits for input) or 1 (SKIP guard)
+-- 01: a guard is 0 (waits for input) or 1 (SKIP guard); 02, order 4: 2 (time guard)
 abbrev pub guardKinds : List GuardKind
-guardKinds = InputGuard ∷ SkipGuard ∷ []
+guardKinds = InputGuard ∷ SkipGuard ∷ TimeGuard ∷ []
 
 -- the readers of the parts inside a statement
 pub record Inner : Type 0 where
@@ -206,10 +205,11 @@ readPair scope inner = do
   s ← inner .stmt scope
   pure (pair e s)
 
--- 01: condition, channel, variable (waits for input), or condition (SKIP guard)
+-- 01: condition, channel, variable (waits for input), or condition (SKIP guard); 02, order 4: condition, time
 unfoldable pub guardOf : Scope → Reader Expr → GuardKind → Reader Guard
 guardOf scope expr InputGuard = do e ← expr; c ← readInput scope; x ← readVariable scope; pure (inputGuard e c x)
 guardOf scope expr SkipGuard = do e ← expr; pure (skipGuard e)
+guardOf scope expr TimeGuard = do e ← expr; t ← expr; pure (timeGuard e t)
 
 -- a guard, then its statement. A guard is no level of depth: its number is read at the ALT's level
 unfoldable pub readGuard : Scope → Inner → Reader (Guards → Guards)

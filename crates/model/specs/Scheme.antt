@@ -1,22 +1,22 @@
 -- The compiling scheme as a list of instructions (01, "Workspace and code").
 use Prim.Native.Nat.{ℕ, zero, suc, _+_, _-_, _*_}
+use mathlib.Core.Bool.{cond}
 use mathlib.Core.List.{List, [], _∷_, _++_}
 use Rattle.model.specs.Word.{less, minus}
 use Rattle.model.specs.Syntax.{Site, Expr, constant, variable, NOT, binary, Stmt, SKIP, STOP, assign, input, output, VAR, CHAN, SEQ}
 use Rattle.model.specs.Syntax.{PAR, IF, WHILE, ALT, TIME, WAIT, Stmts, noStmt, stmt, Pairs, noPair, pair, Guard, inputGuard}
-use Rattle.model.specs.Syntax.{skipGuard}
-use Rattle.model.specs.Syntax.{Guards}
-use Rattle.model.specs.Syntax.{noGuard, guard, Program}
+use Rattle.model.specs.Syntax.{skipGuard, timeGuard, Guards, noGuard, guard, timed, Program}
 use Rattle.model.specs.declared.kinds.Operator.{Operator}
 use Rattle.model.specs.declared.kinds.Operator.the-variants.{Plus as PLUS, Minus as MINUS, Times as TIMES, Gt as GT, Eq as EQ}
 use Rattle.model.specs.declared.kinds.Operator.the-variants.{And as AND, Or as OR, Xor as XOR}
-use Rattle.model.specs.Counts.{order, temporaries, need}
+use Rattle.model.specs.Counts.{order, temporaries, need, bothHold}
 use Rattle.model.specs.declared.kinds.Order.{Order}
 use Rattle.model.specs.declared.kinds.Order.the-variants.{LeftFirst, RightFirst, RightStored}
 use Rattle.model.specs.Layout.{base, wordOf}
 use Rattle.model.specs.Instruction as I
 use Rattle.model.specs.Instruction.{Instruction, plain, distance, operation, ldlp, ldc, ldl, cj, ajw, eqc, stl, rev, endp, diff, «in»}
 use Rattle.model.specs.Instruction.{prod, startp, outword, stopp, ldpi, disc, diss, mint, altwt, altend, enbc, enbs, ldtimer, tin}
+use Rattle.model.specs.Instruction.{Operation, talt, taltwt, enbt, dist}
 
 -- 01: SUM, DIFF, PROD, GT, AND, OR, XOR; EQ is DIFF, EQC 0
 unfoldable pub operatorCode : Operator → List Instruction
@@ -84,18 +84,25 @@ wrapSize (suc t) = 2
 unfoldable pub wholeSize : Expr → ℕ
 wholeSize e = exprSize e + wrapSize (temporaries e)
 
+-- how many instructions bring in a time guard's time and condition
+unfoldable pub bothSize : (time condition : Expr) → ℕ
+bothSize t e = sidesSize (order t e) (exprSize t) (exprSize e) + wrapSize (bothHold t e)
+
 -- how many instructions a guard's enabling has, its disabling, and the input that its branch begins with
 unfoldable pub enableSize : Guard → ℕ
 enableSize (inputGuard e c x) = wholeSize e + 3
 enableSize (skipGuard e) = wholeSize e + 1
+enableSize (timeGuard e t) = bothSize t e + 1
 
 unfoldable pub disableSize : Guard → ℕ
 disableSize (inputGuard e c x) = wholeSize e + 4
 disableSize (skipGuard e) = wholeSize e + 2
+disableSize (timeGuard e t) = bothSize t e + 2
 
 unfoldable pub inputSize : Guard → ℕ
 inputSize (inputGuard e c x) = 4
 inputSize (skipGuard e) = 0
+inputSize (timeGuard e t) = 0
 
 -- how many statements or branches there are
 unfoldable pub howMany : Stmts → ℕ
@@ -149,6 +156,13 @@ unfoldable mutual
   sizeBranches noGuard = 0
   sizeBranches (guard g s gs) = 1 + inputSize g + size s + 1 + sizeBranches gs
 
+-- 02, order 4: "An ALT with a time guard has TALT and TALTWT for ALT and ALTWT"
+abbrev pub beginsAlt : Guards → Operation
+beginsAlt gs = cond (timed gs) talt I.alt
+
+abbrev pub waitsAlt : Guards → Operation
+waitsAlt gs = cond (timed gs) taltwt altwt
+
 -- the code, where names stand in the words of `word`. `w` is W as adjusted at the place, `i` the index of the first instruction
 module _ (word : Site → ℕ) where
   -- a name's word, counted from w
@@ -170,31 +184,38 @@ module _ (word : Site → ℕ) where
   abbrev pub guardCode : (w : ℕ) → Expr → List Instruction
   guardCode w e = wrapped (temporaries e) altWords w (λ v. exprCode v 0 e)
 
+  -- 02, order 4: time and condition are brought in as left and right side of an operator, by order 2's rule, with its wrap
+  abbrev pub bothCode : (w : ℕ) → (time condition : Expr) → List Instruction
+  bothCode w t e = wrapped (bothHold t e) altWords w (λ v. sidesCode (order t e) 0 (λ k. exprCode v k t) (exprCode v 0 e))
+
   -- 01, input: LDLP variable, LDLP channel, LDC 4, IN
   abbrev pub inputCode : (w : ℕ) → (channel variable : Site) → List Instruction
   inputCode w c x = plain ldlp (local w x) ∷ plain ldlp (local w c) ∷ plain ldc 4 ∷ operation «in» ∷ []
 
-  -- enabling a guard: condition, LDLP channel, REV, ENBC, or condition, ENBS
+  -- enabling a guard: condition, LDLP channel, REV, ENBC, or condition, ENBS; 02, order 4: time, condition, ENBT
   unfoldable pub enableCode : (w : ℕ) → Guard → List Instruction
   enableCode w (inputGuard e c x) = guardCode w e ++ plain ldlp (local w c) ∷ operation rev ∷ operation enbc ∷ []
   enableCode w (skipGuard e) = guardCode w e ++ operation enbs ∷ []
+  enableCode w (timeGuard e t) = bothCode w t e ++ operation enbt ∷ []
 
-  -- disabling it: condition, LDLP channel, REV, LDC branch, DISC, or condition, LDC branch, DISS. `choice` is the index of ALTEND, b that
-  -- of the branch
+  -- disabling it: condition, LDLP channel, REV, LDC branch, DISC, or condition, LDC branch, DISS; 02, order 4: time, condition, LDC branch,
+  -- DIST. `choice` is the index of ALTEND, b that of the branch
   unfoldable pub disableCode : (w choice b : ℕ) → Guard → List Instruction
   disableCode w choice b (inputGuard e c x) =
       guardCode w e ++ plain ldlp (local w c) ∷ operation rev ∷ distance ldc b choice ∷ operation disc ∷ []
   disableCode w choice b (skipGuard e) = guardCode w e ++ distance ldc b choice ∷ operation diss ∷ []
+  disableCode w choice b (timeGuard e t) = bothCode w t e ++ distance ldc b choice ∷ operation dist ∷ []
 
   -- the input that its branch begins with, if it waits for one
   unfoldable pub guardInput : (w : ℕ) → Guard → List Instruction
   guardInput w (inputGuard e c x) = inputCode w c x
   guardInput w (skipGuard e) = []
+  guardInput w (timeGuard e t) = []
 
   -- 01's listings. STOP: STOPP. Assign: value, STL. Output: value, LDLP channel, REV, AJW -1, OUTWORD, AJW 1.
   -- VAR n: AJW -n, then LDC 0, STL j for each j, body, AJW n. CHAN: the same with MINT. WHILE: condition, CJ end, body, J start.
-  -- ALT: AJW -1, ALT, the enabling, ALTWT, the disabling, ALTEND, the branches. 02, order 4, TIME: LDTIMER, STL. WAIT:
-  -- the time, TIN
+  -- ALT: AJW -1, ALT, the enabling, ALTWT, the disabling, ALTEND, the branches. 02, order 4: TALT and TALTWT in place of these where there
+  -- is a time guard. TIME: LDTIMER, STL. WAIT: the time, TIN
   unfoldable mutual
     pub code : (w i : ℕ) → Stmt → List Instruction
     code w i SKIP = []
@@ -217,9 +238,9 @@ module _ (word : Site → ℕ) where
     code w i (ALT gs) =
         let choice = i + 2 + sizeEnable gs + 1 + sizeDisable gs in
         plain ajw (minus 1)
-        ∷ operation I.alt
+        ∷ operation (beginsAlt gs)
         ∷ codeEnable (w - 1) gs
-        ++ operation altwt
+        ++ operation (waitsAlt gs)
         ∷ codeDisable (w - 1) choice (choice + 1) gs
         ++ operation altend
         ∷ codeBranches w (choice + 1) (choice + 1 + sizeBranches gs) gs

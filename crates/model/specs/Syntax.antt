@@ -1,6 +1,7 @@
 -- Programs as a table has them (01, "The program table"), with each name resolved to its declaration.
 -- Places are bytes of the table.
 use Prim.Native.Nat.{ℕ}
+use mathlib.Core.Bool.{Bool, true, false, _||_}
 use Rattle.model.specs.declared.kinds.Operator.{Operator}
 
 -- what a name stands for: an outside input or output channel, each counted from 0, or the j-th name of the VAR or CHAN
@@ -17,15 +18,18 @@ pub data Expr : Type 0 where
   NOT : Expr → Expr
   binary : Operator → Expr → Expr → Expr
 
--- 01: a guard that waits for input has a condition, a channel and a variable; a SKIP guard has a condition
+-- 01: a guard that waits for input has a condition, a channel and a variable; a SKIP guard has a condition. 02, order 4: a time guard has a
+-- condition and a time
 pub data Guard : Type 0 where
   inputGuard : Expr → (channel variable : Site) → Guard
   skipGuard : Expr → Guard
+  timeGuard : (condition time : Expr) → Guard
 
 -- a guard's condition
 abbrev pub condition : Guard → Expr
 condition (inputGuard e c x) = e
 condition (skipGuard e) = e
+condition (timeGuard e t) = e
 
 -- VAR, CHAN and PAR have the place of their first byte: it tells declarations apart, and refusal 7 returns it
 mutual
@@ -58,6 +62,17 @@ mutual
   pub data Guards : Type 0 where
     noGuard : Guards
     guard : Guard → Stmt → Guards → Guards
+
+-- a time guard
+abbrev pub isTimed : Guard → Bool
+isTimed (inputGuard e c x) = false
+isTimed (skipGuard e) = false
+isTimed (timeGuard e t) = true
+
+-- 02, order 4: an ALT with a time guard
+unfoldable pub timed : Guards → Bool
+timed noGuard = false
+timed (guard g s gs) = isTimed g || timed gs
 
 -- outside input channels, outside output channels, the statement
 pub record Program : Type 0 where

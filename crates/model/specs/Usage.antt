@@ -7,9 +7,7 @@ use mathlib.Core.Option.{Option, none, some}
 use lib.Dec.{eqb}
 use Rattle.model.specs.Syntax.{Site, inputOf, outputOf, declared, Expr, constant, variable, NOT, binary, Stmt, SKIP, STOP, assign}
 use Rattle.model.specs.Syntax.{input, output, VAR, CHAN, SEQ, PAR, IF, WHILE, ALT, TIME, WAIT, Stmts, noStmt, stmt, Pairs, noPair}
-use Rattle.model.specs.Syntax.{pair}
-use Rattle.model.specs.Syntax.{Guard}
-use Rattle.model.specs.Syntax.{inputGuard, skipGuard, Guards, noGuard, guard}
+use Rattle.model.specs.Syntax.{pair, Guard, inputGuard, skipGuard, timeGuard, Guards, noGuard, guard}
 
 -- what a part of the program does to names. Names that it declares itself are among them, and in no other part
 pub record Usage : Type 0 where
@@ -60,6 +58,7 @@ outputting c = record { changes = []; uses = []; inputs = []; outputs = c ∷ []
 abbrev pub guardUsage : Guard → Usage
 guardUsage (inputGuard e c x) = reading e ⊕ inputting c ⊕ changing x
 guardUsage (skipGuard e) = reading e
+guardUsage (timeGuard e t) = reading e ⊕ reading t
 
 -- what a statement does to names, and the parts of a SEQ or PAR, an IF and an ALT. 02, order 4: TIME is an input to the check; the clock
 -- is no channel

@@ -31,6 +31,7 @@ pub enum ExprKind {
 pub enum GuardKind {
     Input,
     Skip,
+    Time,
 }
 
 // Operators.

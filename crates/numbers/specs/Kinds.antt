@@ -13,7 +13,7 @@ use Rattle.model.specs.declared.kinds.StmtKind.{StmtKind}
 use Rattle.model.specs.declared.kinds.StmtKind.the-variants.{Skip, Stop, Assign, Input, Output, Var, Chan, Seq, Par, If, While, Alt}
 use Rattle.model.specs.declared.kinds.StmtKind.the-variants.{Time, Wait}
 use Rattle.model.specs.declared.kinds.GuardKind.{GuardKind}
-use Rattle.model.specs.declared.kinds.GuardKind.the-variants.{Input as InputGuard, Skip as SkipGuard}
+use Rattle.model.specs.declared.kinds.GuardKind.the-variants.{Input as InputGuard, Skip as SkipGuard, Time as TimeGuard}
 use Rattle.model.specs.declared.kinds.Operator.{Operator}
 use Rattle.model.specs.declared.kinds.Operator.the-variants.{Plus as PLUS}
 use Rattle.numbers.specs.Items.{betweenAt, valueAt}
@@ -66,9 +66,10 @@ byExpr Variable c v n b = v
 byExpr Not c v n b = n
 byExpr Binary c v n b = b
 
-abbrev pub byGuard : {R : Type 0} → GuardKind → (input skip : R) → R
-byGuard InputGuard i k = i
-byGuard SkipGuard i k = k
+abbrev pub byGuard : {R : Type 0} → GuardKind → (input skip time : R) → R
+byGuard InputGuard i k t = i
+byGuard SkipGuard i k t = k
+byGuard TimeGuard i k t = t
 
 -- what is behind a kind (01's column "then"): names or an expression; a count of names and a statement; so many branches of a PAR; or so
 -- many parts, one after the other, each with what stands before its statement

@@ -1,5 +1,5 @@
 // The kinds and operators of document 01's table by their numbers, and how statements of a kind are laid out ("The program table"); 02,
-// order 4: TIME and WAIT.
+// order 4: TIME, WAIT and time guards.
 ghost use mathlib.Core.Path.{_≡_};
 ghost use Rattle.numbers.specs.Kinds.{stmtKind, exprKind, guardKind, operatorOf, shapeOf, countAt, countIn};
 use model::kinds::ExprKind;
@@ -32,7 +32,7 @@ const EXPRESSIONS: [ExprKind; 4] = [
     ExprKind::Binary,
 ];
 
-const GUARDS: [GuardKind; 2] = [GuardKind::Input, GuardKind::Skip];
+const GUARDS: [GuardKind; 3] = [GuardKind::Input, GuardKind::Skip, GuardKind::Time];
 
 const OPERATORS: [Operator; 8] = [
     Operator::Plus,
@@ -50,7 +50,7 @@ pub const LAST_STATEMENT: u64 = 13;
 
 pub const LAST_EXPRESSION: u64 = 3;
 
-pub const LAST_GUARD: u64 = 1;
+pub const LAST_GUARD: u64 = 2;
 
 pub const LAST_OPERATOR: u64 = 7;
 

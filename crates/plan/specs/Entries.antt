@@ -39,11 +39,13 @@ planAt p at = cond (ltb at tableLimit) (getD p at 0) 0
 unfoldable pub putAt : (at entry : ℕ) → (plan : List ℕ) → List ℕ
 putAt at e p = cond (ltb at tableLimit) (set p at e) p
 
+-- the values that two sides hold together, by their entries
+abbrev pub sidesHeld : (left right : ℕ) → ℕ
+sidesHeld l r = sidesHold (orderOf (registersIn l) (registersIn r)) (storedIn l) (storedIn r)
+
 -- an operator by the entries of its sides
 unfoldable pub sidesEntry : (left right : ℕ) → ℕ
-sidesEntry l r =
-    entry (nextIn r) (sidesNeed (registersIn l) (registersIn r))
-    (sidesHold (orderOf (registersIn l) (registersIn r)) (storedIn l) (storedIn r))
+sidesEntry l r = entry (nextIn r) (sidesNeed (registersIn l) (registersIn r)) (sidesHeld l r)
 
 -- what is measured of an expression: its entry, and the plan with the entries of all in it
 pub record Entered : Type 0 where

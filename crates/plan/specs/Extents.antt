@@ -9,8 +9,9 @@ use Rattle.model.specs.Word.{low}
 use Rattle.counts.specs.Words.{asked, leastWords}
 use Rattle.counts.specs.declared.Role.{Role}
 use Rattle.counts.specs.declared.Role.the-variants.{Value as ForValue, Output as ForOutput, Guard as ForGuard, Wait as ForWait}
+use Rattle.counts.specs.declared.Role.the-variants.{Time as ForTime}
 use Rattle.numbers.specs.Items.{valueAt}
-use Rattle.plan.specs.Entries.{nextOf, nextIn, storedIn, planAt, putAt, exprEntered}
+use Rattle.plan.specs.Entries.{nextOf, nextIn, storedIn, planAt, putAt, sidesHeld, exprEntered}
 use Rattle.plan.specs.declared.extent.Extent.{Extent}
 use Rattle.numbers.specs.Kinds.{stmtKind, guardKind, byGuard, byHead, byShape, shapeOf, countIn}
 use Rattle.numbers.specs.declared.kinds.Simple.{Simple}
@@ -56,13 +57,21 @@ simpleMeasured Output d s at p = wholeMeasured ForOutput d s (nextOf s at) p
 simpleMeasured Time d s at p = measured (extended (nextOf s at) 2) p
 simpleMeasured Wait d s at p = wholeMeasured ForWait d s at p
 
--- a guard, and the words that its condition asks for
+-- 02, order 4: the condition and the time of a time guard, and the words that they ask for as the right and the left side of an operator
+unfoldable pub bothMeasured : (depth : ℕ) → List ℕ → (at : ℕ) → List ℕ → Measured
+bothMeasured d s at p =
+    let e = exprEntered d s at p in
+    let t = exprEntered d s (nextIn (e .own)) (e .plan) in
+    measured (extended (nextIn (t .own)) (asked ForTime (sidesHeld (t .own) (e .own)))) (t .plan)
+
+-- a guard, and the words that it asks for
 unfoldable pub guardMeasured : (depth : ℕ) → List ℕ → (at : ℕ) → List ℕ → Measured
 guardMeasured d s at p =
     let k = valueAt s at in
     let m = wholeMeasured ForGuard d s (k .next) p in
     let e = m .extent in
-    measured (byGuard (guardKind (k .value)) (extended (nextOf s (nextOf s (e .next))) (e .need)) e) (m .plan)
+    byGuard (guardKind (k .value)) (measured (extended (nextOf s (nextOf s (e .next))) (e .need)) (m .plan)) m
+    (bothMeasured d s (k .next) p)
 
 -- what stands before the statement of a part, and the words that it asks for
 unfoldable pub headMeasured : Head → (depth : ℕ) → List ℕ → (at : ℕ) → List ℕ → Measured

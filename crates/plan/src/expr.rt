@@ -1,6 +1,6 @@
 // What is known of expressions before their code is made (document 02, order 2): a plan has an entry at the first place of each.
 ghost use mathlib.Core.Path.{_≡_};
-ghost use Rattle.plan.specs.Entries.{entry as entryOf, nextIn, registersIn, storedIn, planAt, putAt, sidesEntry};
+ghost use Rattle.plan.specs.Entries.{entry as entryOf, nextIn, registersIn, storedIn, planAt, putAt, sidesHeld, sidesEntry};
 ghost use Rattle.plan.specs.Entries.{entered, exprEntered, sidesEntered, innerEntered};
 use model::kinds::ExprKind;
 
@@ -45,14 +45,20 @@ pub fn entry_at(plan: &[u32; 16384], at: usize) -> u32
     0
 }
 
+// The values that two sides hold together, by their entries.
+pub fn sides_held(left: u32, right: u32) -> u32
+    ensures { λ r. ⌜ r ≡ sidesHeld left right ⌝ }
+{
+    let order = counts::order_of(registers_in(left), registers_in(right));
+    counts::sides_hold(order, stored_in(left), stored_in(right))
+}
+
 // An operator by the entries of its sides.
 fn sides_entry(left: u32, right: u32) -> u32
     ensures { λ r. ⌜ r ≡ sidesEntry left right ⌝ }
 {
-    let l = registers_in(left);
-    let r = registers_in(right);
-    let stored = counts::sides_hold(counts::order_of(l, r), stored_in(left), stored_in(right));
-    entry(next_in(right), counts::sides_need(l, r), stored)
+    let registers = counts::sides_need(registers_in(left), registers_in(right));
+    entry(next_in(right), registers, sides_held(left, right))
 }
 
 // A plan with the entry of one place more.

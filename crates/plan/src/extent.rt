@@ -1,6 +1,6 @@
 // What is measured of statements and their parts.
 ghost use mathlib.Core.Path.{_≡_};
-ghost use Rattle.plan.specs.Extents.{extentEntry, extentIn, measured, wholeMeasured, simpleMeasured, guardMeasured};
+ghost use Rattle.plan.specs.Extents.{extentEntry, extentIn, measured, wholeMeasured, simpleMeasured, bothMeasured, guardMeasured};
 ghost use Rattle.plan.specs.Extents.{headMeasured, joined as needed, partsMeasured, insideMeasured, stmtMeasured};
 ghost use Rattle.plan.specs.Extents.{innerMeasured};
 use counts::Role;
@@ -80,18 +80,34 @@ fn measure_simple(
     }
 }
 
-// A guard: its condition, and if it waits for input its channel and its variable.
+// The condition and the time of a time guard (document 02, order 4): the right and the left side of an operator that is not there.
+fn measure_both(table: &[u8], plan: &mut [u32; 16384], at: usize, depth: u64) -> Extent
+    ensures { λ r. ⌜ measured r (now (plan .exit)) ≡ bothMeasured depth (now (table .entry)) at (now (plan .entry)) ⌝ }
+{
+    let condition = crate::expr::measure_expr(table, plan, at, depth);
+    let time = crate::expr::measure_expr(table, plan, crate::expr::next_in(condition), depth);
+    let stored = crate::expr::sides_held(time, condition);
+    Extent {
+        next: crate::expr::next_in(time),
+        need: counts::ask(Role::Time, stored),
+    }
+}
+
+// A guard: its condition, and its channel and its variable if it waits for input, its time if it is a time guard.
 fn measure_guard(table: &[u8], plan: &mut [u32; 16384], at: usize, depth: u64) -> Extent
     ensures { λ r. ⌜ measured r (now (plan .exit)) ≡ guardMeasured depth (now (table .entry)) at (now (plan .entry)) ⌝ }
 {
     let number = numbers::value_at(table, at);
-    let condition = measure_whole(table, plan, number.next, Role::Guard, depth);
     match numbers::kinds::guard_kind(number.value as u64) {
-        GuardKind::Input => Extent {
-            next: numbers::skip(table, numbers::skip(table, condition.next)),
-            need: condition.need,
-        },
-        GuardKind::Skip => condition,
+        GuardKind::Input => {
+            let condition = measure_whole(table, plan, number.next, Role::Guard, depth);
+            Extent {
+                next: numbers::skip(table, numbers::skip(table, condition.next)),
+                need: condition.need,
+            }
+        }
+        GuardKind::Skip => measure_whole(table, plan, number.next, Role::Guard, depth),
+        GuardKind::Time => measure_both(table, plan, number.next, depth),
     }
 }
 

@@ -9,6 +9,7 @@ mod extent;
 pub use expr::entry_at;
 pub use expr::next_in;
 pub use expr::registers_in;
+pub use expr::sides_held;
 pub use expr::stored_in;
 pub use extent::Extent;
 pub use extent::extent_in;

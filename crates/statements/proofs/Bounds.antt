@@ -7,15 +7,15 @@ use Rattle.model.specs.declared.kinds.Operator.{Operator}
 use Rattle.model.specs.declared.kinds.Operator.the-variants.{Plus as PLUS, Minus as MINUS, Times as TIMES, Gt as GT, Eq as EQ, And as AND}
 use Rattle.model.specs.declared.kinds.Operator.the-variants.{Or as OR, Xor as XOR}
 use Rattle.model.specs.Reader.{Scope}
-use Rattle.model.specs.Counts.{order, temporaries}
+use Rattle.model.specs.Counts.{order, temporaries, bothHold}
 use Rattle.model.specs.declared.kinds.Order.{Order}
 use Rattle.model.specs.declared.kinds.Order.the-variants.{LeftFirst, RightFirst, RightStored}
 use Rattle.model.specs.Scheme.{operatorSize, sidesSize, exprSize, wrapSize, wholeSize, howMany, size, sizeAll, sizePar, sizeEnds, sizePairs}
-use Rattle.model.specs.Scheme.{sizeEnable, sizeDisable, sizeBranches, enableSize, disableSize, inputSize}
+use Rattle.model.specs.Scheme.{sizeEnable, sizeDisable, sizeBranches, bothSize, enableSize, disableSize, inputSize}
 use Rattle.statements.proofs.Spelled.{ExprAt, constantAt, variableAt, notAt, binaryAt, StmtAt, skipAt, stopAt, assignAt, inputAt}
 use Rattle.statements.proofs.Spelled.{outputAt, varAt, chanAt, seqAt, parAt, ifAt, whileAt, altAt, timeAt, waitAt, StmtsAt, noStmtAt}
 use Rattle.statements.proofs.Spelled.{stmtsAt, PairsAt, noPairAt, pairAt, GuardAt, inputGuardAt, skipGuardAt, GuardsAt, noGuardAt}
-use Rattle.statements.proofs.Spelled.{guardsAt}
+use Rattle.statements.proofs.Spelled.{timeGuardAt, guardsAt}
 
 operator-small : (op : Operator) → operatorSize op ≤ 2
 unfolding operatorSize
@@ -65,10 +65,22 @@ module _ (s : List ℕ) where
   unfolding wholeSize
   whole-bound {e = e} a = omega (arith, expr-bound a, wrap-small (temporaries e))
 
+  both-bound : {vs : List Site} {d i m n : ℕ} {e t : Expr} → ExprAt s vs d i e m → ExprAt s vs d m t n → bothSize t e + 2 * i < 2 * n
+  unfolding bothSize
+  both-bound {e = e} {t = t} a b =
+      omega (
+        arith,
+        expr-bound a,
+        expr-bound b,
+        sides-small (order t e) (exprSize t) (exprSize e),
+        wrap-small (bothHold t e),
+      )
+
   guard-bound : {w : Scope} {d i n : ℕ} {g : Guard} → GuardAt s d w i g n → enableSize g + disableSize g + inputSize g + 2 + 80 * i ≤ 80 * n
   unfolding enableSize disableSize inputSize
   guard-bound (inputGuardAt k e c x) = omega (arith, k .ahead, whole-bound e, c .there .ahead, x .there .ahead)
   guard-bound (skipGuardAt k e) = omega (arith, k .ahead, whole-bound e)
+  guard-bound (timeGuardAt k e t) = omega (arith, k .ahead, both-bound e t)
 
   mutual
     unfolding size howMany

@@ -14,7 +14,8 @@ use Rattle.model.specs.Syntax.{Site, Expr}
 use Rattle.model.specs.declared.kinds.Operator.{Operator}
 use Rattle.model.specs.declared.kinds.Operator.the-variants.{Plus as PLUS, Minus as MINUS, Times as TIMES, Gt as GT, Eq as EQ, And as AND}
 use Rattle.model.specs.declared.kinds.Operator.the-variants.{Or as OR, Xor as XOR}
-use Rattle.model.specs.Counts.{order, sidesHold, temporaries}
+use Rattle.model.specs.Counts.{order, sidesHold, bothHold, temporaries}
+use Rattle.model.proofs.Tables.Needs.{sides-hold}
 use Rattle.model.specs.declared.kinds.Order.{Order}
 use Rattle.model.specs.declared.kinds.Order.the-variants.{LeftFirst, RightFirst, RightStored}
 use Rattle.model.specs.Instruction.{Instruction, plain, operation, ldc, ldl, stl, ajw, eqc, rev, functionCode, operationCode}
@@ -24,7 +25,8 @@ use Rattle.assembler.specs.Entries.{entriesOf}
 use Rattle.expressions.specs.Emits.{Code, at, operationInto}
 use Rattle.expressions.specs.Names.{localOf}
 use Rattle.expressions.specs.Exprs.{Wrote, written, codeOf, operatorInto, constantInto, variableInto, inOrder, betweenInto, behindInto}
-use Rattle.expressions.specs.Exprs.{sidesInto, operatedInto, exprInto, lowering, adjustInto, wholeInto}
+use Rattle.expressions.specs.Exprs.{sidesOf, timeAndCondition, sidesInto, operatedInto, exprInto, innerAt, lowering, adjustInto, wholeInto}
+use Rattle.expressions.specs.Exprs.{bothInto}
 use Rattle.statements.proofs.Spelled.{OneAt, ExprAt, constantAt, variableAt, notAt, binaryAt}
 use Rattle.statements.proofs.Planned.{PlannedExpr, holds-few}
 use Rattle.statements.proofs.Fills.{filled, fill-then, Room, room-left, room-right, emits-fills, emits-at}
@@ -35,33 +37,28 @@ pub record Named (word : Site → ℕ) (depth : ℕ) (sites : List Site) (ws : L
   pub long : length ws ≡ length sites
   pub deep : depth ≤ depthLimit
 
-both-end : (o : Order) (h l r n : ℕ) → inOrder o h l r n .next ≡ n
-both-end LeftFirst h l r n = refl
-both-end RightFirst h l r n = refl
-both-end RightStored h l r n = refl
-
 -- what puts instructions into the list, for a part of the table that ends before a place
 abbrev Writes : (Code → Wrote) → (next : ℕ) → List Instruction → Type 0
 Writes into n xs = (h : ℕ) (o : List ℕ) → Room h xs → into (at h o) ≡ written n (filled h xs o)
 
--- two sides in each order. Left stands at a place, right behind it; g values are held before
-sides-fill : (inner : (held at : ℕ) → Code → Wrote) (ord : Order) (i p q g tl tr : ℕ) (left : ℕ → List Instruction)
+-- two sides in each order. Left stands at a place, right at another; g values are held before
+sides-fill : (inner : (held at : ℕ) → Code → Wrote) (ord : Order) (i j p q g tl tr : ℕ) (left : ℕ → List Instruction)
     (right : List Instruction) → g + sidesHold ord tl tr ≤ wordLimit
-    → ((k : ℕ) → k + tl ≤ wordLimit → Writes (inner k i) p (left k)) → (g + tr ≤ wordLimit → Writes (inner g p) q right)
+    → ((k : ℕ) → k + tl ≤ wordLimit → Writes (inner k i) j (left k)) → (g + tr ≤ wordLimit → Writes (inner g p) q right)
     → (h : ℕ) (o : List ℕ) → Room h (sidesCode ord g left right)
-    → let a = inOrder ord g i p q in
+    → let a = inOrder ord g i p in
     let one = inner g (a .first) (at h o) in
     let two = inner (a .held) (a .second) (betweenInto (a .order) g (codeOf one)) in
     behindInto (a .order) g (codeOf two) ≡ filled h (sidesCode ord g left right) o
 unfolding sidesCode sidesHold betweenInto behindInto functionCode operationCode operationInto
-sides-fill inner LeftFirst i p q g tl tr left right few wl wr h o r =
+sides-fill inner LeftFirst i j p q g tl tr left right few wl wr h o r =
     let L = left g in
     rw (
       wl g (omega arith) h o (room-left h L right r),
       wr (omega arith) (h + length L) (sets o h (entriesOf L)) (room-right h L right r),
     )
     (fill-then h L right o)
-sides-fill inner RightFirst i p q g tl tr left right few wl wr h o r =
+sides-fill inner RightFirst i j p q g tl tr left right few wl wr h o r =
     let L = left g in
     let sides = room-left h (right ++ L) (operation rev ∷ []) r in
     rw (
@@ -70,7 +67,7 @@ sides-fill inner RightFirst i p q g tl tr left right few wl wr h o r =
       fill-then h right L o,
     )
     (emits-fills (operation rev ∷ []) h (right ++ L) o r)
-sides-fill inner RightStored i p q g tl tr left right few wl wr h o r =
+sides-fill inner RightStored i j p q g tl tr left right few wl wr h o r =
     let L = left (suc g) in
     let next : low (g + 1) ≡ suc g = mod-eq-of-lt (omega arith) ∙ omega arith in
     let stored = right ++ plain stl g ∷ [] in
@@ -131,7 +128,7 @@ module _ (word : Site → ℕ) (s : List ℕ) where
   module _ (plan : List ℕ) {k : ℕ} {vs : List Site} {ws : List ℕ} (names : Named word k vs ws) (w : ℕ) where
     expr-code : {d i n : ℕ} {e : Expr} (a : ExprAt s vs d i e n) → PlannedExpr s plan a → d ≤ 32 → (g : ℕ) → g + temporaries e ≤ wordLimit
         → Writes (λ c. exprInto d w ws plan s g i c) n (exprCode word w g e)
-    unfolding exprInto operatedInto sidesInto exprCode constantInto variableInto functionCode temporaries
+    unfolding exprInto operatedInto sidesOf sidesInto exprCode constantInto variableInto functionCode temporaries
     expr-code (constantAt v k t) told deep g few h o r =
         rw (k .value, k .is, t .value) (ap (written _) (emits-at (plain ldc v ∷ []) h o r))
     expr-code (variableAt {x = y} k x) told deep g few h o r =
@@ -152,8 +149,7 @@ module _ (word : Site → ℕ) (s : List ℕ) where
           x .needs,
           y .next,
           y .needs,
-          both-end (order le re) g m p q,
-          sides-fill (λ g i c. exprInto d w ws plan s g i c) (order le re) m p q g (temporaries le) (temporaries re)
+          sides-fill (λ g i c. exprInto d w ws plan s g i c) (order le re) m p p q g (temporaries le) (temporaries re)
               (λ k. exprCode word w k le) (exprCode word w g re) few (λ k l. expr-code a (told .1 .0) (omega arith) k l)
               (λ l. expr-code c (told .1 .1) (omega arith) g l) h o (room-left h S (operatorCode op) r),
           operator-fills op (h + length S) (sets o h (entriesOf S)) (room-right h S _ r),
@@ -172,3 +168,28 @@ module _ (word : Site → ℕ) (s : List ℕ) where
       rw (told .0 .holds)
       (wrapped-fills (λ v c. exprInto d v ws plan s 0 i c) n (temporaries e) more w (λ v. exprCode word v 0 e) (omega arith)
       (λ v. expr-code plan names v a told deep 0 (omega arith)))
+
+  -- a time guard's time and condition, with so many words more below W
+  pub both-code : (plan : List ℕ) {d i m n : ℕ} {vs : List Site} {ws : List ℕ} {e t : Expr} (more : ℕ) → more ≤ wordLimit
+      → Named word (suc d) vs ws → (w : ℕ) (a : ExprAt s vs d i e m) → PlannedExpr s plan a → (b : ExprAt s vs d m t n)
+      → PlannedExpr s plan b → (h : ℕ) (o : List ℕ)
+      → let X = wrapped (bothHold t e) more w (λ v. sidesCode (order t e) 0 (λ k. exprCode word v k t) (exprCode word v 0 e)) in
+      Room h X → bothInto d w more ws plan s i (at h o) ≡ written n (filled h X o)
+  unfolding bothInto sidesInto sidesOf timeAndCondition
+  both-code plan {d} {i} {m} {n} {vs} {ws} {e} {t} more few names w a x b y =
+      let deep : d ≤ 32 = omega (arith, names .deep) in
+      let held = sides-hold (order t e) (temporaries t) (temporaries e) in
+      let one = holds-few s a in
+      let two = holds-few s b in
+      rw (x .0 .next, x .0 .needs, x .0 .holds, y .0 .next, y .0 .needs, y .0 .holds)
+      (wrapped-fills
+      (λ v c.
+      let a = inOrder (order t e) 0 m i in
+      let one = exprInto d v ws plan s 0 (a .first) c in
+      let two = exprInto d v ws plan s (a .held) (a .second) (betweenInto (a .order) 0 (codeOf one)) in
+      written n (behindInto (a .order) 0 (codeOf two)))
+      n (bothHold t e) more w (λ v. sidesCode (order t e) 0 (λ k. exprCode word v k t) (exprCode word v 0 e)) (omega arith)
+      (λ v h o r. ap (written n)
+      (sides-fill (λ g i c. exprInto d v ws plan s g i c) (order t e) m n i m 0 (temporaries t) (temporaries e)
+      (λ k. exprCode word v k t) (exprCode word v 0 e) (omega arith) (λ k l. expr-code plan names v b y deep k l)
+      (λ l. expr-code plan names v a x deep 0 l) h o r)))

@@ -12,9 +12,9 @@ use borrow.Author.Tests.{lt-ltb}
 use Rattle.model.specs.Limits.{wordLimit, tableLimit}
 use Rattle.model.specs.Word.{low}
 use Rattle.model.specs.Syntax.{Site, Expr, constant, variable, binary, Stmt, SKIP, STOP, input, Stmts, noStmt, stmt, Pairs, Guard}
-use Rattle.model.specs.Syntax.{condition, Guards, WHILE, TIME}
+use Rattle.model.specs.Syntax.{Guards, WHILE, TIME}
 use Rattle.model.specs.Reader.{Scope}
-use Rattle.model.specs.Counts.{order, registers, temporaries, guardWords, need, mostNeed, sumNeed, pairNeed, guardNeed}
+use Rattle.model.specs.Counts.{order, registers, temporaries, guardWords, bothHold, guardAsks, need, mostNeed, sumNeed, pairNeed, guardNeed}
 use Rattle.model.proofs.Cases.{by-bool}
 use Rattle.model.proofs.Tables.Needs.{sides-hold}
 use Rattle.counts.specs.Words.{asked}
@@ -22,7 +22,7 @@ use Rattle.counts.specs.declared.Role.{Role}
 use Rattle.counts.specs.declared.Role.the-variants.{Value as ForValue, Output as ForOutput, Guard as ForGuard, Wait as ForWait}
 use Rattle.plan.specs.Entries.{nextOf, nextIn, planAt, putAt, sidesEntry, Entered, entered, exprEntered, sidesEntered, innerEntered}
 use Rattle.plan.specs.Extents.{extended, extentEntry, extentIn, Measured, measured, wholeMeasured, simpleMeasured, guardMeasured}
-use Rattle.plan.specs.Extents.{headMeasured, joined, partsMeasured, insideMeasured, stmtMeasured, innerMeasured}
+use Rattle.plan.specs.Extents.{bothMeasured, headMeasured, joined, partsMeasured, insideMeasured, stmtMeasured, innerMeasured}
 use Rattle.numbers.specs.Items.{valueAt}
 use Rattle.numbers.specs.Kinds.{stmtKind, countIn}
 use Rattle.numbers.specs.declared.kinds.Head.{Head}
@@ -30,7 +30,7 @@ use Rattle.numbers.specs.declared.kinds.Head.the-variants.{Nothing, Condition, 
 use Rattle.statements.proofs.Spelled.{NumeralAt, KindAt, ExprAt, constantAt, variableAt, notAt, binaryAt, GuardAt, inputGuardAt}
 use Rattle.statements.proofs.Spelled.{skipGuardAt, StmtAt, skipAt, stopAt, assignAt, inputAt, outputAt, varAt, chanAt, seqAt, parAt}
 use Rattle.statements.proofs.Spelled.{ifAt, whileAt, altAt, timeAt, waitAt, StmtsAt, noStmtAt, stmtsAt, PairsAt, noPairAt, pairAt}
-use Rattle.statements.proofs.Spelled.{GuardsAt, noGuardAt, guardsAt}
+use Rattle.statements.proofs.Spelled.{timeGuardAt, GuardsAt, noGuardAt, guardsAt}
 use Rattle.statements.proofs.Planned.{Tells, entry-tells, next-is, expr-ends, holds-few, InsideExpr, PlannedExpr, PlannedGuard}
 use Rattle.statements.proofs.Planned.{InsideStmt, PlannedStmts, PlannedPairs, PlannedGuards, PlannedStmt}
 
@@ -198,9 +198,18 @@ module _ (s : List ℕ) where
     unfolding headMeasured asked
     condition-made p a deep long = whole-made ForValue p a deep long
 
+    both-made : {vs : List Site} {d i m n : ℕ} {e t : Expr} (p : List ℕ) (a : ExprAt s vs d i e m) (b : ExprAt s vs d m t n) → d ≤ 32
+        → length p ≡ tableLimit
+        → Made i n (max 6 (guardWords (bothHold t e))) p (λ q. PlannedExpr s q a × PlannedExpr s q b) (bothMeasured d s i p)
+    unfolding bothMeasured asked
+    both-made {d = d} {i = i} {e = e} {t = t} p a b deep long =
+        let (x, f) = expr-planned p a deep long in
+        let (y, g) = expr-planned (exprEntered d s i p .plan) b deep (f .long ∙ long) in
+        rw (x .next) (rw (x .needs, x .holds, y .next, y .needs, y .holds), behind f g (omega arith))
+
     guard-made : {w : Scope} {d i n : ℕ} {g : Guard} (p : List ℕ) (a : GuardAt s d w i g n) → d ≤ 32 → length p ≡ tableLimit
-        → Made i n (guardWords (temporaries (condition g))) p (λ q. PlannedGuard s q a) (headMeasured GuardHead d s i p)
-    unfolding headMeasured guardMeasured asked
+        → Made i n (guardAsks g) p (λ q. PlannedGuard s q a) (headMeasured GuardHead d s i p)
+    unfolding headMeasured guardMeasured guardAsks asked
     guard-made {i = i} {n = n} p (inputGuardAt k e c x) deep long =
         let (t, f) = whole-made ForGuard p e deep long in
         rw (k .value, k .is) (
@@ -209,6 +218,8 @@ module _ (s : List ℕ) where
         )
     guard-made {i = i} {n = n} p (skipGuardAt k e) deep long =
         rw (k .value, k .is) (ahead i (omega (arith, k .ahead)) (whole-made ForGuard p e deep long))
+    guard-made {i = i} {n = n} p (timeGuardAt k e t) deep long =
+        rw (k .value, k .is) (ahead i (omega (arith, k .ahead)) (both-made p e t deep long))
 
     -- a statement by what is in it: its own entry is put at its first place
     stmt-own : {w : Scope} {d i n : ℕ} {b : Stmt} {p : List ℕ} (m : Measured) (a : StmtAt s (suc d) w i b n) → length p ≡ tableLimit

@@ -16,7 +16,7 @@ use Rattle.plan.specs.Extents.{extended, extentIn}
 use Rattle.statements.proofs.Spelled.{NumeralAt, ExprAt, constantAt, variableAt, notAt, binaryAt, StmtAt, skipAt, stopAt, assignAt}
 use Rattle.statements.proofs.Spelled.{inputAt, outputAt, varAt, chanAt, seqAt, parAt, ifAt, whileAt, altAt, timeAt, waitAt, StmtsAt}
 use Rattle.statements.proofs.Spelled.{noStmtAt, stmtsAt, PairsAt, noPairAt, pairAt, GuardAt, inputGuardAt, skipGuardAt, GuardsAt}
-use Rattle.statements.proofs.Spelled.{noGuardAt, guardsAt}
+use Rattle.statements.proofs.Spelled.{timeGuardAt, noGuardAt, guardsAt}
 
 -- an entry tells the place after an expression, its registers and its stored values
 pub record Tells (x n : ℕ) (e : Expr) : Type 0 where
@@ -67,6 +67,7 @@ module _ (s : List ℕ) where
     abbrev pub PlannedGuard : {w : Scope} {d i n : ℕ} {g : Guard} → GuardAt s d w i g n → Type 0
     PlannedGuard (inputGuardAt k e c x) = PlannedExpr e
     PlannedGuard (skipGuardAt k e) = PlannedExpr e
+    PlannedGuard (timeGuardAt k e t) = PlannedExpr e × PlannedExpr t
 
     -- a statement's own entry tells of it, where it has at most 4,096 words, and so do those of all in it
     abbrev pub ToldStmt : {w : Scope} {d i n : ℕ} {b : Stmt} → StmtAt s d w i b n → Type 0

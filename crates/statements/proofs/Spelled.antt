@@ -14,7 +14,7 @@ use Rattle.numbers.specs.declared.NumberRead.{NumberRead}
 use Rattle.numbers.specs.declared.NumberRead.the-variants.{Number, Bad}
 use Rattle.model.specs.Syntax.{Site, Expr, constant, variable, NOT, binary, Stmt, SKIP, STOP, assign, input, output, VAR, CHAN, SEQ, PAR}
 use Rattle.model.specs.Syntax.{IF, WHILE, ALT, TIME, WAIT, Stmts, noStmt, stmt, Pairs, noPair, pair, Guard, inputGuard, skipGuard, Guards}
-use Rattle.model.specs.Syntax.{noGuard, guard}
+use Rattle.model.specs.Syntax.{timeGuard, noGuard, guard}
 use Rattle.model.specs.declared.kinds.Operator.{Operator}
 use Rattle.model.specs.Reader.{Parsed, parsed, fails, Reader, onward, Scope, withVariables, withChannels, readName, operators, exprKinds}
 use Rattle.model.specs.Reader.{exprOf, readExpr, readMany, stmtKinds, stmtOf, readStmt, readPair, guardKinds, guardOf, readGuard, Inner}
@@ -25,7 +25,7 @@ use Rattle.model.specs.declared.kinds.StmtKind.the-variants.{Time, Wait}
 use Rattle.model.specs.declared.kinds.ExprKind.{ExprKind}
 use Rattle.model.specs.declared.kinds.ExprKind.the-variants.{Constant, Variable, Not, Binary}
 use Rattle.model.specs.declared.kinds.GuardKind.{GuardKind}
-use Rattle.model.specs.declared.kinds.GuardKind.the-variants.{Input as InputGuard, Skip as SkipGuard}
+use Rattle.model.specs.declared.kinds.GuardKind.the-variants.{Input as InputGuard, Skip as SkipGuard, Time as TimeGuard}
 use Rattle.numbers.specs.Kinds.{stmtKind, exprKind, guardKind}
 use Rattle.model.proofs.Cases.{by-bool, by-option, never}
 use Rattle.table.proofs.SameItems.{Bytes, Same, gives, turns, NumberAt, count-same, one-same, word-same, stmt-kind-is, expr-kind-is}
@@ -126,6 +126,8 @@ pub data GuardAt (s : List ℕ) (d : ℕ) (w : Scope) (at : ℕ) : Guard → (ne
       → OneAt s (w .channels) m c p → OneAt s (w .variables) p x q → GuardAt s d w at (inputGuard e c x) q
   skipGuardAt : {n m : ℕ} {e : Expr} → KindAt s guardKind at SkipGuard n → ExprAt s (w .variables) d n e m
       → GuardAt s d w at (skipGuard e) m
+  timeGuardAt : {n m p : ℕ} {e t : Expr} → KindAt s guardKind at TimeGuard n → ExprAt s (w .variables) d n e m
+      → ExprAt s (w .variables) d m t p → GuardAt s d w at (timeGuard e t) p
 
 -- statements, and the parts of a statement
 mutual
@@ -270,13 +272,16 @@ module _ (s : List ℕ) (b : Bytes s) where
         (λ e m q. and-then _ (name canInput (w .channels) m)
         (λ c p r. and-then _ (name anySite (w .variables) p) (λ x u y. parses (inputGuard e c x) u (inputGuardAt t q r y))))
     of-guard w at n SkipGuard t = and-then _ (expr-spelled d w n) (λ e m q. parses (skipGuard e) m (skipGuardAt t q))
+    of-guard w at n TimeGuard t =
+        and-then _ (expr-spelled d w n)
+        (λ e m q. and-then _ (expr-spelled d w m) (λ x p r. parses (timeGuard e x) p (timeGuardAt t q r)))
 
     guards : (w : Scope) (k at : ℕ)
         → Gives s (λ gs n. GuardsAt s d w k at gs n) (readMany noGuard applied (readGuard w (within w)) k at (drop at s))
     unfolding readGuard
     guards w k at =
         many (λ f at n. GuardBefore d w f at n) (λ k gs at n. GuardsAt s d w k at gs n) noGuard applied (readGuard w (within w))
-        (λ at. and-then _ (kind guardKinds guardKind 1 at refl (λ k. guard-kind-is))
+        (λ at. and-then _ (kind guardKinds guardKind 2 at refl (λ k. guard-kind-is))
         (λ k n t. and-then _ (of-guard w at n k t)
         (λ g m q. and-then _ (inner w m) (λ b z i. parses (guard g b) z (record { before = λ k gs p l. guardsAt q i l })))))
         (λ at. noGuardAt) (λ k f gs at n m h g. h .before k gs m g) k at

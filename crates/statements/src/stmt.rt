@@ -13,6 +13,7 @@ use crate::alt::Guard;
 use expressions::Cursor;
 use expressions::Scope;
 use expressions::gen_simple;
+use model::kinds::GuardKind;
 use model::kinds::StmtKind;
 use numbers::kinds::Count;
 use numbers::kinds::Declared;
@@ -397,10 +398,12 @@ fn put_input(
         at: guard.at,
         here: here,
     };
-    if guard.waits {
-        return expressions::gen_input(table, start, scope, words, list);
+    let kind = guard.kind;
+    match kind {
+        GuardKind::Input => expressions::gen_input(table, start, scope, words, list),
+        GuardKind::Skip => start,
+        GuardKind::Time => start,
     }
-    start
 }
 
 // A guard's disabling, and its branch: AJW 1, the input if any, statement. The answer has the index left for the branch's J.
@@ -473,8 +476,7 @@ fn choices(
     }
 }
 
-// AJW -1, ALT, the enabling, ALTWT, the disabling, ALTEND, the branches. The disabling has the enabling's instructions and one more for
-// each guard.
+// AJW -1, ALT, the enabling, ALTWT, the disabling, ALTEND, the branches.
 fn alt(
     table: &[u8],
     plan: &[u32; 16384],
@@ -491,25 +493,13 @@ fn alt(
         (now (plan .entry)) (now (table .entry)) (cursor .at) (standing (cursor .here) (now (list .entry))))
         (wrote r (now (list .exit))) ⌝ }
 {
-    let second = expressions::plain(
-        list,
-        cursor.here,
-        instruction::codes::AJW,
-        expressions::minus(1),
-    );
-    let start = Cursor {
-        at: cursor.at,
-        here: expressions::operation(list, second, instruction::codes::ALT),
-    };
-    let wait = crate::alt::gen_enable(table, plan, start, count, lowered(scope, 1), &*words, list);
-    let disable = expressions::operation(list, wait, instruction::codes::ALTWT);
-    let size = word::plus(word::less(wait, start.here), count);
-    let choice = word::plus(disable, size);
+    let inner = lowered(scope, 1);
+    let front = crate::alt::gen_front(table, plan, cursor, count, inner, &*words, list);
     let first = Turn {
         at: cursor.at,
-        disable: disable,
-        here: expressions::operation(list, choice, instruction::codes::ALTEND),
-        choice: choice,
+        disable: front.disable,
+        here: expressions::operation(list, front.choice, instruction::codes::ALTEND),
+        choice: front.choice,
     };
     choices(table, plan, first, count, scope, words, list)
 }

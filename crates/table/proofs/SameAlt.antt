@@ -4,19 +4,21 @@ use native.Mathlib.Omega.{arith}
 use mathlib.Core.Path.{_≡_, refl, sym, _∙_}
 use mathlib.Core.List.{List}
 use lib.ListN.{drop}
-use Rattle.model.specs.Syntax.{inputGuard, skipGuard, condition, Guards, noGuard, guard}
+use Rattle.model.specs.Syntax.{inputGuard, skipGuard, timeGuard, Guards, noGuard, guard}
 use Rattle.model.specs.Syntax as M
 use Rattle.model.specs.Reader.{Parsed, onward, pure, Scope, readExpr, Inner, stmtOf, applied, readGuard, guardOf, guardKinds, readStmt}
 use Rattle.model.specs.Usage.{_⊕_, reading, usage, firstClash, guardUsage, usageGuards, firstClashGuards}
-use Rattle.model.specs.Counts.{temporaries, guardWords, processes, need, guardNeed, guardProcesses}
+use Rattle.model.specs.Counts.{temporaries, guardWords, guardAsks, processes, need, guardNeed, guardProcesses}
 use Rattle.counts.specs.Words.{asked}
 use Rattle.table.specs.Stmts.{wholeAt, takenAt, Fits, stmtAt, headAt, withHead, withStmt, guardAt, behind, nothing as no-part}
-use Rattle.table.specs.Stmts.{partAt, mostFrom, gathered, takenUses, guardUses, headUses, partUses, stmtUses}
-use Rattle.table.specs.Exprs.{exprUses}
+use Rattle.table.specs.Stmts.{partAt, mostFrom, gathered, takenUses, guardUses, headUses, partUses, stmtUses, waitingAt, waitingUses}
+use Rattle.table.specs.Stmts.{bothOf, bothAt, bothUses}
+use Rattle.table.specs.Exprs.{exprAt, exprUses, withExpr}
+use Rattle.table.specs.declared.expr.ExprRead.the-variants.{Refused as NoExpr}
 use Rattle.numbers.specs.declared.Item.the-variants.{Item as Found}
 use Rattle.model.specs.declared.kinds.StmtKind.the-variants.{Alt}
 use Rattle.model.specs.declared.kinds.GuardKind.{GuardKind}
-use Rattle.model.specs.declared.kinds.GuardKind.the-variants.{Input as InputGuard, Skip as SkipGuard}
+use Rattle.model.specs.declared.kinds.GuardKind.the-variants.{Input as InputGuard, Skip as SkipGuard, Time as TimeGuard}
 use Rattle.numbers.specs.declared.kinds.Head.the-variants.{Guard}
 use Rattle.counts.specs.declared.Role.the-variants.{Guard as ForGuard}
 use Rattle.numbers.specs.Kinds.{guardKind, byGuard, lastGuard}
@@ -28,8 +30,9 @@ use Rattle.table.specs.declared.stmt.HeadRead.the-variants.{Head as Befo
 use Rattle.table.specs.Scopes.{Scoped}
 use Rattle.table.proofs.SameItems.{Bytes, Same, gives, onwards, one-same, guard-kind-is}
 use Rattle.table.proofs.Marks.{Uses, use-both}
-use Rattle.table.proofs.SameExpr.{Numbers}
+use Rattle.table.proofs.SameExpr.{Numbers, ExprIs, termOf, expr-same}
 use Rattle.table.proofs.SameSimple.{first, Within, RestIs, wider, within-both, taken-onward, taken-uses, within-input}
+use Rattle.table.proofs.SameSimple.{within-reads}
 use Rattle.table.proofs.SameDeclare.{InnerIs}
 use Rattle.numbers.specs.Items.{betweenAt, withItem}
 use Rattle.table.proofs.SameMany.{first-orElse, Counting, PartIs}
@@ -60,7 +63,7 @@ guardWay d w s at l = partUses Guard d w (innerUses d w s) s at l
 
 -- a guard was read; what it asks for, and how it is used
 record GuardIs (sc : Scope) (place at : ℕ) (way : List ℕ → List ℕ) (g : M.Guard) (n : ℕ) (x : HeadRead) : Type 0 where
-  is : x ≡ Before n (guardWords (temporaries (condition g)))
+  is : x ≡ Before n (guardAsks g)
   ahead : at < n
   uses : Uses sc (guardUsage g) way
   within : (hi : ℕ) → Within sc place hi (guardUsage g)
@@ -69,22 +72,20 @@ module _ (s : List ℕ) (d : ℕ) (w : Names) (sc : Scope) (place : ℕ) (b : By
   -- what follows a guard's number
   skip-head : (at v n : ℕ) → at < n → betweenAt 0 lastGuard s at ≡ Found v n → guardKind v ≡ SkipGuard
       → Same s (GuardIs sc place at (guardUses d w s at)) NoHead
-      (withHead NoHead (wholeAt ForGuard d (w .variables) s n) (λ m a. Before m a))
-      (guardOf sc (readExpr d sc) SkipGuard n (drop n s))
-  unfolding guardUses guardOf asked
+      (wholeAt ForGuard d (w .variables) s n) (guardOf sc (readExpr d sc) SkipGuard n (drop n s))
+  unfolding guardUses guardOf guardAsks asked
   skip-head at v n t item kind =
-      onwards (λ x. withHead NoHead x (λ m a. Before m a)) (λ e. pure (skipGuard e)) (whole-scoped ForGuard d w sc s place n b h o)
+      onwards (λ x. x) (λ e. pure (skipGuard e)) (whole-scoped ForGuard d w sc s place n b h o)
       (λ e m y r q.
       let value : Uses sc (reading e) (λ l. exprUses d (w .variables) s n l) = rw (h .variables) (r .uses) in
-      rw (r .is) (gives (skipGuard e) m (Before m (guardWords (temporaries e)))
-      (record { is = refl; ahead = omega (arith, t, r .ahead); uses = rw (item, kind, q ∙ r .is) value; within = r .within place })))
+      gives (skipGuard e) m y
+      (record { is = r .is; ahead = omega (arith, t, r .ahead); uses = rw (item, kind) value; within = r .within place }))
       (λ j p. refl)
 
   input-head : (at v n : ℕ) → at < n → betweenAt 0 lastGuard s at ≡ Found v n → guardKind v ≡ InputGuard
       → Same s (GuardIs sc place at (guardUses d w s at)) NoHead
-      (withHead NoHead (wholeAt ForGuard d (w .variables) s n) (λ m a. takenAt w s m a))
-      (guardOf sc (readExpr d sc) InputGuard n (drop n s))
-  unfolding guardUses guardOf asked
+      (waitingAt d w s n) (guardOf sc (readExpr d sc) InputGuard n (drop n s))
+  unfolding waitingAt waitingUses guardUses guardOf guardAsks asked
   input-head at number n t item kind =
       onwards (λ x. withHead NoHead x (λ m a. takenAt w s m a)) _ (whole-scoped ForGuard d w sc s place n b h o)
       (λ e m y r q.
@@ -101,6 +102,30 @@ module _ (s : List ℕ) (d : ℕ) (w : Names) (sc : Scope) (place : ℕ) (b : By
       (λ j p. refl)))
       (λ j p. refl)
 
+  expr-scoped : (at : ℕ)
+      → Same s (ExprIs sc at (λ l. exprUses d (w .variables) s at l)) NoExpr (exprAt d (w .variables) s at) (readExpr d sc at (drop at s))
+  expr-scoped at = rw (h .variables) (expr-same d sc s at b o)
+
+  -- 02, order 4: condition, then time
+  time-head : (at v n : ℕ) → at < n → betweenAt 0 lastGuard s at ≡ Found v n → guardKind v ≡ TimeGuard
+      → Same s (GuardIs sc place at (guardUses d w s at)) NoHead
+      (bothAt d (w .variables) s n) (guardOf sc (readExpr d sc) TimeGuard n (drop n s))
+  unfolding bothAt bothUses guardUses guardOf guardAsks asked
+  time-head at v n l item kind =
+      onwards (λ x. withExpr NoHead x (λ e. withExpr NoHead (exprAt d (w .variables) s (e .next)) (λ t. bothOf e t))) _ (expr-scoped n)
+      (λ e m y r q. rw (r .is) (
+      onwards (λ x. withExpr NoHead x (λ t. bothOf (termOf e m) t)) (λ t. pure (timeGuard e t)) (expr-scoped m)
+      (λ t i z k p. rw (k .is) (gives (timeGuard e t) i (bothOf (termOf e m) (termOf t i))
+      (record {
+        is = refl;
+        ahead = omega (arith, l, r .ahead, k .ahead);
+        uses = rw (item, kind, q ∙ r .is)
+            (use-both {f = exprUses d (w .variables) s n} {g = exprUses d (w .variables) s m} (r .uses) (k .uses));
+        within = λ hi. within-both (within-reads sc e place hi (r .within)) (within-reads sc t place hi (k .within));
+      })))
+      (λ j p. refl)))
+      (λ j p. refl)
+
   module _ (inner : Inner) (f : Fits w d) (i : InnerIs s d) (ee : inner .expr ≡ readExpr d sc) (es : inner .stmt ≡ readStmt d) where
     -- a guard, and the statement behind it
     guard-then : (at : ℕ) → place ≤ at → {x : HeadRead} {r : Parsed M.Guard} → guardAt d w s at ≡ x
@@ -112,11 +137,11 @@ module _ (s : List ℕ) (d : ℕ) (w : Names) (sc : Scope) (place : ℕ) (b : By
         rw es (
         onwards (λ x. behindHead d w s x) _ r
         (λ g m y k q. rw (k .is) (
-        onwards (λ z. withStmt NoStmt z (λ p. Stmt (behind (guardWords (temporaries (condition g))) p))) (λ st. pure (guard g st))
+        onwards (λ z. withStmt NoStmt z (λ p. Stmt (behind (guardAsks g) p))) (λ st. pure (guard g st))
         (i w sc m (scoped-later m (omega (arith, l, k .ahead)) h) f)
         (λ st u z t p. rw (t .is) (gives (guard g st) u _
         (record {
-          words = max (guardWords (temporaries (condition g))) (need st);
+          words = max (guardAsks g) (need st);
           processes = processes st;
           clash = first (firstClash st);
           use-of = guardUsage g ⊕ usage st;
@@ -140,9 +165,9 @@ module _ (s : List ℕ) (d : ℕ) (w : Names) (sc : Scope) (place : ℕ) (b : By
         rw ee (
         onwards
         (λ x. behindHead d w s
-        (withItem NoHead x (λ g n. withHead NoHead (wholeAt ForGuard d (w .variables) s n) (λ m a.
-        byGuard (guardKind g) (takenAt w s m a) (Before m a)))))
-        _ (one-same guardKinds 1 s at b refl)
+        (withItem NoHead x (λ g n.
+        byGuard (guardKind g) (waitingAt d w s n) (wholeAt ForGuard d (w .variables) s n) (bothAt d (w .variables) s n))))
+        _ (one-same guardKinds 2 s at b refl)
         (λ kind n y k q.
         let e = guard-kind-is (k .value) (k .listed) in
         rw (k .found, e) (guard-then at l (rw (q ∙ k .found, e) refl) (of-kind kind (k .value) n (k .there .ahead) (q ∙ k .found) e)))
@@ -150,10 +175,11 @@ module _ (s : List ℕ) (d : ℕ) (w : Names) (sc : Scope) (place : ℕ) (b : By
       where
         of-kind : (kind : GuardKind) (v n : ℕ) → at < n → betweenAt 0 lastGuard s at ≡ Found v n → guardKind v ≡ kind
             → Same s (GuardIs sc place at (guardUses d w s at)) NoHead
-            (withHead NoHead (wholeAt ForGuard d (w .variables) s n) (λ m a. byGuard kind (takenAt w s m a) (Before m a)))
+            (byGuard kind (waitingAt d w s n) (wholeAt ForGuard d (w .variables) s n) (bothAt d (w .variables) s n))
             (guardOf sc (readExpr d sc) kind n (drop n s))
         of-kind InputGuard v n = input-head at v n
         of-kind SkipGuard v n = skip-head at v n
+        of-kind TimeGuard v n = time-head at v n
 
 pub alternative-same : (s : List ℕ) (d : ℕ) (w : Names) (sc : Scope) (place at : ℕ) (inner : Inner) → Bytes s → place ≤ at
     → Scoped w sc place

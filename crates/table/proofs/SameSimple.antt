@@ -71,7 +71,7 @@ pub record WholeIs (s : List ℕ) (role : Role) (d : ℕ) (sc : Scope) (at : ℕ
   pub uses : Uses sc (reading e) (exprWay d sc s at)
   pub within : (lo hi : ℕ) → Within sc lo hi (reading e)
 
-within-reads : (sc : Scope) (e : M.Expr) (lo hi : ℕ) → ((x : Site) → isIn x (reads e) ≡ true → InScope (sc .variables) x)
+pub within-reads : (sc : Scope) (e : M.Expr) (lo hi : ℕ) → ((x : Site) → isIn x (reads e) ≡ true → InScope (sc .variables) x)
     → Within sc lo hi (reading e)
 unfolding isIn
 within-reads sc e lo hi h = record { each-in = λ f x i. in-field f x i }

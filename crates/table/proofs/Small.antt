@@ -13,7 +13,7 @@ use Rattle.numbers.specs.Kinds.{lastExpression, lastGuard, lastOperator, lastSt
 use Rattle.model.specs.declared.kinds.ExprKind.{ExprKind}
 use Rattle.model.specs.declared.kinds.ExprKind.the-variants.{Constant, Variable, Not, Binary}
 use Rattle.model.specs.declared.kinds.GuardKind.{GuardKind}
-use Rattle.model.specs.declared.kinds.GuardKind.the-variants.{Input as InputGuard, Skip as SkipGuard}
+use Rattle.model.specs.declared.kinds.GuardKind.the-variants.{Input as InputGuard, Skip as SkipGuard, Time as TimeGuard}
 use Rattle.model.specs.declared.kinds.StmtKind.{StmtKind}
 use Rattle.model.specs.declared.kinds.StmtKind.the-variants.{Skip, Stop, Assign, Input, Output, Var, Chan, Seq, Par, If, While, Alt}
 use Rattle.model.specs.declared.kinds.StmtKind.the-variants.{Time, Wait}
@@ -27,13 +27,13 @@ use Rattle.numbers.specs.declared.kinds.Shape.the-variants.{Simple as Bare, Dec
 use Rattle.numbers.specs.declared.kinds.Count.{Count}
 use Rattle.numbers.specs.declared.kinds.Count.the-variants.{UpTo, Fixed}
 use Rattle.counts.specs.declared.Role.{Role}
-use Rattle.counts.specs.declared.Role.the-variants.{Value, Output as Outward, Guard as ForGuard, Wait as ForWait}
-use Rattle.model.specs.Counts.{orderOf, guardWords}
+use Rattle.counts.specs.declared.Role.the-variants.{Value, Output as Outward, Guard as ForGuard, Wait as ForWait, Time as ForTime}
+use Rattle.model.specs.Counts.{orderOf, sidesHold, guardWords}
 use Rattle.model.proofs.Tables.Needs.{sides-hold}
 use Rattle.table.specs.Exprs.{withExpr, single, constantAt, usedAt, sides, operated, exprAt}
 use Rattle.counts.specs.Words.{asked, leastWords}
 use Rattle.table.specs.Stmts.{wholeAt, variableAt, inputAt, withHead, withStmt, outputAt, leaf, valueAt, takenAt, timedAt, simpleAt}
-use Rattle.table.specs.Stmts.{guardAt}
+use Rattle.table.specs.Stmts.{waitingAt, bothOf, bothAt, guardAt}
 use Rattle.table.specs.Stmts.{headAt, nothing, added, partAt, mostFrom, gathered, Branches, joinedBy, BranchesRead, all, stopped}
 use Rattle.table.specs.Stmts.{withBranches, branchesFrom, noBranches, parOf, moreNames, declaring, insideOf, stmtAt, stmtUses, partIn}
 use Rattle.table.specs.Uses.{noNames}
@@ -210,9 +210,10 @@ later-stmt (NoStmt k p) base from from2 len l h = tt
 leaf-small : (n words base from len : ℕ) → base < from → from ≤ n → n ≤ len → words ≤ 40 * (n - base) → In base from len (leaf n words)
 leaf-small n words base from len l m u w = (m, u, w, omega (arith, l, m))
 
-earlier-head : (x : HeadRead) (base from at len : ℕ) → from ≤ at → InHead base at len x → InHead base from len x
-earlier-head (Before n a) base from at len l h = (omega (arith, l, h .0), h .1, h .2)
-earlier-head (NoHead k p) base from at len l h = tt
+earlier-head : (x : HeadRead) (base from base2 from2 len : ℕ) → base2 ≤ base → from2 ≤ from → InHead base from len x
+    → InHead base2 from2 len x
+earlier-head (Before n a) base from base2 from2 len l m h = (omega (arith, m, h .0), h .1, omega (arith, l, h .2))
+earlier-head (NoHead k p) base from base2 from2 len l m h = tt
 
 asked-most : (r : Role) (t : ℕ) → asked r t ≤ t + 8
 unfolding asked guardWords
@@ -221,6 +222,8 @@ asked-most Outward t = omega arith
 asked-most ForGuard zero = omega arith
 asked-most ForGuard (suc t) = omega arith
 asked-most ForWait t = omega arith
+asked-most ForTime zero = omega arith
+asked-most ForTime (suc t) = omega arith
 
 whole-in : (r : Role) (d vs : ℕ) (s : List ℕ) (at : ℕ) → InHead at at (length s) (wholeAt r d vs s at)
 unfolding wholeAt
@@ -263,21 +266,41 @@ simple-in Timing d w s base at l u =
     leaf-small n 2 base at (length s) l (omega (arith, h .0)) (h .1) (omega (arith, l, h .0)))
 simple-in Waiting d w s base at l u = value-in ForWait d (w .variables) s base at at l (omega arith)
 
+waiting-in : (d : ℕ) (w : Names) (s : List ℕ) (at : ℕ) → InHead at at (length s) (waitingAt d w s at)
+unfolding waitingAt
+waiting-in d w s at =
+    of-head (InHead at at (length s)) (InHead at at (length s)) (λ k p. tt) (wholeAt ForGuard d (w .variables) s at)
+    (whole-in ForGuard d (w .variables) s at) (λ m a h.
+    earlier-head (takenAt w s m a) at m at at (length s) (omega arith) (h .0) (taken-in w s at m a (h .0) (h .2)))
+
+both-in : (d vs : ℕ) (s : List ℕ) (at : ℕ) → InHead at at (length s) (bothAt d vs s at)
+unfolding bothAt
+both-in d vs s at =
+    of-expr (InHead at at (length s)) (InExpr at (length s)) (λ k p. tt) (exprAt d vs s at) (expr-in d vs s at) (λ e a.
+    of-expr (InHead at at (length s)) (InExpr (e .next) (length s)) (λ k p. tt) (exprAt d vs s (e .next)) (expr-in d vs s (e .next))
+    (λ t b.
+    let o = orderOf (t .registers) (e .registers) in
+    let held = sides-hold o (t .stored) (e .stored) in (
+      omega (arith, a .0, b .0),
+      b .1,
+      omega (arith, a .0, a .2, b .0, b .2, held, asked-most ForTime (sidesHold o (t .stored) (e .stored))),
+    )))
+
 guard-in : (d : ℕ) (w : Names) (s : List ℕ) (at : ℕ) → InHead at at (length s) (guardAt d w s at)
 unfolding guardAt
 guard-in d w s at =
     of-item (InHead at at (length s)) (InItem at (length s)) (λ k p. tt) (betweenAt 0 lastGuard s at)
     (between-in 0 lastGuard s at) (λ g n b.
-    of-head (InHead at at (length s)) (InHead n n (length s)) (λ k p. tt) (wholeAt ForGuard d (w .variables) s n)
-    (whole-in ForGuard d (w .variables) s n) (λ m a h.
-    let l : at ≤ m = omega (arith, b .0, h .0) in
-    let asks : a ≤ 40 * (m - at) = omega (arith, b .0, h .2) in
-    of-kind (guardKind g) m a (earlier-head (takenAt w s m a) at at m (length s) l (taken-in w s at m a l asks)) (l, h .1, asks)))
+    let l : at ≤ n = omega (arith, b .0) in
+    earlier-head (kinds (guardKind g) n) n n at at (length s) l l (of-kind (guardKind g) n))
   where
-    of-kind : (k : GuardKind) (m a : ℕ) → InHead at at (length s) (takenAt w s m a) → InHead at at (length s) (Before m a)
-        → InHead at at (length s) (byGuard k (takenAt w s m a) (Before m a))
-    of-kind InputGuard m a h g = h
-    of-kind SkipGuard m a h g = g
+    kinds : GuardKind → ℕ → HeadRead
+    kinds k n = byGuard k (waitingAt d w s n) (wholeAt ForGuard d (w .variables) s n) (bothAt d (w .variables) s n)
+
+    of-kind : (k : GuardKind) (n : ℕ) → InHead n n (length s) (kinds k n)
+    of-kind InputGuard n = waiting-in d w s n
+    of-kind SkipGuard n = whole-in ForGuard d (w .variables) s n
+    of-kind TimeGuard n = both-in d (w .variables) s n
 
 -- the head of a part; an empty one ends where it begins
 abbrev After : ℕ → HeadRead → Type 0

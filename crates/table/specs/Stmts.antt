@@ -4,9 +4,10 @@ use Prim.Native.Nat.{ℕ, zero, suc, _+_, _*_, _≤_, max}
 use mathlib.Core.Bool.{Bool, false, cond, _||_}
 use mathlib.Core.List.{List}
 use Rattle.numbers.specs.Items.{betweenAt, nameAt, deepAt, withItem}
-use Rattle.table.specs.Exprs.{exprAt, withExpr, kept, exprUses}
+use Rattle.table.specs.Exprs.{exprAt, withExpr, kept, exprUses, bothUse}
 use Rattle.table.specs.Uses.{inputsSet, outputsSet, noNames, markAt, changeAt, leaveAt, clashing, merged}
 use Rattle.numbers.specs.declared.Item.{Item}
+use Rattle.table.specs.declared.expr.Term.{Term}
 use Rattle.table.specs.declared.stmt.Names.{Names}
 use Rattle.table.specs.declared.stmt.Part.{Part}
 use Rattle.table.specs.declared.stmt.StmtRead.{StmtRead}
@@ -17,6 +18,7 @@ use Rattle.table.specs.declared.stmt.Sum.{Sum}
 use Rattle.table.specs.declared.stmt.SumRead.{SumRead}
 use Rattle.table.specs.declared.stmt.SumRead.the-variants.{Sum as Total, Refused as NoSum}
 use Rattle.model.specs.Limits.{nameLimit}
+use Rattle.model.specs.Counts.{orderOf, sidesHold}
 use Rattle.model.specs.declared.kinds.StmtKind.{StmtKind}
 use Rattle.numbers.specs.Kinds.{lastStatement, stmtKind, lastGuard, guardKind, byGuard, byHead, byDeclared, byShape, shapeOf, countAt}
 use Rattle.numbers.specs.declared.kinds.Simple.{Simple}
@@ -26,6 +28,7 @@ use Rattle.numbers.specs.declared.kinds.Head.{Head}
 use Rattle.counts.specs.Words.{asked, leastWords}
 use Rattle.counts.specs.declared.Role.{Role}
 use Rattle.counts.specs.declared.Role.the-variants.{Value as ForValue, Output as ForOutput, Guard as ForGuard, Wait as ForWait}
+use Rattle.counts.specs.declared.Role.the-variants.{Time as ForTime}
 
 -- a clash is told by one more than the place of its PAR, and 0 is none: the first of two
 abbrev pub firstOf : ℕ → ℕ → ℕ
@@ -95,17 +98,36 @@ simpleUses Output d w s at l = withItem (kept l) (outputAt w s at) (λ c n. expr
 simpleUses Time d w s at l = timedUses w s at l
 simpleUses Wait d w s at l = exprUses d (w .variables) s at l
 
--- a guard: its kind, its condition, and if it waits for input its channel and its variable
+-- a condition, a channel to input from and a variable
+unfoldable pub waitingAt : (depth : ℕ) → Names → List ℕ → (at : ℕ) → HeadRead
+waitingAt d w s at = withHead NoHead (wholeAt ForGuard d (w .variables) s at) (λ n a. takenAt w s n a)
+
+unfoldable pub waitingUses : (depth : ℕ) → Names → List ℕ → (at : ℕ) → List ℕ → List ℕ
+waitingUses d w s at l =
+    let half = exprUses d (w .variables) s at l in
+    withHead (kept half) (wholeAt ForGuard d (w .variables) s at) (λ n a. takenUses w s n half)
+
+-- 02, order 4: a condition and a time. They are brought in as the right and the left side of an operator
+abbrev pub bothOf : (condition time : Term) → HeadRead
+bothOf e t =
+    Before (t .next) (asked ForTime (sidesHold (orderOf (t .registers) (e .registers)) (t .stored) (e .stored)))
+
+unfoldable pub bothAt : (depth variables : ℕ) → List ℕ → (at : ℕ) → HeadRead
+bothAt d vs s at = withExpr NoHead (exprAt d vs s at) (λ e. withExpr NoHead (exprAt d vs s (e .next)) (λ t. bothOf e t))
+
+unfoldable pub bothUses : (depth variables : ℕ) → List ℕ → (at : ℕ) → List ℕ → List ℕ
+bothUses d vs s at l = bothUse (λ i. exprAt d vs s i) (λ i j. exprUses d vs s i j) at l
+
+-- a guard: its kind, its condition, and its channel and its variable if it waits for input, its time if it is a time guard
 unfoldable pub guardAt : (depth : ℕ) → Names → List ℕ → (at : ℕ) → HeadRead
 guardAt d w s at =
     withItem NoHead (betweenAt 0 lastGuard s at) (λ g n.
-    withHead NoHead (wholeAt ForGuard d (w .variables) s n) (λ m a. byGuard (guardKind g) (takenAt w s m a) (Before m a)))
+    byGuard (guardKind g) (waitingAt d w s n) (wholeAt ForGuard d (w .variables) s n) (bothAt d (w .variables) s n))
 
 unfoldable pub guardUses : (depth : ℕ) → Names → List ℕ → (at : ℕ) → List ℕ → List ℕ
 guardUses d w s at l =
     withItem (kept l) (betweenAt 0 lastGuard s at) (λ g n.
-    let half = exprUses d (w .variables) s n l in
-    withHead (kept half) (wholeAt ForGuard d (w .variables) s n) (λ m a. byGuard (guardKind g) (takenUses w s m half) half))
+    byGuard (guardKind g) (waitingUses d w s n l) (exprUses d (w .variables) s n l) (bothUses d (w .variables) s n l))
 
 -- what stands before the statement of a part
 unfoldable pub headAt : Head → (depth : ℕ) → Names → List ℕ → (at : ℕ) → HeadRead

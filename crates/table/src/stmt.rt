@@ -2,16 +2,19 @@
 ghost use mathlib.Core.Path.{_≡_};
 ghost use Prim.Native.Nat.{_+_, _<_, _≤_};
 ghost use lib.ListN.{length};
-ghost use Rattle.table.specs.Stmts.{firstOf, leaf, wholeAt, valueAt, takenAt, simpleAt, guardAt, headAt, behind, withStmt};
+ghost use Rattle.table.specs.Stmts.{firstOf, leaf, wholeAt, valueAt, takenAt, simpleAt, waitingAt, bothOf, bothAt, guardAt, headAt};
+ghost use Rattle.table.specs.Stmts.{behind, withStmt};
 ghost use Rattle.table.specs.Stmts.{nothing, added, gathered, parOf, moreNames, declaring, SmallWords, Numbered, Fits};
 ghost use Rattle.table.specs.Stmts.{partIn, mostAt, parAt, declaredAt, insideAt, stmtAt, takenUses, timedAt, timedUses, simpleUses};
-ghost use Rattle.table.specs.Stmts.{guardUses, headUses};
+ghost use Rattle.table.specs.Stmts.{waitingUses, bothUses, guardUses, headUses};
 ghost use Rattle.table.specs.Stmts.{partUsesIn, mostUsesAt, parUsesAt, declaredUses, insideUses, stmtUses};
 ghost use Rattle.table.specs.Exprs.{exprUses};
 ghost use Rattle.table.specs.Sets.{Exact};
 ghost use Rattle.table.specs.declared.stmt.StmtRead.the-variants.{Stmt, Refused as NoStmt};
 ghost use Rattle.table.specs.declared.stmt.SumRead.the-variants.{Sum as Total};
 ghost use Rattle.numbers.specs.Items.{withItem};
+use crate::expr::ExprRead;
+use crate::expr::Term;
 use counts::Role;
 use model::kinds::GuardKind;
 use model::kinds::StmtKind;
@@ -96,8 +99,8 @@ fn read_whole(
     ensures uses { λ r. ⌜ now (sets .exit) ≡ exprUses depth variables (now (table .entry)) at (now (sets .entry)) ⌝ }
 {
     match crate::expr::read_expr(table, at, depth, variables, sets) {
-        crate::expr::ExprRead::Expr(e) => HeadRead::Head(e.next, counts::ask(role, e.stored)),
-        crate::expr::ExprRead::Refused(n, p) => HeadRead::Refused(n, p),
+        ExprRead::Expr(e) => HeadRead::Head(e.next, counts::ask(role, e.stored)),
+        ExprRead::Refused(n, p) => HeadRead::Refused(n, p),
     }
 }
 
@@ -205,26 +208,60 @@ fn read_simple(
     }
 }
 
-// A guard: its kind, its condition, and if it waits for input its channel and its variable.
+// The condition, the channel and the variable of a guard that waits for input.
+fn read_waiting(table: &[u8], at: usize, depth: u64, names: Names, sets: &mut [u64; 64]) -> HeadRead
+    requires { ⌜ (depth ≤ 32) × Numbered names ⌝ }
+    ensures said { λ r. ⌜ r ≡ waitingAt depth names (now (table .entry)) at ⌝ }
+    ensures uses { λ r. ⌜ now (sets .exit) ≡ waitingUses depth names (now (table .entry)) at (now (sets .entry)) ⌝ }
+{
+    match read_whole(table, at, Role::Guard, depth, names.variables, sets) {
+        HeadRead::Head(next, words) => read_input(table, next, names, words, sets),
+        HeadRead::Refused(n, p) => HeadRead::Refused(n, p),
+    }
+}
+
+// What is counted of a time guard: its time and its condition as the left and the right side of an operator (02, order 4).
+fn both_head(condition: Term, time: Term) -> HeadRead
+    requires { ⌜ (condition .stored ≤ 32) × (time .stored ≤ 32) ⌝ }
+    ensures { λ r. ⌜ r ≡ bothOf condition time ⌝ }
+{
+    let order = counts::order_of(time.registers, condition.registers);
+    let stored = counts::sides_hold(order, time.stored, condition.stored);
+    HeadRead::Head(time.next, counts::ask(Role::Time, stored))
+}
+
+// The condition and the time of a time guard.
+fn read_both(table: &[u8], at: usize, depth: u64, variables: u64, sets: &mut [u64; 64]) -> HeadRead
+    requires { ⌜ (depth ≤ 32) × (variables ≤ 1024) ⌝ }
+    ensures said { λ r. ⌜ r ≡ bothAt depth variables (now (table .entry)) at ⌝ }
+    ensures uses { λ r. ⌜ now (sets .exit) ≡ bothUses depth variables (now (table .entry)) at (now (sets .entry)) ⌝ }
+{
+    match crate::expr::read_expr(table, at, depth, variables, sets) {
+        ExprRead::Expr(condition) => match crate::expr::read_expr(
+            table,
+            condition.next,
+            depth,
+            variables,
+            sets,
+        ) {
+            ExprRead::Expr(time) => both_head(condition, time),
+            ExprRead::Refused(n, p) => HeadRead::Refused(n, p),
+        },
+        ExprRead::Refused(n, p) => HeadRead::Refused(n, p),
+    }
+}
+
+// A guard: its kind, its condition, and its channel and its variable if it waits for input, its time if it is a time guard.
 fn read_guard(table: &[u8], at: usize, depth: u64, names: Names, sets: &mut [u64; 64]) -> HeadRead
     requires { ⌜ (depth ≤ 32) × Numbered names ⌝ }
     ensures said { λ r. ⌜ r ≡ guardAt depth names (now (table .entry)) at ⌝ }
     ensures uses { λ r. ⌜ now (sets .exit) ≡ guardUses depth names (now (table .entry)) at (now (sets .entry)) ⌝ }
 {
     match numbers::read_between(table, at, 0, numbers::kinds::LAST_GUARD) {
-        numbers::Item::Item(number, next) => match read_whole(
-            table,
-            next,
-            Role::Guard,
-            depth,
-            names.variables,
-            sets,
-        ) {
-            HeadRead::Head(last, words) => match numbers::kinds::guard_kind(number) {
-                GuardKind::Input => read_input(table, last, names, words, sets),
-                GuardKind::Skip => HeadRead::Head(last, words),
-            },
-            HeadRead::Refused(n, p) => HeadRead::Refused(n, p),
+        numbers::Item::Item(number, next) => match numbers::kinds::guard_kind(number) {
+            GuardKind::Input => read_waiting(table, next, depth, names, sets),
+            GuardKind::Skip => read_whole(table, next, Role::Guard, depth, names.variables, sets),
+            GuardKind::Time => read_both(table, next, depth, names.variables, sets),
         },
         numbers::Item::Refused(n, p) => HeadRead::Refused(n, p),
     }

@@ -2,7 +2,7 @@
 -- all functions and operands.
 use Prim.Native.Nat.{ℕ, suc, _/_, _^_, _≤_, _<_, min}
 use native.Mathlib.Omega.{arith}
-use mathlib.Core.Path.{_≡_, refl, ap, _∙_}
+use mathlib.Core.Path.{_≡_, refl, ap, _∙_, sym}
 use mathlib.Core.Bool.{Bool, true, false}
 use mathlib.Core.List.{List, [], _∷_}
 use mathlib.Core.Option.{some, Option·some-injective}
@@ -10,7 +10,7 @@ use lib.ListN.{length, getD}
 use lib.Seq.{slice, slice-cons, slice-empty, length-slice}
 use lib.Dec.{eqb}
 use native.Mathlib.Decide.{decLt}
-use borrow.Author.Tests.{lt-ltb, le-leb}
+use borrow.Author.Tests.{lt-ltb, le-leb, eqb-true}
 use Rattle.model.specs.Word.{low}
 use Rattle.model.specs.Limits.{sliceLimit}
 use Rattle.model.specs.Instruction.{Function, j, ldlp, ldc, ldl, cj, ajw, eqc, stl, opr, functionCode, functionOf, coded, pfixCode}
@@ -22,6 +22,7 @@ use Rattle.model.specs.Execute.{execute}
 use Rattle.model.specs.Run.{fetch, act, land, byte}
 use Rattle.model.specs.declared.Cpu.{Cpu}
 use Rattle.model.proofs.Cases.{never}
+use mathlib.Core.Logic.{_≢_}
 
 -- an instruction's decoding
 abbrev pub Reads : (off : ℕ → ℕ) → Instruction → ℕ → List ℕ → Type 0
@@ -33,7 +34,7 @@ pub record Standing (code : List ℕ) (off : ℕ → ℕ) (i : ℕ) (x : Instruc
   pub upto : place < off (suc i)
   pub reads : Reads off x operand (slice place (off (suc i)) code)
 
-function-found : (f : Function) → functionOf (functionCode f) ≡ some f
+pub function-found : (f : Function) → functionOf (functionCode f) ≡ some f
 unfolding functionOf functionCode coded
 function-found j = refl
 function-found ldlp = refl
@@ -62,7 +63,8 @@ pub record Completes (code : List ℕ) (off : ℕ → ℕ) (x : Instruction) (s 
 -- what one byte of an instruction does: a prefix gathers; the last byte executes
 pub data Turn (code : List ℕ) (off : ℕ → ℕ) (i : ℕ) (x : Instruction) (s : World) : Type 0 where
   prefixed : (o : ℕ) → byte code s ≡ done tt (withCpu (gathering o (advance (s .machine .cpu))) s)
-      → Standing code off i x (suc (s .machine .cpu .place)) o → Turn code off i x s
+      → Standing code off i x (suc (s .machine .cpu .place)) o → getD code (s .machine .cpu .place) 0 / 16 ≢ functionCode opr
+      → Turn code off i x s
   last : byte code s ≡ next (execute (functionIn x) (operandIn off x) (withCpu (gathering 0 (advance (s .machine .cpu))) s)) (λ u. land)
       → suc (s .machine .cpu .place) ≡ off (suc i) → Completes code off x s → Turn code off i x s
 
@@ -100,22 +102,24 @@ module _ (code : List ℕ) (off : ℕ → ℕ) (i : ℕ) (x : Instruction) (s : 
     (small : length code < 2 ^ 31)
     (whole : s .machine .setup .code ≡ length code) (runs : s .machine .cpu .running ≡ true) (from : off i ≤ placeIn s)
     (upto : placeIn s < off (suc i)) where
-  went-on : (o b : ℕ) → getD code (placeIn s) 0 ≡ b → Reads off x o (slice (suc (placeIn s)) (off (suc i)) code)
+  went-on : (o b : ℕ) → getD code (placeIn s) 0 ≡ b → b / 16 ≢ functionCode opr → Reads off x o (slice (suc (placeIn s)) (off (suc i)) code)
       → act b s ≡ done tt (withCpu (gathering o (advance (s .machine .cpu))) s) → Dec (suc (placeIn s) < off (suc i)) → Turn code off i x s
   unfolding decode
-  went-on o b eb r e (yes h) =
+  went-on o b eb still r e (yes h) =
       prefixed o
       (fetched code s (omega (arith, whole)) ∙ rw eb (next-land e runs (omega (arith, whole))))
-      (record { from = omega arith; upto = h; reads = r })
-  went-on o b eb r e (no h) =
+      (record { from = omega arith; upto = h; reads = r }) (λ z. still (ap (λ y. y / 16) (sym eb) ∙ z))
+  went-on o b eb still r e (no h) =
       let d : suc (placeIn s) ≡ off (suc i) = omega arith in
       never (cc (r, ap (λ n. decode o (slice n (off (suc i)) code)) d, ap (decode o) (slice-empty (off (suc i)) code)))
 
   turn-by : (b : ℕ) → getD code (placeIn s) 0 ≡ b → (p q : Bool) → eqb (b / 16) pfixCode ≡ p → eqb (b / 16) nfixCode ≡ q
       → Reads off x (s .machine .cpu .operand) (b ∷ slice (suc (placeIn s)) (off (suc i)) code) → Turn code off i x s
-  unfolding decode
-  turn-by b eb true q ep eq r = went-on _ b eb (rw ep at r) (act-pfix s b ep) (decLt _ _)
-  turn-by b eb false true ep eq r = went-on _ b eb (rw (ep, eq) at r) (act-nfix s b ep eq) (decLt _ _)
+  unfolding decode functionCode
+  turn-by b eb true q ep eq r =
+      went-on _ b eb (λ z. absurd (omega (arith, eqb-true (b / 16) pfixCode ep, z))) (rw ep at r) (act-pfix s b ep) (decLt _ _)
+  turn-by b eb false true ep eq r =
+      went-on _ b eb (λ z. absurd (omega (arith, eqb-true (b / 16) nfixCode eq, z))) (rw (ep, eq) at r) (act-nfix s b ep eq) (decLt _ _)
   turn-by b eb false false ep eq r =
       let e : Decoded = record {
         function = b / 16;

@@ -7,22 +7,24 @@ use mathlib.Core.Option.{some}
 use lib.ListN.{length, getElem?}
 use Rattle.model.specs.Limits.{wordLimit, branchLimit}
 use Rattle.model.specs.Syntax.{Site, Expr, constant, variable, NOT, binary, Stmt, SKIP, STOP, assign, input, output, VAR, CHAN, SEQ}
-use Rattle.model.specs.Syntax.{PAR, IF, WHILE, ALT, Stmts, noStmt, stmt, Pairs, noPair, pair, Guard, inputGuard, skipGuard, condition}
-use Rattle.model.specs.Syntax.{Guards, noGuard, guard, Program, TIME, WAIT}
+use Rattle.model.specs.Syntax.{PAR, IF, WHILE, ALT, Stmts, noStmt, stmt, Pairs, noPair, pair, Guard, inputGuard, skipGuard, timeGuard}
+use Rattle.model.specs.Syntax.{Guards, noGuard, guard, timed, Program, TIME, WAIT}
 use Rattle.model.specs.declared.kinds.Operator.{Operator}
 use Rattle.model.specs.declared.kinds.Operator.the-variants.{Plus as PLUS, Minus as MINUS, Times as TIMES, Gt as GT, Eq as EQ}
 use Rattle.model.specs.declared.kinds.Operator.the-variants.{And as AND, Or as OR, Xor as XOR}
 use Rattle.model.specs.Reader.{Scope, withVariables, withChannels}
-use Rattle.model.specs.Counts.{order, sidesHold, temporaries, guardWords, need, mostNeed, sumNeed, pairNeed, guardNeed}
+use Rattle.model.specs.Counts.{order, sidesHold, temporaries, bothHold, guardWords, guardAsks, need, mostNeed, sumNeed, pairNeed}
+use Rattle.model.specs.Counts.{guardNeed}
 use Rattle.model.specs.declared.kinds.Order.{Order}
 use Rattle.model.specs.declared.kinds.Order.the-variants.{LeftFirst, RightFirst, RightStored}
-use Rattle.model.specs.Instruction.{operationCode, Instruction, plain, operation, ldc, mint}
+use Rattle.model.specs.Instruction.{operationCode, Instruction, plain, operation, ldc, mint, alt, altwt, talt, taltwt}
 use Rattle.model.specs.Layout.{base, wordOf}
 use Rattle.model.specs.Code.{Fits, AllFit, nil-fits, cons-fits}
 use Rattle.model.specs.Scheme.{operatorCode, initialise, sidesCode, wrapped, altWords, wholeSize, howMany, size, sizeAll, sizePar}
 use Rattle.model.specs.Scheme.{sizeEnds, sizePairs, sizeEnable, inputSize, enableCode, disableCode, guardInput, sizeDisable}
 use Rattle.model.specs.Scheme.{sizeBranches, exprCode, wholeCode, guardCode, code, codeAll, codePar, codeStarts, codeEnds, codePairs}
-use Rattle.model.specs.Scheme.{codeEnable, codeDisable, codeBranches, scheme}
+use Rattle.model.specs.Scheme.{bothCode, codeEnable, codeDisable, codeBranches, scheme}
+use Rattle.model.proofs.Cases.{of-cond}
 use Rattle.model.proofs.Tables.WellFormed.{WellExpr, Well, WellAll, WellPairs, WellGuard, WellGuards, WellProgram, outermost}
 use Rattle.model.proofs.Coding.Sizes.{code-length}
 
@@ -98,6 +100,16 @@ module _ (word : Site → ℕ) (count : ℕ) where
       let held : temporaries e ≤ wordLimit = omega (arith, held-few (temporaries e)) in
       wrapped-fits count (temporaries e) altWords w (λ v. exprCode word v 0 e) held (omega arith) (λ v. expr-fits sc v 0 e f (omega arith))
 
+  both-fits : (sc : Scope) (w : ℕ) (t e : Expr) → WellExpr sc t → WellExpr sc e → guardWords (bothHold t e) ≤ wordLimit
+      → AllFit count (bothCode word w t e)
+  both-fits sc w t e ft fe few =
+      let held : bothHold t e ≤ wordLimit = omega (arith, held-few (bothHold t e)) in
+      wrapped-fits count (bothHold t e) altWords w (λ v. sidesCode (order t e) 0 (λ k. exprCode word v k t) (exprCode word v 0 e)) held
+      (omega arith)
+      (λ v.
+      sides-fit count (order t e) 0 (temporaries t) (temporaries e) (λ k. exprCode word v k t) (exprCode word v 0 e) (omega arith)
+      (λ k. expr-fits sc v k t ft) (expr-fits sc v 0 e fe))
+
   starts-fit : (d i b : ℕ) (ss : Stmts) → i + 3 * howMany ss ≤ count → b + sizeEnds ss ≤ count → AllFit count (codeStarts word d i b ss)
   unfolding codeStarts howMany sizeEnds operationCode
   starts-fit d i b noStmt hi hb = nil-fits
@@ -105,23 +117,26 @@ module _ (word : Site → ℕ) (count : ℕ) where
       omega arith ▸ omega arith ▸ omega arith ▸ starts-fit (d + need s) (i + 3) (b + size s + 2) ss (omega arith) (omega arith)
 
   -- a guard's enabling, its disabling, and its branch's input
-  enable-one : (sc : Scope) (w : ℕ) (g : Guard) → WellGuard sc g → guardWords (temporaries (condition g)) ≤ wordLimit
-      → AllFit count (enableCode word w g)
-  unfolding enableCode operationCode
+  enable-one : (sc : Scope) (w : ℕ) (g : Guard) → WellGuard sc g → guardAsks g ≤ wordLimit → AllFit count (enableCode word w g)
+  unfolding enableCode operationCode guardAsks
   enable-one sc w (inputGuard e c x) h few = guard-fits sc w e (h .0) few ⊕ omega arith ▸ omega arith ▸ omega arith ▸ nil-fits
   enable-one sc w (skipGuard e) h few = guard-fits sc w e h few ⊕ omega arith ▸ nil-fits
+  enable-one sc w (timeGuard e t) h few = both-fits sc w t e (h .1) (h .0) (omega arith) ⊕ omega arith ▸ nil-fits
 
-  disable-one : (sc : Scope) (w choice b : ℕ) (g : Guard) → WellGuard sc g → guardWords (temporaries (condition g)) ≤ wordLimit
+  disable-one : (sc : Scope) (w choice b : ℕ) (g : Guard) → WellGuard sc g → guardAsks g ≤ wordLimit
       → choice < count → b ≤ count → AllFit count (disableCode word w choice b g)
-  unfolding disableCode operationCode
+  unfolding disableCode operationCode guardAsks
   disable-one sc w choice b (inputGuard e c x) h few hc hb =
       guard-fits sc w e (h .0) few ⊕ omega arith ▸ omega arith ▸ omega arith ▸ omega arith ▸ nil-fits
   disable-one sc w choice b (skipGuard e) h few hc hb = guard-fits sc w e h few ⊕ omega arith ▸ omega arith ▸ nil-fits
+  disable-one sc w choice b (timeGuard e t) h few hc hb =
+      both-fits sc w t e (h .1) (h .0) (omega arith) ⊕ omega arith ▸ omega arith ▸ nil-fits
 
   input-fits : (w : ℕ) (g : Guard) → AllFit count (guardInput word w g)
   unfolding guardInput operationCode
   input-fits w (inputGuard e c x) = omega arith ▸ omega arith ▸ omega arith ▸ omega arith ▸ nil-fits
   input-fits w (skipGuard e) = nil-fits
+  input-fits w (timeGuard e t) = nil-fits
 
   enable-fits : (sc : Scope) (w : ℕ) (gs : Guards) → WellGuards sc gs → guardNeed gs ≤ wordLimit → AllFit count (codeEnable word w gs)
   unfolding codeEnable guardNeed
@@ -167,8 +182,11 @@ module _ (word : Site → ℕ) (count : ℕ) where
         ⊕ omega arith ▸ nil-fits
     code-fits sc w i (ALT gs) h hn hi =
         let choice = i + 2 + sizeEnable gs + 1 + sizeDisable gs in
-        omega arith ▸ omega arith ▸ enable-fits sc (w - 1) gs h (omega arith)
-        ⊕ omega arith ▸ disable-fits sc (w - 1) choice (choice + 1) gs h (omega arith) (omega arith) (omega arith)
+        omega arith
+        ▸ of-cond (λ o. Fits count (operation o)) (timed gs) {x = talt} {y = alt} (omega arith) (omega arith)
+        ▸ enable-fits sc (w - 1) gs h (omega arith)
+        ⊕ of-cond (λ o. Fits count (operation o)) (timed gs) {x = taltwt} {y = altwt} (omega arith) (omega arith)
+        ▸ disable-fits sc (w - 1) choice (choice + 1) gs h (omega arith) (omega arith) (omega arith)
         ⊕ omega arith ▸ branches-fit sc w (choice + 1) (choice + 1 + sizeBranches gs) gs h (omega arith) (omega arith) (omega arith)
 
     all-fit : (sc : Scope) (w i : ℕ) (ss : Stmts) → WellAll sc ss → mostNeed ss ≤ wordLimit → i + sizeAll ss ≤ count

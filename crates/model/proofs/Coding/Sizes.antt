@@ -6,11 +6,11 @@ use mathlib.Core.List.{List}
 use lib.ListN.{length, length-append}
 use Rattle.model.specs.Syntax.{Site, Expr, constant, variable, NOT, binary, Stmt, SKIP, STOP, assign, input, output, VAR, CHAN, SEQ}
 use Rattle.model.specs.Syntax.{PAR, IF, WHILE, ALT, Stmts, noStmt, stmt, Pairs, noPair, pair, Guard, inputGuard, skipGuard, Guards}
-use Rattle.model.specs.Syntax.{noGuard, guard, TIME, WAIT}
+use Rattle.model.specs.Syntax.{timeGuard, noGuard, guard, TIME, WAIT}
 use Rattle.model.specs.declared.kinds.Operator.{Operator}
 use Rattle.model.specs.declared.kinds.Operator.the-variants.{Plus as PLUS, Minus as MINUS, Times as TIMES, Gt as GT, Eq as EQ}
 use Rattle.model.specs.declared.kinds.Operator.the-variants.{And as AND, Or as OR, Xor as XOR}
-use Rattle.model.specs.Counts.{order, temporaries, need}
+use Rattle.model.specs.Counts.{order, temporaries, need, bothHold}
 use Rattle.model.specs.declared.kinds.Order.{Order}
 use Rattle.model.specs.declared.kinds.Order.the-variants.{LeftFirst, RightFirst, RightStored}
 use Rattle.model.specs.Instruction.{Instruction}
@@ -18,6 +18,7 @@ use Rattle.model.specs.Scheme.{operatorCode, operatorSize, initialise, s
 use Rattle.model.specs.Scheme.{altWords, howMany, size, sizeAll, sizePar, sizeEnds, sizePairs, sizeEnable, sizeDisable, sizeBranches}
 use Rattle.model.specs.Scheme.{exprCode, wholeCode, guardCode, code, codeAll, codePar, codeStarts, codeEnds, codePairs, codeEnable}
 use Rattle.model.specs.Scheme.{codeDisable, codeBranches, enableSize, disableSize, inputSize, enableCode, disableCode, guardInput}
+use Rattle.model.specs.Scheme.{bothSize, bothCode}
 
 pub operator-length : (op : Operator) → length (operatorCode op) ≡ operatorSize op
 unfolding operatorCode operatorSize
@@ -70,6 +71,14 @@ module _ (word : Site → ℕ) where
   unfolding wholeSize
   guard-length w e = wrapped-length (temporaries e) altWords w (λ v. exprCode word v 0 e) (λ v. expr-length v 0 e)
 
+  -- a time guard's time and condition
+  pub both-length : (w : ℕ) (t e : Expr) → length (bothCode word w t e) ≡ bothSize t e
+  unfolding bothSize
+  both-length w t e =
+      wrapped-length (bothHold t e) altWords w (λ v. sidesCode (order t e) 0 (λ k. exprCode word v k t) (exprCode word v 0 e))
+      (λ v.
+      sides-length (order t e) 0 (λ k. exprCode word v k t) (exprCode word v 0 e) (λ k. expr-length v k t) (expr-length v 0 e))
+
   pub starts-length : (d i b : ℕ) (ss : Stmts) → length (codeStarts word d i b ss) ≡ 3 * howMany ss
   unfolding codeStarts howMany
   starts-length d i b noStmt = refl
@@ -79,16 +88,19 @@ module _ (word : Site → ℕ) where
   unfolding enableCode enableSize
   enable-one w (inputGuard e c x) = simp (length-append, guard-length w e)
   enable-one w (skipGuard e) = simp (length-append, guard-length w e)
+  enable-one w (timeGuard e t) = simp (length-append, both-length w t e)
 
   disable-one : (w choice b : ℕ) (g : Guard) → length (disableCode word w choice b g) ≡ disableSize g
   unfolding disableCode disableSize
   disable-one w choice b (inputGuard e c x) = simp (length-append, guard-length w e)
   disable-one w choice b (skipGuard e) = simp (length-append, guard-length w e)
+  disable-one w choice b (timeGuard e t) = simp (length-append, both-length w t e)
 
   pub input-length : (w : ℕ) (g : Guard) → length (guardInput word w g) ≡ inputSize g
   unfolding guardInput inputSize
   input-length w (inputGuard e c x) = refl
   input-length w (skipGuard e) = refl
+  input-length w (timeGuard e t) = refl
 
   pub enable-length : (w : ℕ) (gs : Guards) → length (codeEnable word w gs) ≡ sizeEnable gs
   unfolding codeEnable sizeEnable

@@ -1,5 +1,5 @@
 -- What the invariant says at a moment: what is found in the machine is what the run leaves.
-use Prim.Native.Nat.{ℕ, zero, suc, _<_}
+use Prim.Native.Nat.{ℕ, zero, suc, _<_, _+_, _^_, _≤_}
 use native.Mathlib.Omega.{arith}
 use mathlib.Core.Path.{_≡_, refl, sym, ap, _∙_, subst}
 use mathlib.Core.Bool.{true, false}
@@ -7,9 +7,9 @@ use mathlib.Core.List.{List, [], _∷_, _++_, append-nil, List·Memᴰ}
 use mathlib.Core.Option.{some}
 use lib.ListN.{length, getD, List·getD-append}
 use borrow.Author.Tests.{eqb-true}
-use Rattle.model.specs.Syntax.{Site, Stmt, Stmts, Guards}
+use Rattle.model.specs.Syntax.{Site, Stmt, Stmts, Guards, noGuard}
 use Rattle.model.specs.Layout.{wordOf}
-use Rattle.model.specs.Machine.{World}
+use Rattle.model.specs.Machine.{World, timeWord}
 use Rattle.model.specs.Run.{ended, waits}
 use Rattle.model.specs.Occam.{Frame, Process, before, atInput, atAlt, inPar, finished, Branches, framesOf, look, State, Communication}
 use Rattle.model.specs.Occam.{Sender, process, outside, Step, begins, ends, chooses, communicates, receives, Stuck, toRead, hasRead}
@@ -24,7 +24,7 @@ use Rattle.model.proofs.Quiet.Ways.{Mem}
 use Rattle.model.proofs.Quiet.Setting.{Setting}
 use Rattle.model.proofs.Quiet.CodeParts.{inside}
 use Rattle.model.proofs.Occam.Paths.{Leaf, l-before, l-input, l-alt, l-finished, leaf-par, Form, leaf, par, form, look-in, look-nil}
-use Rattle.model.proofs.Occam.Paths.{look-append, l-to-read, l-has-read, l-wait}
+use Rattle.model.proofs.Occam.Paths.{look-append, l-to-read, l-has-read, l-wait, isAlt}
 use Rattle.model.proofs.Words.Parts.{Part, the-end, joins}
 use Rattle.model.proofs.Quiet.Marks.{AnyReady}
 use Rattle.model.proofs.Quiet.Arrivals.{cont-live}
@@ -33,13 +33,17 @@ use Rattle.model.proofs.Invariant.Trees.{f-none, f-live, f-over, labelA
 use Rattle.model.proofs.Invariant.Zones.{zoneOf}
 use Rattle.model.proofs.Invariant.Leaves.{member, Held, h-input, h-wait, h-asleep}
 use Rattle.model.proofs.Effects.OneWord.{cpuOf}
-use Rattle.model.proofs.Invariant.Kernel.{Loaded, S, root, size, LeafAt, NodeAt, Rest, Real, node}
+use Rattle.model.proofs.Invariant.Kernel.{Loaded, S, root, size, LeafAt, NodeAt, Rest, Real, node, Dozer, at-wait, in-alt}
 use Rattle.model.proofs.Invariant.Grounds.{var-in}
 use Rattle.model.proofs.Invariant.Running.{Nobody, Here, within, at-end, off-small, Now, now-goes, now-alt, Inv, runs, starts, idle}
 use Rattle.model.proofs.Quiet.PathEnds.{way-end, point-in, alt-end, start-in}
 use Rattle.model.proofs.Steps.Forks.{look-self}
 use Rattle.model.proofs.Demand.Stuckness.{Active, stuck-unable, active-able, choice-ready, settled-active, comes-active}
-use Rattle.model.proofs.Demand.Stuckness.{alt-goes-active}
+use Rattle.model.proofs.Demand.Stuckness.{alt-goes-active, timely-timed}
+use Rattle.model.proofs.Quiet.Timing.{Timely, Dozing, no-time, until, Guarding, Linked, each-all}
+use Rattle.model.proofs.Quiet.Onwards.{ready-so, timed-fine}
+use Rattle.model.proofs.Words.Times.{least-ahead}
+use mathlib.Core.Logic.{⊎-elim}
 
 -- a part that ends as a branch
 data Joined (b : Part) : Type 0 where
@@ -144,38 +148,66 @@ module _ (L : Loaded) where
   inv-ended {s} (idle real run operand rest) e = never (cc (run, and-left (cpuOf s .running) _ e))
 
   -- where no process has the processor and none is queued, none can go on
-  module _ (ahead : (w t c : ℕ) → L .sleeps w t c → after c t ≡ false) {st : State} {μ : Mem} {t : Tree (S L) (root L) (st .process)}
-      (rest : Rest L st μ t Nobody []) where
+  module _ (ahead : (w t c : ℕ) → L .sleeps w t c → after c t ≡ false) (sure : L .times .sure) {st : State} {μ : Mem}
+      {t : Tree (S L) (root L) (st .process)} (clock-word : now st < 2 ^ 32) (rest : Rest L st μ t Nobody []) where
     -- a process that waits
     data Waiting : Process → Type 0 where
-      waiting : {q : Process} {b : Part} {i : Info} → Held (S L) (L .sleeps) b i st μ false q → Waiting q
+      waiting : {path : List ℕ} {q : Process} {b : Part} {i : Info} → LeafAt L st t path q b i → Held (S L) (L .times) b i st μ false q
+          → Waiting q
 
     all-wait : (path : List ℕ) {q : Process} → look path (st .process) ≡ some q → Leaf q → Waiting q
     unfolding member
     all-wait path e l = elim (label-alone (S L) t path e l) [
-      | labelled b i z ↦ waiting (rest .leaf (record { found = e; leaf = l; label = z }) (λ h. h))
+      | labelled b i z ↦
+          let at : LeafAt L st t path _ b i = record { found = e; leaf = l; label = z } in waiting at (rest .leaf at (λ h. h))
     ]
 
     not-before : {p : Stmt} {k : List Frame} → Waiting (before p k) → ⊥
-    not-before (waiting h) = elim h [ ]
+    not-before (waiting l h) = elim h [ ]
 
     not-finished : Waiting finished → ⊥
-    not-finished (waiting h) = elim h [ ]
+    not-finished (waiting l h) = elim h [ ]
 
     not-at-time : {x : Site} {k : List Frame} → Waiting (toRead x k) → ⊥
-    not-at-time (waiting h) = elim h [ ]
+    not-at-time (waiting l h) = elim h [ ]
 
     not-stored : {x : Site} {v : ℕ} {k : List Frame} → Waiting (hasRead x v k) → ⊥
-    not-stored (waiting h) = elim h [ ]
+    not-stored (waiting l h) = elim h [ ]
+
+    -- the time of one in the timer queue is still to come
+    not-yet : {path : List ℕ} {q : Process} {b : Part} {i : Info} → LeafAt L st t path q b i → b .bottom + 5 ≤ i .w → Dozer L Nobody path q
+        → (isAlt q ≡ true → Linked μ (i .w)) → after (now st) (μ (timeWord (i .w))) ≡ false
+    not-yet {i = i} l room d linked =
+        ahead (i .w) (μ (timeWord (i .w))) (now st) (rest .sleepers .known (i .w) (rest .sleepers .all l room d linked) .1)
+
+    -- an ALT that waits has no guard whose time is past
+    untimed : {path : List ℕ} {gs : Guards} {k : List Frame} {b : Part} {i : Info} → LeafAt L st t path (atAlt gs k) b i
+        → b .bottom + 5 ≤ i .w → Guarding (L .times) st gs noGuard (i .w) → (u : ℕ) → Timely (st .store) u gs
+        → Dozing (L .times) st gs μ (i .w) → after (now st) u ≡ true → ⊥
+    untimed l room known u m (no-time z each) past = each-all (st .store) each u m
+    untimed {i = i} l room known u m (until linked least) past =
+        let (small, knows) = each-all (st .store) known u m in
+        never (cc (
+          past,
+          least-ahead clock-word (least .small) small (L .guarded-near sure (i .w) (least .tm) (now st) (least .knows))
+              (L .guarded-near sure (i .w) u (now st) knows) (each-all (st .store) (least .least) u m sure)
+              (ap (after (now st)) (sym (least .is)) ∙ not-yet l room (in-alt (timely-timed m)) (λ e. linked)),
+        ))
 
     unready : {gs : Guards} {k : List Frame} → Waiting (atAlt gs k) → AnyReady st gs → ⊥
-    unready (waiting (h-wait c r e n m no-guard marks)) = no-guard
+    unready {gs} (waiting {b = b} {i} l (h-wait c r e n m absent marks dozes known)) h =
+        ⊎-elim absent
+        (λ (u, m, past).
+        let has-time = timely-timed m in
+        let room = timed-fine (S L .word) b (i .vars) (i .chans) (i .w + 1) gs (c .fine .1) has-time in
+        untimed l (omega (arith, room)) known u m (dozes has-time) past) (ready-so h)
 
     unsent : {c x : Site} {k : List Frame} → Waiting (atInput c x k) → Sender st c → ⊥
-    unsent (waiting (h-input w y m nobody)) = nobody
+    unsent (waiting l (h-input w y m nobody)) = nobody
 
     unpast : {tm : ℕ} {k : List Frame} → Waiting (atWait tm k) → after (now st) tm ≡ true → ⊥
-    unpast {tm} (waiting {i = i} (h-asleep a s)) past = never (cc (past, ahead (i .w) tm (now st) s))
+    unpast (waiting l (h-asleep a)) past =
+        never (cc (past, ap (after (now st)) (sym (a .time-is)) ∙ not-yet l (a .space) (at-wait (λ o. o)) (λ e. never (cc))))
 
     no-step : (cs : List Communication) (st′ : State) → Step st cs st′ → ⊥
     no-step cs st′ (begins path e) = not-before (all-wait path e l-before)
@@ -194,30 +226,33 @@ module _ (L : Loaded) where
         record { still = no-step; unfinished = λ e. not-finished (all-wait [] (look-nil (st .process) ∙ ap some e) l-finished) }
 
   -- the machine waits exactly where Occam cannot go on and has not ended
-  pub inv-waits : {s : World} {st : State} {n : ℕ} → ((w t c : ℕ) → L .sleeps w t c → after c t ≡ false) → Inv L s st n
+  pub inv-waits : {s : World} {st : State} {n : ℕ} → ((w t c : ℕ) → L .sleeps w t c → after c t ≡ false) → L .times .sure → Inv L s st n
       → waits (s .machine) ≡ true → Stuck st
-  inv-waits ahead (runs real run at rest lined now) z = never (cc (run, z))
-  inv-waits ahead (starts B real run at rest lined now) z = never (cc (run, z))
-  inv-waits ahead (idle real run operand rest) z = idle-stuck ahead rest
+  inv-waits ahead sure (runs real run at rest lined now) z = never (cc (run, z))
+  inv-waits ahead sure (starts B real run at rest lined now) z = never (cc (run, z))
+  inv-waits ahead sure (idle real run operand rest) z =
+      idle-stuck ahead sure (omega (arith, real .timed .clock-read, real .timed .clock-word)) rest
 
-  now-active : {s : World} {st : State} {μ : Mem} {b : Part} {i : Info} {q : Process} → Now L s st μ b i q → Active st q
-  now-active {q = q} (now-goes h way settled clean soon) = settled-active q settled
-  now-active {b = b} (now-alt h way soon) = alt-goes-active (S L) b way
+  now-active : {s : World} {st : State} {μ : Mem} {b : Part} {i : Info} {q : Process} → L .times .sure → Now L s st μ b i q → Active st q
+  now-active {q = q} sure (now-goes h way settled clean soon) = settled-active q settled
+  now-active {b = b} sure (now-alt h way soon) = alt-goes-active (S L) b sure way
 
-  pub inv-stuck : {s : World} {st : State} {n : ℕ} → Inv L s st n → Stuck st → waits (s .machine) ≡ true
-  inv-stuck (runs {path} real run at rest lined now) h = absurd (stuck-unable h (active-able path (at .found) (now-active now)))
-  inv-stuck (starts {path} {b} B real run at rest lined now) h =
+  pub inv-stuck : {s : World} {st : State} {n : ℕ} → L .times .sure → Inv L s st n → Stuck st → waits (s .machine) ≡ true
+  inv-stuck sure (runs {path} real run at rest lined now) h =
+      absurd (stuck-unable h (active-able path (at .found) (now-active sure now)))
+  inv-stuck sure (starts {path} {b} B real run at rest lined now) h =
       absurd (stuck-unable h (active-able path (at .found) (comes-active (S L) b (now .own))))
-  inv-stuck (idle real run operand rest) h = rw run
+  inv-stuck sure (idle real run operand rest) h = rw run
 
   -- what is found in the machine is what the run leaves
   pub inv-agrees : {s : World} {st : State} {n : ℕ} (rest : List ℕ) (now : Moment) → now .machine ≡ s .machine
-      → now .memory ≡ s .memory ++ rest → ((w t c : ℕ) → L .sleeps w t c → after c t ≡ false) → Inv L s st n → Agrees (L .prog) now st
-  inv-agrees rest now em er ahead inv =
+      → now .memory ≡ s .memory ++ rest → ((w t c : ℕ) → L .sleeps w t c → after c t ≡ false) → L .times .sure → Inv L s st n
+      → Agrees (L .prog) now st
+  inv-agrees rest now em er ahead sure inv =
       record {
         variables = λ x l. inv-variables inv rest x l ∙ ap (λ m. getD m (wordOf (L .prog) x) 0) (sym er);
         no-fault = rw em (inv-no-fault inv);
         ends = λ z. inv-ended inv (rw em at z);
-        waits-stuck = λ z. inv-waits ahead inv (rw em at z);
-        stuck-waits = λ z. rw em (inv-stuck inv z);
+        waits-stuck = λ z. inv-waits ahead sure inv (rw em at z);
+        stuck-waits = λ z. rw em (inv-stuck sure inv z);
       }

@@ -28,7 +28,7 @@ use Rattle.model.specs.declared.TakeAnswer.the-variants.{Taken, Nothing,
 use Rattle.model.proofs.Cases.{by-bool, by-true, never, or-left, or-right, and-left}
 use Rattle.model.proofs.Occam.Live.{most}
 use Rattle.model.proofs.Invariant.Kernel.{Loaded, setup, size}
-use Rattle.model.proofs.Invariant.Traces.{Trace, t-none, t-event, trace-reach, trace-most}
+use Rattle.model.proofs.Invariant.Traces.{Trace, t-none, t-event, trace-reach, trace-most, trace-given, trace-clock}
 use Rattle.model.proofs.Invariant.Running.{Inv}
 use Rattle.model.proofs.Invariant.Finish.{inv-setup, inv-timed}
 use Rattle.model.proofs.Steps.OneByte.{code-is}
@@ -66,13 +66,14 @@ take-past (x ∷ a) b (suc n) h =
 module _ (L : Loaded) where
   -- a machine and memory that a run of Occam is simulated in, and the times that are watched
   pub data Sim (xs : List Watch) (m : Machine) (memory : List ℕ) : Type 0 where
-    sim : (st : State) (n : ℕ) → Inv (on L xs) (worldOf m memory) st n → most (st .process) ≤ limit → Sim xs m memory
+    sim : (st : State) (n : ℕ) → Inv (on L xs) (worldOf m memory) st n → most (st .process) ≤ limit → (st .clock ≡ none → xs ≡ [])
+        → Sim xs m memory
 
   abbrev pub stateOf : {xs : List Watch} {m : Machine} {memory : List ℕ} → Sim xs m memory → State
-  stateOf (sim st n inv few) = st
+  stateOf (sim st n inv few fresh) = st
 
   abbrev pub leftOf : {xs : List Watch} {m : Machine} {memory : List ℕ} → Sim xs m memory → ℕ
-  leftOf (sim st n inv few) = n
+  leftOf (sim st n inv few fresh) = n
 
   -- a moment at which nothing has happened
   same-moment : {xs : List Watch} {m : Machine} {memory : List ℕ} {st : State} {n : ℕ} (memory′ : List ℕ) → memory′ ≡ memory
@@ -108,7 +109,7 @@ module _ (L : Loaded) where
         → Heard xs said rest st n r
 
   module _ {xs : List Watch} {m : Machine} {memory : List ℕ} {st : State} {n : ℕ} (inv : Inv (on L xs) (worldOf m memory) st n)
-      (few : most (st .process) ≤ limit) where
+      (few : most (st .process) ≤ limit) (fresh : st .clock ≡ none → xs ≡ []) where
     ok : m .fault ≡ NoFault
     ok = inv-no-fault (on L xs) inv
 
@@ -129,7 +130,7 @@ module _ (L : Loaded) where
         let kept : Inv (on L xs) (worldOf m (part ++ rest)) st n = subst (λ y. Inv (on L xs) (worldOf m y) st n) (sym e) inv in
         let same : n ≤ n = omega arith in
         subst (λ y. Heard xs said rest st n y) (sym z)
-        (heard ([] ∷ []) (sim st n (inv-narrow L kept) few)
+        (heard ([] ∷ []) (sim st n (inv-narrow L kept) few (λ z. ap (unpassed (m .timer .clock)) (fresh z)))
         (chain-other (follows L {s = worldOf m (part ++ rest)} [] _ refl (sym (append-nil (part ++ rest))) refl q t-none kept) refl refl
         same
         chain-nil))
@@ -148,7 +149,7 @@ module _ (L : Loaded) where
         (λ i h. List·getD-append (u .memory) rest 0 i (omega (arith, inv-room (on L xs) inv′))) inv′ in
         let few′ : most (st′ .process) ≤ limit = omega (arith, trace-most ms) in
         subst (λ y. Heard xs said rest st n y) (sym z)
-        (heard (g ∷ []) (sim st′ k (inv-narrow L over-all) few′)
+        (heard (g ∷ []) (sim st′ k (inv-narrow L over-all) few′ (λ z. ap (unpassed (u .machine .timer .clock)) (fresh (trace-given ms z))))
         (chain-other (follows L {s = u} rest _ refl refl talk q ms inv′) (trace-reach ms) refl le chain-nil))
 
     -- an offer
@@ -233,9 +234,9 @@ module _ (L : Loaded) where
 
     run-ends : {st′ : State} {k : ℕ} {dur : List Moment} {gs : List Segment} (rest : List ℕ) (t : World)
         → Chain (L .prog) (bound L) dur st gs st′ n k → Inv (on L (watchesAfter xs dur)) t st′ k → most (st′ .process) ≤ limit
-        → RunEnd rest dur (t .machine) (t .memory)
+        → (st′ .clock ≡ none → ⊥) → RunEnd rest dur (t .machine) (t .memory)
     unfolding watchesAfter
-    run-ends {st′} {k} {dur} {gs} rest t c inv′ few′ =
+    run-ends {st′} {k} {dur} {gs} rest t c inv′ few′ given =
         let ys = on L (watchesAfter xs dur) in
         let fits : size L ≤ length (t .memory ++ rest) = omega (arith, inv-room ys inv′, length-append (t .memory) rest) in
         let all = t .memory ++ rest in
@@ -243,7 +244,8 @@ module _ (L : Loaded) where
         inv-lent ys {s = t} all [] fits (λ a h. List·getD-append (t .memory) rest 0 a (omega (arith, inv-room ys inv′))) inv′ in
         let last = quietly (t .machine) all ∷ [] in
         run-end (gs ++ ([] ∷ []))
-        (sim st′ k (subst (λ l. Inv (on L l) (worldOf (t .machine) all) st′ k) (sym (after-append xs dur last)) (inv-narrow L over)) few′)
+        (sim st′ k (subst (λ l. Inv (on L l) (worldOf (t .machine) all) st′ k) (sym (after-append xs dur last)) (inv-narrow L over)) few′
+        (λ z. absurd (given z)))
         (chain-append c (same-moment all refl over))
 
     module _ (part rest : List ℕ) (e : part ++ rest ≡ memory) (budget c : ℕ) (word : c < 2 ^ 32) where
@@ -256,7 +258,8 @@ module _ (L : Loaded) where
           let kept : Inv (on L xs) (worldOf m (part ++ rest)) st n = subst (λ y. Inv (on L xs) (worldOf m y) st n) (sym e) inv in
           let on-kept = inv-narrow L kept in
           rw (during-refused m code part rest c z budget, a, b)
-          (run-end (([] ∷ []) ++ ([] ∷ [])) (sim st n (inv-narrow L on-kept) few)
+          (run-end (([] ∷ []) ++ ([] ∷ [])) (sim st n (inv-narrow L on-kept) few
+          (λ z. ap (λ l. unpassed (m .timer .clock) (unpassed (m .timer .clock) l)) (fresh z)))
           (chain-append (same-moment (part ++ rest) refl kept) (same-moment (part ++ rest) refl on-kept)))
 
       -- the clock moves
@@ -284,7 +287,7 @@ module _ (L : Loaded) where
 
         begun-so : Begun (on L (unpassed c xs)) c (worldOf m part) st n
         begun-so =
-            begins-on L c word (later-clock z) (lent-part part rest e b)
+            begins-on L c word (later-clock z) fresh (lent-part part rest e b)
             (λ u d. keeps-near xs (opening m code part rest c u) (bytes budget code rest (worldOf (u .machine) (u .memory))) (kept-on u d))
 
         run-whole : Begun (on L (unpassed c xs)) c (worldOf m part) st n
@@ -302,10 +305,11 @@ module _ (L : Loaded) where
             chain-other (follows L {xs = ys} {s = u} rest now refl refl talk refl ms inv-ys) (trace-reach ms) refl le chain-nil in
             elim (run-bytes L more rest ys budget 0 t st′ k refl (inv-lent (on L ys) (u .memory) [] fits (λ a h. refl) inv-ys) few′
             (keeps-behind xs (now ∷ []) (bytes budget code rest t) (kept-on u d))) [
-              | ran v ch em er inv″ few″ ↦
+              | ran v ch em er inv″ few″ given ↦
                   let (am, ar) = run-afresh code budget 0 u in
                   rw (during-goes m code part rest c (goes u d) budget, run-goes (goes u d) budget, am ∙ em, ar ∙ er)
-                  (run-ends {dur = now ∷ bytes budget code rest t} rest v (chain-append first ch) inv″ few″)
+                  (run-ends {dur = now ∷ bytes budget code rest t} rest v (chain-append first ch) inv″ few″
+                  (λ z. never (cc (given z, trace-clock ms))))
             ]
 
       -- a run that is lent a part of the code with anything behind it
@@ -361,9 +365,10 @@ module _ (L : Loaded) where
 
   call-sim : {xs : List Watch} (c : Call) (m : Machine) (memory : List ℕ) (s : Sim xs m memory)
       → keeps xs (call (L .code) c m memory .moments) ≡ true → Simulated xs c m memory (stateOf s) (leftOf s)
-  call-sim (callRun behind codeLent lent budget c) m memory (sim st n inv few) kept = call-run inv few behind codeLent lent budget c kept
-  call-sim (callOffer lent k v) m memory (sim st n inv few) kept = call-offer inv few lent k v
-  call-sim (callTake lent k) m memory (sim st n inv few) kept = call-take inv few lent k
+  call-sim (callRun behind codeLent lent budget c) m memory
+      (sim st n inv few fresh) kept = call-run inv few fresh behind codeLent lent budget c kept
+  call-sim (callOffer lent k v) m memory (sim st n inv few fresh) kept = call-offer inv few fresh lent k v
+  call-sim (callTake lent k) m memory (sim st n inv few fresh) kept = call-take inv few fresh lent k
 
   -- the run of a list of calls
   abbrev segmentsOf : {xs : List Watch} {c : Call} {m : Machine} {memory : List ℕ} {st : State} {n : ℕ} → Simulated xs c m memory st n

@@ -39,7 +39,7 @@ use Rattle.model.proofs.Invariant.Traces.{trace-reach, trace-most}
 use Rattle.model.proofs.Invariant.Scheduling.{Settles, settles}
 use Rattle.model.proofs.Demand.Chains.{chain-matches, chain-other, chain-progress}
 use Rattle.model.proofs.Demand.Lending.{inv-few}
-use Rattle.model.proofs.Demand.Watches.{watchesAfter, keeps-behind, on}
+use Rattle.model.proofs.Demand.Watches.{watchesAfter, keeps-behind, on, noTimes}
 use Rattle.model.proofs.Demand.Histories.{follows}
 use Rattle.model.proofs.Demand.Calls.{Sim, sim, run-from, run-grows, linked, run-matches}
 use Rattle.model.proofs.Demand.Starting.{first, begun, settled}
@@ -120,7 +120,7 @@ loaded-faithful L memory room = by (settled L₀ memory room)
     by : {n l k : ℕ} → Settles L₀ (first L₀ memory room) (begun L₀ memory room) n l k → Faithful (L .prog) (L .code) m words
     by (settles {st′} {l} g ms inv e) =
         let few : most (st′ .process) ≤ limit = omega (arith, trace-most ms, initial-most (L .prog), L .few) in
-        let s : Sim L [] m words = sim st′ l inv few in
+        let s : Sim L [] m words = sim st′ l inv few (λ z. refl) in
         let front = follows L {xs = []} {s = worldOf m words} [] (quietly m words) refl (sym (append-nil words)) refl refl ms inv in
         let same : l ≤ l = omega arith in
         record {
@@ -156,8 +156,9 @@ realised-faithful table p accepted small code short off realises slice memory s 
           rises = realised-rises code (scheme p) off realises;
           slice = slice;
           sleeps = λ w t c. Unit {0};
-          ordered = ⊥;
+          times = noTimes;
           sleeps-near = λ o. absurd o;
+          guarded-near = λ o. absurd o;
           fine = accepted-fine table p accepted;
           code-small = short;
           words-small = small;

@@ -17,6 +17,7 @@ use Rattle.model.proofs.Cases.{by-bool}
 use Rattle.model.proofs.Quiet.Ways.{Mem}
 use Rattle.model.proofs.Quiet.Setting.{whole}
 use Rattle.model.proofs.Occam.Live.{leaves, most, leaves-most}
+use Rattle.model.proofs.Quiet.Timing.{onto-same}
 use Rattle.model.proofs.Invariant.Trees.{Tree, bytesLeft, bytes-few}
 use Rattle.model.proofs.Effects.OneWord.{cpuOf}
 use Rattle.model.proofs.Effects.Queues.{Queue, empty, some, links-stable}
@@ -80,7 +81,7 @@ module _ (L : Loaded) where
     pub inv-lent : {st : State} {n : ℕ} → Inv L s st n → Inv L (over s l k) st n
     inv-lent (runs real run leaf rest lines now) =
         runs (real-lent (links-in L lines) real) run leaf rest lines
-        (now-stays L same-regs (part-high L leaf) (sits-at L leaf) (intact-refl L) now)
+        (now-stays L same-regs (part-high L leaf) (sits-at L leaf) (λ w. onto-same refl) (intact-refl L) now)
     inv-lent (starts B real run leaf rest lines now) =
         starts B (real-lent (links-in L lines) real) run leaf rest lines
         (starts-stays L same-regs leaf (λ path q b i k o. (k, intact-refl L)) now)

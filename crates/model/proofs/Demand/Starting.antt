@@ -14,13 +14,13 @@ use Rattle.model.specs.Layout.{base}
 use Rattle.model.specs.Scheme.{scheme}
 use Rattle.model.specs.Machine.{World, memorySize}
 use Rattle.model.specs.Run.{worldOf, fresh, cleared}
-use Rattle.model.specs.Occam.{Process, begin, framesOf, look, State, atWait, Frame}
+use Rattle.model.specs.Occam.{Process, begin, framesOf, look, State}
 use Rattle.model.specs.Demand.{liveIn}
 use Rattle.model.proofs.Cases.{never}
 use Rattle.model.proofs.Quiet.Ways.{Mem, upd, upd-same, upd-other, frontWord}
 use Rattle.model.proofs.Quiet.Stretches.{seg-whole}
 use Rattle.model.proofs.Quiet.Setting.{whole}
-use Rattle.model.proofs.Occam.Paths.{leaf-begin, look-nil, live-begin, left, awake-begin}
+use Rattle.model.proofs.Occam.Paths.{leaf-begin, look-nil, live-begin, left, isAlt, off-begin}
 use Rattle.model.proofs.Words.Parts.{need-two, Part}
 use Rattle.model.proofs.Quiet.Continuations.{Scoped, Cont, c-end, cont-placed}
 use Rattle.model.proofs.Words.FineParts.{outsideNames}
@@ -29,7 +29,7 @@ use Rattle.model.proofs.Invariant.Trees.{Label, alone, alone-parted, In
 use Rattle.model.proofs.Invariant.Zones.{zoneOf}
 use Rattle.model.proofs.Invariant.Leaves.{Unmarked}
 use Rattle.model.proofs.Effects.Queues.{empty, apart-none}
-use Rattle.model.proofs.Invariant.Kernel.{Loaded, S, root, setup, size, LeafAt, Rest, Real, no-offer, node}
+use Rattle.model.proofs.Invariant.Kernel.{Loaded, S, root, setup, size, LeafAt, Rest, Real, no-offer, node, Dozer, at-wait, in-alt}
 use Rattle.model.proofs.Invariant.Grounds.{OutsideAt, an-input, an-output, outside-at, small-size, sound-at, chan-in}
 use Rattle.model.proofs.Invariant.Running.{Only}
 use Rattle.model.proofs.Invariant.Scheduling.{Settles, settle}
@@ -160,10 +160,12 @@ module _ (L : Loaded) (memory : List ℕ) (room : size L ≤ length memory) wher
       ∙ ap (λ z. look z (begin (L .prog .body) [])) (sym (only-whole (h .label) .0)) ∙ h .found) in
       live-begin (L .prog .body) [] [] (λ x m. m) x (subst (λ z. List·Memᴰ x (liveIn (framesOf z))) (sym is) m)
 
-  no-sleeper : {other : List ℕ} {tm : ℕ} {k : List Frame} {b : Part} {i : Info} → LeafAt L begun tree other (atWait tm k) b i → ⊥
-  no-sleeper {tm = tm} {k} h =
-      awake-begin (L .prog .body) [] tm k (some-same (sym (look-nil (begin (L .prog .body) []))
-      ∙ ap (λ z. look z (begin (L .prog .body) [])) (sym (only-whole (h .label) .0)) ∙ h .found))
+  no-sleeper : {other : List ℕ} {q : Process} {b : Part} {i : Info} → LeafAt L begun tree other q b i → Dozer L (Only []) other q → ⊥
+  no-sleeper h (at-wait n) = n (sym (only-whole (h .label) .0))
+  no-sleeper h (in-alt x) =
+      let is = some-same (sym (look-nil (begin (L .prog .body) []))
+      ∙ ap (λ z. look z (begin (L .prog .body) [])) (sym (only-whole (h .label) .0)) ∙ h .found) in
+      never (cc (x, ap isAlt is, off-begin (L .prog .body) []))
 
   rest : Rest L begun μ tree (Only []) []
   rest =
@@ -179,7 +181,8 @@ module _ (L : Loaded) (memory : List ℕ) (room : size L ≤ length memory) wher
           sorted = λ o. tt;
           once = tt;
           each = λ w m. absurd (List·Memᴰ·not-nil m);
-          all = λ k o. absurd (no-sleeper k);
+          known = λ w m. absurd (List·Memᴰ·not-nil m);
+          all = λ k a d f. absurd (no-sleeper k d);
         };
       }
 

@@ -46,6 +46,23 @@ wakeOne-in c w q s u link time state e f joins =
       e,
     )
 
+-- one that was woken before, or is at work, does not
+pub wakeOne-awake : (c w q z : ℕ) (s : World) → timeLinkWord w < sizeOf s → timeWord w < sizeOf s → stateWord w < sizeOf s
+    → getD (s .memory) (timeLinkWord w) 0 ≡ q → getD (timedAt c w s .memory) (stateWord w) 0 ≡ z → z ≢ waiting
+    → wakeOne c (nameOf w) s ≡ done q (timedAt c w s)
+unfolding wakeOne
+wakeOne-awake c w q z s link time state e f off =
+    rw (
+      name-back w,
+      peek-in (timeLinkWord w) s link,
+      poke-in (timeLinkWord w) timeSet s link,
+      poke-in (timeWord w) c (stored (timeLinkWord w) timeSet s) time,
+      peek-in (stateWord w) (timedAt c w s) state,
+      f,
+      ne-eqb z waiting off,
+      e,
+    )
+
 module _ (n c front : ℕ) (seen : List ℕ) {p : ℕ} where
   -- the queue's end
   pub wakeFrom-ends : (s : World) → p ≡ notProcess → wakeFrom (suc n) c front seen p s ≡ done p s

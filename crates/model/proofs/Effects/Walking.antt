@@ -12,10 +12,10 @@ use borrow.Author.Tests.{ne-eqb, ltb-true, ltb-false, leb-true, leb-false}
 use Rattle.model.specs.Word.{after, notProcess}
 use Rattle.model.specs.Limits.{wordLimit}
 use Rattle.model.specs.Machine.{World, done, timeLinkWord, timeWord, nameOf, spaceOf}
-use Rattle.model.specs.Timer.{wasAt, Stop, along, isLater}
+use Rattle.model.specs.Timer.{wasAt, Stop, along, isLater, timeSet, timeNotSet}
 use Rattle.model.proofs.Cases.{by-bool, never}
 use Rattle.model.proofs.Words.Times.{distance, Near, later-after, earlier-not}
-use Rattle.model.proofs.Quiet.Names.{name-back, name-injective, name-given}
+use Rattle.model.proofs.Quiet.Names.{name-back, name-injective, name-given, name-unset}
 use Rattle.model.proofs.Quiet.Ways.{Mem, frontWord, upd, upd-same, upd-other}
 use Rattle.model.proofs.Effects.OneWord.{sizeOf, peek-in}
 use Rattle.model.proofs.Effects.Timers.{Chain, ends, next, Sorted, Once, chain-stable, sorted-stable}
@@ -45,6 +45,15 @@ stop-link μ t b (w ∷ ts) P p h =
     (λ e.
     rw e (stop-link μ t (some (nameOf w)) ts P (subst P (ap timeLinkWord (sym (name-back w))) (h w (List·Memᴰ·head refl)))
     (λ v m. h v (List·Memᴰ·tail m))))
+
+-- what is there is a name, or none
+pub stop-names : (μ : Mem) (t : ℕ) (b : Option ℕ) (ts : List ℕ) → ((v : ℕ) → List·Memᴰ v ts → v ≤ wordLimit)
+    → (stopIn μ t b ts .at ≢ timeSet) × (stopIn μ t b ts .at ≢ timeNotSet)
+unfolding stopIn
+stop-names μ t b [] small = ((λ e. absurd (omega (arith, e))), (λ e. absurd (omega (arith, e))))
+stop-names μ t b (w ∷ ts) small =
+    by-bool (after (μ (timeWord w)) t) (λ e. rw e (name-unset w (small w (List·Memᴰ·head refl))))
+    (λ e. rw e (stop-names μ t (some (nameOf w)) ts (λ v m. small v (List·Memᴰ·tail m))))
 
 -- what is known of the workspaces of a queue: they are small, with time words in memory
 pub record Fit (size v : ℕ) : Type 0 where

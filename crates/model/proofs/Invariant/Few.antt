@@ -12,7 +12,7 @@ use Rattle.model.proofs.Quiet.Ways.{Mem}
 use Rattle.model.proofs.Effects.Timers.{Once}
 use Rattle.model.proofs.Effects.Seen.{tally, tally-le, tally-none, tally-more}
 use Rattle.model.proofs.Invariant.Trees.{Tree}
-use Rattle.model.proofs.Invariant.Leaves.{member, sleeping, held-sleeping}
+use Rattle.model.proofs.Invariant.Leaves.{member}
 use Rattle.model.proofs.Invariant.Kernel.{Loaded, S, root, size, Rest, sleeper, part-small, sits-at}
 use Rattle.model.proofs.Invariant.Moving.{member-in, member-head, member-cons}
 
@@ -37,10 +37,8 @@ few-upto n ts h o = omega (arith, tally-le (λ i. member (suc i) ts) n, counted 
 
 pub few-asleep : (L : Loaded) {st : State} {μ : Mem} {t : Tree (S L) (root L) (st .process)} {Out : List ℕ → Type 0} {ws : List ℕ}
     (h : Rest L st μ t Out ws) → length (h .sleepers .asleep) ≤ size L
-few-asleep L {st} {μ} h =
+few-asleep L h =
     few-upto (size L) (h .sleepers .asleep)
     (λ v m. elim (h .sleepers .each v m) [
-      | sleeper {b = b} {i = i} k e n ↦ elim (held-sleeping (S L) (L .sleeps) b i st μ (h .leaf k n)) [
-        | sleeping a s ↦ (omega (arith, e, a .space), omega (arith, e, sits-at L k .placed .low, part-small L k))
-      ]
+      | sleeper k e a d ↦ (omega (arith, e, a), omega (arith, e, sits-at L k .placed .low, part-small L k))
     ]) (h .sleepers .once)

@@ -75,7 +75,7 @@ module _ (L : Loaded) where
         → Now L u st ν b (relaid (i .w) (i .left - 1) i) q → Did L did s st (bytesLeft (S L) t)
     no-step u ran talk real run rest lines more now =
         let sits = sits-at L (A .leaf) in
-        elim (relabel L (A .leaf) refl (i .w) (i .left - 1) (sits .placed) (omega (arith, sits .few)) rest lines) [
+        elim (relabel L (A .leaf) refl (i .w) (i .left - 1) (λ e. refl) (sits .placed) (omega (arith, sits .few)) rest lines) [
           | relabelled t′ leaf rest′ lines′ e others ↦
               came u [] ran t-none (silent s u talk) (runs real run leaf rest′ lines′ now) (inl (omega arith))
         ]
@@ -92,7 +92,8 @@ module _ (L : Loaded) where
           no-step u ran talk real run rest lines (omega (arith, A .left))
           (now-goes (fresh L nx (cpuOf u .place) (cpuOf u .operand) inner place operand) way settled clean (omega (arith, A .left)))
 
-      pub alt-goes-on : AltGoes (S L) b st (i .vars) (i .chans) q hi′ ν nx (regsOf (cpuOf u)) → Did L did s st (bytesLeft (S L) t)
+      pub alt-goes-on : AltGoes (S L) b (L .times) st (i .vars) (i .chans) q (i .w) hi′ ν nx (regsOf (cpuOf u)) → Did L did s st
+          (bytesLeft (S L) t)
       alt-goes-on way =
           let far = alt-bound (S L) b way in
           no-step u ran talk real run rest lines (omega (arith, A .left))

@@ -1,22 +1,22 @@
 -- The machine and the processes of an Occam run: whose words hold what, who is queued, and what the outside offers.
 use Prim.Native.Nat.{ℕ, _+_, _^_, _≤_, _<_}
 use native.Mathlib.Omega.{arith}
-use mathlib.Core.Path.{_≡_}
-use mathlib.Core.Logic.{_⊎_}
+use mathlib.Core.Path.{_≡_, refl, sym, _∙_, subst}
+use mathlib.Core.Logic.{_⊎_, ⊎-elim}
 use mathlib.Core.Bool.{true, false, cond}
-use mathlib.Core.List.{List, [], List·Memᴰ}
+use mathlib.Core.List.{List, [], List·Memᴰ, List·Memᴰ·head, List·Memᴰ·tail, List·Memᴰ·cases-cons}
 use mathlib.Core.Option.{Option, none, some}
 use lib.ListN.{length, getD}
 use Rattle.model.specs.Word.{notProcess}
 use Rattle.model.specs.Limits.{codeLimit, wordLimit}
-use Rattle.model.specs.Syntax.{Site, inputOf, outputOf, Program}
+use Rattle.model.specs.Syntax.{Site, inputOf, outputOf, Program, Guards, timed}
 use Rattle.model.specs.Counts.{processes}
 use Rattle.model.specs.Accept.{limit, memoryWords}
 use Rattle.model.specs.Layout.{base, wordOf}
 use Rattle.model.specs.Code.{Realises}
 use Rattle.model.specs.Scheme.{scheme}
-use Rattle.model.specs.Machine.{World, memorySize}
-use Rattle.model.specs.Occam.{Frame, Process, inPar, Branches, framesOf, look, State, atWait, now}
+use Rattle.model.specs.Machine.{World, memorySize, timeWord, timeLinkWord}
+use Rattle.model.specs.Occam.{Frame, Process, inPar, Branches, framesOf, look, State, atWait, now, atAlt}
 use Rattle.model.specs.Demand.{liveIn}
 use Rattle.model.specs.declared.Setup.{Setup}
 use Rattle.model.specs.declared.Timer.{Timer}
@@ -24,7 +24,7 @@ use Rattle.model.specs.declared.Kept.the-variants.{Nothing}
 use Rattle.model.proofs.Words.Times.{Near}
 use Rattle.model.proofs.Quiet.Ways.{Mem, frontWord}
 use Rattle.model.proofs.Quiet.Setting.{Setting}
-use Rattle.model.proofs.Occam.Paths.{Leaf, left}
+use Rattle.model.proofs.Occam.Paths.{Leaf, left, isAlt}
 use Rattle.model.proofs.Words.Parts.{Part, Within, Fine}
 use Rattle.model.proofs.Words.FineParts.{wholePart, outsideNames}
 use Rattle.model.proofs.Quiet.Marks.{Own}
@@ -32,7 +32,9 @@ use Rattle.model.proofs.Invariant.Trees.{Label, alone, parted, Info, Tr
 use Rattle.model.proofs.Invariant.Zones.{zoneOf, zone-under}
 use Rattle.model.proofs.Invariant.Leaves.{member, Held}
 use Rattle.model.proofs.Effects.Queues.{Queue, Apart}
-use Rattle.model.proofs.Effects.Timers.{Chain, Sorted, Once}
+use Rattle.model.proofs.Effects.Timers.{Chain, Sorted, Once, ends, next}
+use Rattle.model.proofs.Quiet.Timing.{Times, Linked}
+use Rattle.model.proofs.Quiet.Names.{name-unset}
 
 -- the last clock word that a machine was given, if one was
 abbrev pub lastClock : Timer → Option ℕ
@@ -52,11 +54,13 @@ pub record Loaded : Type 1 where
   pub realises : Realises code (scheme prog) off
   pub rises : (i k : ℕ) → i < k → k ≤ length (scheme prog) → off i < off k
   pub slice : ℕ
-  -- what is known of a process that waits for the clock: its workspace, its time, and the clock
+  -- what is known of a process in the timer queue: its workspace, its time, and the clock
   pub sleeps : (w t clock : ℕ) → Type 0
-  -- whether the timer queue is known to be in the order of times: then each is near the clock
-  pub ordered : Type 0
-  pub sleeps-near : ordered → (w t clock : ℕ) → sleeps w t clock → Near clock t
+  -- what is known of the time of a true time guard, and whether times are known to be near the clock: then the timer queue is in their
+  -- order
+  pub times : Times
+  pub sleeps-near : times .sure → (w t clock : ℕ) → sleeps w t clock → Near clock t
+  pub guarded-near : times .sure → (w t clock : ℕ) → times .guarded w t clock → Near clock t
   pub fine : Fine (wordOf prog) (wholePart prog) [] (outsideNames prog) (base prog) (prog .body)
   pub code-small : length code ≤ codeLimit
   pub words-small : memoryWords prog ≤ wordLimit
@@ -117,22 +121,46 @@ module _ (L : Loaded) where
   pub data Owned (st : State) (t : Tree S root (st .process)) (c : Site) (n : ℕ) : Type 0 where
     owned : {path : List ℕ} {q : Process} {b : Part} {i : Info} → LeafAt st t path q b i → List·Memᴰ c (i .chans) → Own b n → Owned st t c n
 
-  -- a process that waits for the clock and is not left out
-  pub data Sleeper (st : State) (t : Tree S root (st .process)) (Out : List ℕ → Type 0) (w : ℕ) : Type 0 where
-    sleeper : {path : List ℕ} {tm : ℕ} {k : List Frame} {b : Part} {i : Info} → LeafAt st t path (atWait tm k) b i → i .w ≡ w
-        → (Out path → ⊥) → Sleeper st t Out w
+  -- a process that may be in the timer queue: one that waits for the clock and is not left out, or has come to an ALT with a time guard
+  pub data Dozer (Out : List ℕ → Type 0) (path : List ℕ) : Process → Type 0 where
+    at-wait : {tm : ℕ} {k : List Frame} → (Out path → ⊥) → Dozer Out path (atWait tm k)
+    in-alt : {gs : Guards} {k : List Frame} → timed gs ≡ true → Dozer Out path (atAlt gs k)
 
-  -- the timer queue: all of these, each once, in the order of their times
+  -- such a process, with room for its two words
+  pub data Sleeper (st : State) (t : Tree S root (st .process)) (Out : List ℕ → Type 0) (w : ℕ) : Type 0 where
+    sleeper : {path : List ℕ} {q : Process} {b : Part} {i : Info} → LeafAt st t path q b i → i .w ≡ w → b .bottom + 5 ≤ i .w
+        → Dozer Out path q → Sleeper st t Out w
+
+  -- the timer queue: all that wait for the clock, and the ALTs whose words say so, each once, in the order of their times
   pub record Sleepers (st : State) (μ : Mem) (t : Tree S root (st .process)) (Out : List ℕ → Type 0) : Type 0 where
     pub asleep : List ℕ
     pub chain : Chain μ frontWord asleep
-    pub sorted : L .ordered → Sorted (now st) μ asleep
+    pub sorted : L .times .sure → Sorted (now st) μ asleep
     pub once : Once asleep
     pub each : (w : ℕ) → List·Memᴰ w asleep → Sleeper st t Out w
-    pub all : {path : List ℕ} {tm : ℕ} {k : List Frame} {b : Part} {i : Info} → LeafAt st t path (atWait tm k) b i → (Out path → ⊥)
-        → List·Memᴰ (i .w) asleep
+    pub known : (w : ℕ) → List·Memᴰ w asleep → (μ (timeWord w) < 2 ^ 32) × L .sleeps w (μ (timeWord w)) (now st)
+    pub all : {path : List ℕ} {q : Process} {b : Part} {i : Info} → LeafAt st t path q b i → b .bottom + 5 ≤ i .w → Dozer Out path q
+        → (isAlt q ≡ true → Linked μ (i .w)) → List·Memᴰ (i .w) asleep
 
-  -- what all words hold, where the processes at some paths (`Out`) are left out. `ws` are the workspaces that are queued
+  -- what all words hold but those of the timer queue, where the processes at some paths (`Out`) are left out. `ws` are the workspaces that
+  -- are queued
+  pub record Plain (st : State) (μ : Mem) (t : Tree S root (st .process)) (Out : List ℕ → Type 0) (ws : List ℕ) : Type 0 where
+    -- variables in scope are words, and stand in their words
+    pub vars : {path : List ℕ} {l : Label} → NodeAt st t path l → (x : Site) → List·Memᴰ x (zoneOf l .vars)
+        → (st .store x ≡ μ (S .word x)) × (st .store x < 2 ^ 32)
+    -- a channel in scope is empty, or some process waits at it
+    pub chans : {path : List ℕ} {l : Label} → NodeAt st t path l → (c : Site) → List·Memᴰ c (zoneOf l .chans)
+        → (μ (S .word c) ≡ notProcess) ⊎ Owned st t c (μ (S .word c))
+    -- live variables are in scope
+    pub live : {path : List ℕ} {q : Process} {b : Part} {i : Info} → LeafAt st t path q b i → Within (liveIn (framesOf q)) (i .vars)
+    pub leaf : {path : List ℕ} {q : Process} {b : Part} {i : Info} → LeafAt st t path q b i → (Out path → ⊥)
+        → Held S (L .times) b i st μ (member (i .w) ws) q
+    -- a PAR's words: where it goes on, and how many branches are not over
+    pub par : {path : List ℕ} {bs : Branches} {k : List Frame} {a : Part} {vs cs : List Site} {w onward : ℕ}
+        → look path (st .process) ≡ some (inPar bs k) → NodeAt st t path (parted a vs cs w onward)
+        → (μ w ≡ S .off onward) × (μ (w + 1) ≡ left bs)
+
+  -- the same with the timer queue
   pub record Rest (st : State) (μ : Mem) (t : Tree S root (st .process)) (Out : List ℕ → Type 0) (ws : List ℕ) : Type 0 where
     -- variables in scope are words, and stand in their words
     pub vars : {path : List ℕ} {l : Label} → NodeAt st t path l → (x : Site) → List·Memᴰ x (zoneOf l .vars)
@@ -143,12 +171,20 @@ module _ (L : Loaded) where
     -- live variables are in scope
     pub live : {path : List ℕ} {q : Process} {b : Part} {i : Info} → LeafAt st t path q b i → Within (liveIn (framesOf q)) (i .vars)
     pub leaf : {path : List ℕ} {q : Process} {b : Part} {i : Info} → LeafAt st t path q b i → (Out path → ⊥)
-        → Held S (L .sleeps) b i st μ (member (i .w) ws) q
+        → Held S (L .times) b i st μ (member (i .w) ws) q
     -- a PAR's words: where it goes on, and how many branches are not over
     pub par : {path : List ℕ} {bs : Branches} {k : List Frame} {a : Part} {vs cs : List Site} {w onward : ℕ}
         → look path (st .process) ≡ some (inPar bs k) → NodeAt st t path (parted a vs cs w onward)
         → (μ w ≡ S .off onward) × (μ (w + 1) ≡ left bs)
     pub sleepers : Sleepers st μ t Out
+
+  pub plain-of : {st : State} {μ : Mem} {t : Tree S root (st .process)} {Out : List ℕ → Type 0} {ws : List ℕ} → Rest st μ t Out ws
+      → Plain st μ t Out ws
+  plain-of h = record { vars = h .vars; chans = h .chans; live = h .live; leaf = h .leaf; par = h .par }
+
+  abbrev pub rest-of : {st : State} {μ : Mem} {t : Tree S root (st .process)} {Out : List ℕ → Type 0} {ws : List ℕ} → Plain st μ t Out ws
+      → Sleepers st μ t Out → Rest st μ t Out ws
+  rest-of h z = record { vars = h .vars; chans = h .chans; live = h .live; leaf = h .leaf; par = h .par; sleepers = z }
 
   -- the process whose workspace is queued
   pub data Whose (st : State) (t : Tree S root (st .process)) (Out : List ℕ → Type 0) (w : ℕ) : Type 0 where
@@ -192,3 +228,35 @@ module _ (L : Loaded) where
   pub sits-at : {st : State} {t : Tree S root (st .process)} {path : List ℕ} {q : Process} {b : Part} {i : Info}
       → LeafAt st t path q b i → Sits S b i
   sits-at {t = t} {path} h = label-sits S t path (h .label)
+
+  -- a process that is not in the timer queue, if it has come to an ALT with a time guard
+  abbrev pub Unlinked : Process → Mem → (w : ℕ) → Type 0
+  Unlinked q μ w = isAlt q ≡ true → Linked μ w → ⊥
+
+  -- who may be in the timer queue where others are left out
+  pub dozer-out : {Out Out′ : List ℕ → Type 0} {path : List ℕ} {q : Process}
+      → ((tm : ℕ) (k : List Frame) → q ≡ atWait tm k → (Out path → ⊥) → Out′ path → ⊥) → Dozer Out path q → Dozer Out′ path q
+  dozer-out f (at-wait {tm} {k} n) = at-wait (f tm k refl n)
+  dozer-out f (in-alt t) = in-alt t
+
+  -- the link word of a process in the timer queue is a name, or none
+  chain-linked : {μ : Mem} {a : ℕ} {ts : List ℕ} → Chain μ a ts → ((v : ℕ) → List·Memᴰ v ts → v ≤ wordLimit) → (w : ℕ) → List·Memᴰ w ts
+      → Linked μ w
+  chain-linked {μ} {a} (next e c) small w m =
+      ⊎-elim (λ f. subst (Linked μ) (sym f) (by _ c (λ v n. small v (List·Memᴰ·tail n))))
+      (λ n. chain-linked c (λ v k. small v (List·Memᴰ·tail k)) w n) (List·Memᴰ·cases-cons m)
+    where
+      by : (v : ℕ) {ts : List ℕ} → Chain μ (timeLinkWord v) ts → ((u : ℕ) → List·Memᴰ u ts → u ≤ wordLimit) → Linked μ v
+      by v (ends z) small = ((λ f. absurd (omega (arith, z, f))), (λ f. absurd (omega (arith, z, f))))
+      by v (next {w = u} z d) small =
+          let low = small u (List·Memᴰ·head refl) in
+          let (a, b) = name-unset u low in
+          ((λ f. a (sym z ∙ f)), (λ f. b (sym z ∙ f)))
+
+  pub linked-in : {st : State} {μ : Mem} {t : Tree S root (st .process)} {Out : List ℕ → Type 0} {ws : List ℕ} (h : Rest st μ t Out ws)
+      (w : ℕ) → List·Memᴰ w (h .sleepers .asleep) → Linked μ w
+  linked-in h w m =
+      chain-linked (h .sleepers .chain)
+      (λ v n. elim (h .sleepers .each v n) [
+        | sleeper l e a d ↦ omega (arith, e, sits-at l .placed .low, part-small l, base-small (L .prog) (L .words-small))
+      ]) w m

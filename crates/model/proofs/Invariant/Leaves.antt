@@ -5,17 +5,18 @@ use mathlib.Core.Bool.{Bool, true, false, _||_}
 use mathlib.Core.List.{List, [], _∷_, List·Memᴰ}
 use lib.Dec.{eqb}
 use lib.ListN.{length}
-use Rattle.model.specs.Syntax.{Site, Guards}
+use Rattle.model.specs.Syntax.{Site, Guards, noGuard, timed}
 use Rattle.model.specs.Machine.{resumeWord, stateWord, nameOf, timeWord}
 use Rattle.model.specs.Alternative.{waiting, ready, noneSelected}
 use Rattle.model.specs.Scheme.{sizeEnable}
-use Rattle.model.specs.Occam.{Frame, Process, atInput, atOutput, atStop, atAlt, State, Sender, atWait, now}
+use Rattle.model.specs.Occam.{Frame, Process, atInput, atOutput, atStop, atAlt, State, Sender, atWait}
 use Rattle.model.proofs.Cases.{never}
 use Rattle.model.proofs.Quiet.Ways.{Mem}
 use Rattle.model.proofs.Quiet.Setting.{Setting, whole}
+use Rattle.model.proofs.Quiet.Timing.{Times, Dozing, Guarding}
 use Rattle.model.proofs.Words.Parts.{Part, Target}
 use Rattle.model.proofs.Quiet.Continuations.{Cont}
-use Rattle.model.proofs.Quiet.Marks.{Own, AnyReady, Guarded, AltCode, Marked, Disabling, s-none}
+use Rattle.model.proofs.Quiet.Marks.{Own, AnyPresent, Guarded, AltCode, Marked, Disabling, s-none}
 use Rattle.model.proofs.Quiet.Arrivals.{Comes, comes}
 use Rattle.model.proofs.Invariant.Trees.{Info}
 
@@ -60,48 +61,46 @@ module _ (S : Setting) (b : Part) (i : Info) (st : State) (μ : Mem) where
     pub small : t < 2 ^ 32
     pub unmarked : Unmarked
 
--- `sleeps` is what is known of one that waits for the clock: its workspace, its time, and the clock
-module _ (S : Setting) (sleeps : (w t clock : ℕ) → Type 0) (b : Part) (i : Info) (st : State) (μ : Mem) where
+-- `T` is what is known of the times of an ALT's true time guards
+module _ (S : Setting) (T : Times) (b : Part) (i : Info) (st : State) (μ : Mem) where
   -- whether it is queued, and what it waits for
   pub data Held : (queued : Bool) → Process → Type 0 where
     h-queued : {q : Process} {hi at : ℕ} → Comes S b (st .store) (i .vars) (i .chans) hi q at (i .w) → Resumes S b i st μ at hi
-        → at ≤ length (S .xs)
-        → Unmarked S b i st μ → Held true q
+        → at ≤ length (S .xs) → Unmarked S b i st μ → Held true q
     -- woken in an ALT
     h-woken : {gs : Guards} {k : List Frame} {hi at : ℕ} (c : AltCode S b gs (i .vars) (i .chans) k hi at (i .w + 1))
         → Resumes S b i st μ (at + 2 + sizeEnable gs + 1) hi → μ (stateWord (i .w)) ≡ ready
-        → Disabling S b st (i .vars) (i .chans) k gs gs (c .choice) μ (i .w) → Held true (atAlt gs k)
+        → Disabling S b T st (i .vars) (i .chans) k gs gs (c .choice) μ (i .w) → Held true (atAlt gs k)
     -- at an input nobody sends
-    h-input : {c x : Site} {k : List Frame} {hi at : ℕ} → Waits S b i st μ c k at hi (S .word x) → Target b (i .vars) x → List·Memᴰ c
-        (b .inputs)
-        → (Sender st c → ⊥) → Held false (atInput c x k)
+    h-input : {c x : Site} {k : List Frame} {hi at : ℕ} → Waits S b i st μ c k at hi (S .word x) → Target b (i .vars) x
+        → List·Memᴰ c (b .inputs) → (Sender st c → ⊥) → Held false (atInput c x k)
     -- an output holds its value
     h-output : {c : Site} {v : ℕ} {k : List Frame} {hi at : ℕ} → Waits S b i st μ c k at hi (i .w) → List·Memᴰ c (b .outputs)
-        → i .w < b .top
-        → μ (i .w) ≡ v → v < 2 ^ 32 → Held false (atOutput c v k)
+        → i .w < b .top → μ (i .w) ≡ v → v < 2 ^ 32 → Held false (atOutput c v k)
     h-stop : {k : List Frame} → Unmarked S b i st μ → Held false (atStop k)
-    -- waiting in an ALT: every true guard has its mark, and none is ready
+    -- waiting in an ALT: every true guard has its mark, and none is present; one with a true time guard is in the timer queue
     h-wait : {gs : Guards} {k : List Frame} {hi at : ℕ} (c : AltCode S b gs (i .vars) (i .chans) k hi at (i .w + 1))
         → Resumes S b i st μ (at + 2 + sizeEnable gs + 1) hi → μ (stateWord (i .w)) ≡ waiting → μ (i .w) ≡ noneSelected
-        → ((d : Site) → Guarded (st .store) d gs → μ (S .word d) ≡ nameOf (i .w)) → (AnyReady st gs → ⊥)
-        → Marked S b st (i .vars) (i .chans) gs μ (i .w) → Held false (atAlt gs k)
+        → ((d : Site) → Guarded (st .store) d gs → μ (S .word d) ≡ nameOf (i .w)) → (AnyPresent st gs → ⊥)
+        → Marked S b st (i .vars) (i .chans) gs μ (i .w) → (timed gs ≡ true → Dozing T st gs μ (i .w)) → Guarding T st gs noGuard (i .w)
+        → Held false (atAlt gs k)
     -- at WAIT, in the timer queue
-    h-asleep : {t : ℕ} {k : List Frame} {hi at : ℕ} → Asleep S b i st μ t k at hi → sleeps (i .w) t (now st) → Held false (atWait t k)
+    h-asleep : {t : ℕ} {k : List Frame} {hi at : ℕ} → Asleep S b i st μ t k at hi → Held false (atWait t k)
 
   -- one that waits for the clock is asleep
   pub data Sleeping (t : ℕ) (k : List Frame) : Type 0 where
-    sleeping : {hi at : ℕ} → Asleep S b i st μ t k at hi → sleeps (i .w) t (now st) → Sleeping t k
+    sleeping : {hi at : ℕ} → Asleep S b i st μ t k at hi → Sleeping t k
 
   no-waiting : {hi at w t : ℕ} {k : List Frame} {vars chans : List Site} → Comes S b (st .store) vars chans hi (atWait t k) at w → ⊥
   no-waiting (comes s-none settled sub way) = settled
 
   pub held-sleeping : {f : Bool} {t : ℕ} {k : List Frame} → Held f (atWait t k) → Sleeping t k
   held-sleeping (h-queued c r h u) = absurd (no-waiting c)
-  held-sleeping (h-asleep a s) = sleeping a s
+  held-sleeping (h-asleep a) = sleeping a
 
   pub asleep-unqueued : {f : Bool} {t : ℕ} {k : List Frame} → Held f (atWait t k) → f ≡ false
   asleep-unqueued (h-queued c r h u) = absurd (no-waiting c)
-  asleep-unqueued (h-asleep a s) = refl
+  asleep-unqueued (h-asleep a) = refl
 
   -- one that is queued is not
   pub held-awake : {q : Process} → Held true q → (t : ℕ) (k : List Frame) → q ≡ atWait t k → ⊥

@@ -12,7 +12,7 @@ use Rattle.model.specs.Occam.{Frame, Process, before, finished, atOutput
 use Rattle.model.proofs.Cases.{never, by-bool}
 use Rattle.model.proofs.Quiet.Ways.{Mem}
 use Rattle.model.proofs.Quiet.Setting.{whole}
-use Rattle.model.proofs.Occam.Paths.{Leaf, l-before, l-finished, leaf-par, put-found, same-path, l-to-read, l-has-read, Awake}
+use Rattle.model.proofs.Occam.Paths.{Leaf, l-before, l-finished, leaf-par, put-found, same-path, l-to-read, l-has-read, Awake, isAlt}
 use Rattle.model.specs.Demand.{liveIn}
 use Rattle.model.proofs.Words.Parts.{Part, Within}
 use Rattle.model.proofs.Quiet.Continuations.{Placed}
@@ -22,7 +22,9 @@ use Rattle.model.proofs.Invariant.Trees.{Kept, kept}
 use Rattle.model.proofs.Invariant.Zones.{zoneOf}
 use Rattle.model.proofs.Invariant.Leaves.{member, Held}
 use Rattle.model.proofs.Invariant.Kernel.{Loaded, S, root, LeafAt, NodeAt, Owned, owned, Rest, whose, Lined, node, sits-at, Sleepers}
+use Rattle.model.proofs.Invariant.Kernel.{dozer-out, Dozer, at-wait, in-alt, Sleeper, sleeper}
 use Rattle.model.proofs.Invariant.Writes.{apart-parts, own-one, sleepers-by}
+use Rattle.model.proofs.Quiet.Timing.{Linked}
 
 -- membership by a test
 pub member-in : (w : ℕ) (ws : List ℕ) → member w ws ≡ true → List·Memᴰ w ws
@@ -73,6 +75,18 @@ skips-silent (s-par s) h e = never (cc)
 pub settled-awake : {q : Process} → Settled q → Awake q
 settled-awake h t k e = subst (λ z. Settled z) e h
 
+-- a process that settles has not come to an ALT, nor one that skips steps without code
+pub settled-off : (q : Process) → Settled q → isAlt q ≡ false
+settled-off (before s k) h = refl
+settled-off (toRead x k) h = refl
+settled-off (hasRead x v k) h = refl
+settled-off finished h = refl
+
+pub skips-off : {p q : Process} → Skips p q → Settled q → isAlt p ≡ false
+skips-off {q = q} s-none h = settled-off q h
+skips-off (s-skip r) h = refl
+skips-off (s-par r) h = refl
+
 pub settled-leaf : (q : Process) → Settled q → Leaf q
 settled-leaf (before s k) h = l-before
 settled-leaf (toRead x k) h = l-to-read
@@ -104,9 +118,10 @@ module _ (L : Loaded) where
       → ((other : List ℕ) (tm : ℕ) (k : List Frame) (b : Part) (i : Info) → LeafAt L st t other (atWait tm k) b i → (Out′ other → ⊥)
       → Out other → ⊥)
       → Sleepers L st μ t Out → Sleepers L st μ t Out′
-  sleepers-out more fewer z =
-      sleepers-by L z refl refl (λ w m. (refl, refl)) (λ other tm k b i l o. (l, more other tm k b i l o))
-      (λ other tm k b i l o. (l, fewer other tm k b i l o))
+  sleepers-out {st} {t = t} more fewer z =
+      sleepers-by L z refl refl (λ path q b i l a d. (refl, refl))
+      (λ other q b i l d. (l, dozer-out L (λ tm k e. more other tm k b i (subst (λ p. LeafAt L st t other p b i) e l)) d))
+      (λ other q b i l d. (l, dozer-out L (λ tm k e. fewer other tm k b i (subst (λ p. LeafAt L st t other p b i) e l)) d))
 
   module _ {st : State} {μ : Mem} {t : Tree (S L) (root L) (st .process)} {ws : List ℕ} where
     -- more are left out, none that waits for the clock
@@ -147,7 +162,7 @@ module _ (L : Loaded) where
 
     -- one is taken in again
     pub rest-in : {Out Out′ : List ℕ → Type 0} {path : List ℕ} {q : Process} {b : Part} {i : Info} → LeafAt L st t path q b i
-        → Held (S L) (L .sleeps) b i st μ (member (i .w) ws) q → ((other : List ℕ) → path ≢ other → Out other → Out′ other)
+        → Held (S L) (L .times) b i st μ (member (i .w) ws) q → ((other : List ℕ) → path ≢ other → Out other → Out′ other)
         → ((other : List ℕ) → Out′ other → Out other) → Awake q → Rest L st μ t Out ws → Rest L st μ t Out′ ws
     rest-in {path = path} at held f fewer awake h =
         record {
@@ -155,7 +170,7 @@ module _ (L : Loaded) where
           chans = h .chans;
           live = h .live;
           leaf = λ {path = other} k n.
-              ⊎-elim (λ e. same-leaf (λ q b (i : Info). Held (S L) (L .sleeps) b i st μ (member (i .w) ws) q) e at k held)
+              ⊎-elim (λ e. same-leaf (λ q b (i : Info). Held (S L) (L .times) b i st μ (member (i .w) ws) q) e at k held)
               (λ d. h .leaf k (λ o. n (f other d o))) (same-path path other);
           par = h .par;
           sleepers = sleepers-out (λ other tm k b i l n o. n (fewer other o))
@@ -227,8 +242,47 @@ module _ (L : Loaded) where
         let (l′, o′) = same-leaf (λ q d (j : Info). List·Memᴰ c (j .chans) × Own d v) (sym e) m at (l, o) in owned here-new l′ o′)
         (λ d. owned (leaf-on d m) l o) (same-path path other)
 
-    rest-new : {μ : Mem} {Out : List ℕ → Type 0} {ws : List ℕ} → Out path → Rest L st μ t Out ws → Rest L st μ (k .tree) Out ws
-    rest-new {Out = Out} out h =
+    -- an ALT's workspace stays
+    sleepers-new : {μ : Mem} {Out : List ℕ → Type 0} → (isAlt q ≡ true → w ≡ i .w) → Out path → Sleepers L st μ t Out
+        → Sleepers L st μ (k .tree) Out
+    sleepers-new {μ} {Out} same out z =
+        record {
+          asleep = z .asleep;
+          chain = z .chain;
+          sorted = z .sorted;
+          once = z .once;
+          each = λ v m. elim (z .each v m) [
+            | sleeper {path = other} l e a d ↦
+                ⊎-elim (λ p. here p l e a d) (λ u. sleeper (leaf-on u l) e a d) (same-path path other)
+          ];
+          known = z .known;
+          all = λ {path = other} l a d f.
+              ⊎-elim (λ p. there p l a d f) (λ u. z .all (leaf-back u l) a d f) (same-path path other);
+        }
+      where
+        here : {other : List ℕ} {r : Process} {c : Part} {j : Info} {v : ℕ} → path ≡ other → LeafAt L st t other r c j → j .w ≡ v
+            → c .bottom + 5 ≤ j .w → Dozer L Out other r → Sleeper L st (k .tree) Out v
+        here p l e a (at-wait u) = absurd (u (subst Out p out))
+        here {v = v} p l e a (in-alt x) =
+            let (q-is, room, w-is, gs-timed) =
+            same-leaf (λ q b (j : Info). (isAlt q ≡ true) × (b .bottom + 5 ≤ j .w) × (j .w ≡ v) × Dozer L Out path q) (sym p) l at
+            (x, a, e, in-alt x) in
+            let f = same q-is in
+            sleeper here-new (f ∙ w-is) (omega (arith, f, room)) gs-timed
+
+        there : {other : List ℕ} {r : Process} {c : Part} {j : Info} → path ≡ other → LeafAt L st (k .tree) other r c j
+            → c .bottom + 5 ≤ j .w → Dozer L Out other r → (isAlt r ≡ true → Linked μ (j .w)) → List·Memᴰ (j .w) (z .asleep)
+        there p l a (at-wait u) f = absurd (u (subst Out p out))
+        there {j = j} p l a (in-alt x) f =
+            let (q-is, room, linked, dozes, w-is) =
+            same-leaf (λ q b (y : Info). (isAlt q ≡ true) × (b .bottom + 5 ≤ y .w) × Linked μ (y .w) × Dozer L Out path q × (y .w ≡ j .w))
+            (sym p) l here-new (x, a, f x, in-alt x, refl) in
+            let g = same q-is in
+            subst (λ y. List·Memᴰ y (z .asleep)) (sym g ∙ w-is) (z .all at (omega (arith, g, room)) dozes (λ e. subst (Linked μ) g linked))
+
+    rest-new : {μ : Mem} {Out : List ℕ → Type 0} {ws : List ℕ} → (isAlt q ≡ true → w ≡ i .w) → Out path → Rest L st μ t Out ws
+        → Rest L st μ (k .tree) Out ws
+    rest-new {Out = Out} same out h =
         record {
           vars = λ {path = other} m x l.
               ⊎-elim (λ e. h .vars (node L at) x (subst (λ z. List·Memᴰ x (zoneOf z .vars)) (here-label m e) l))
@@ -246,9 +300,7 @@ module _ (L : Loaded) where
               (λ d. h .leaf (leaf-back d m) o) (same-path path other);
           par = λ {path = other} e m.
               h .par e (node-back (λ p. leaf-par (at .leaf) (some-same (sym (at .found) ∙ ap (λ z. look z (st .process)) p ∙ e))) m);
-          sleepers = sleepers-by L (h .sleepers) refl refl (λ w m. (refl, refl))
-              (λ other tm f c j l o. (leaf-on (λ p. o (subst Out p out)) l, o))
-              (λ other tm f c j l o. (leaf-back (λ p. o (subst Out p out)) l, o));
+          sleepers = sleepers-new same out (h .sleepers);
         }
 
     lined-new : {Out : List ℕ → Type 0} {ws : List ℕ} → Out path → Lined L st t Out ws → Lined L st (k .tree) Out ws
@@ -258,21 +310,23 @@ module _ (L : Loaded) where
           once = lines .once;
         }
 
-    relabelling : {μ : Mem} {Out : List ℕ → Type 0} {ws : List ℕ} → Out path → Rest L st μ t Out ws → Lined L st t Out ws
-        → Relabelled st μ t path q b i w n Out ws
-    relabelling out h lines =
-        relabelled (k .tree) here-new (rest-new out h) (lined-new out lines) (omega (arith, k .bytes, leaf-bytes (S L) t path (at .label)))
+    relabelling : {μ : Mem} {Out : List ℕ → Type 0} {ws : List ℕ} → (isAlt q ≡ true → w ≡ i .w) → Out path → Rest L st μ t Out ws
+        → Lined L st t Out ws → Relabelled st μ t path q b i w n Out ws
+    relabelling same out h lines =
+        relabelled (k .tree) here-new (rest-new same out h) (lined-new out lines)
+        (omega (arith, k .bytes, leaf-bytes (S L) t path (at .label)))
         (λ other r c j d m. leaf-on d m)
 
   -- a process's workspace and the bound on its bytes are others
   pub relabel : {st : State} {μ : Mem} {t : Tree (S L) (root L) (st .process)} {path : List ℕ} {q : Process} {b : Part} {i : Info}
-      {Out : List ℕ → Type 0} {ws : List ℕ} → LeafAt L st t path q b i → Out path → (w n : ℕ) → Placed (S L) b w (i .vars) (i .chans)
+      {Out : List ℕ → Type 0} {ws : List ℕ} → LeafAt L st t path q b i → Out path → (w n : ℕ) → (isAlt q ≡ true → w ≡ i .w)
+      → Placed (S L) b w (i .vars) (i .chans)
       → n ≤ whole (S L) → Rest L st μ t Out ws → Lined L st t Out ws → Relabelled st μ t path q b i w n Out ws
-  relabel {st} {t = t} {path} {q} {b} {i} at out w n placed few h lines =
+  relabel {st} {t = t} {path} {q} {b} {i} at out w n same placed few h lines =
       relabelling w n at
       (subst (λ z. Kept (S L) t path b (relaid w n i) z) (put-found path (st .process) (at .found))
       (kept (S L) t path (at .found) (at .leaf) (at .leaf) b (relaid w n i) (rw (at .label))
-      (record { placed = placed; few = few }))) out h lines
+      (record { placed = placed; few = few }))) same out h lines
 
   -- one that is left out is not queued
   pub unqueued : {st : State} {t : Tree (S L) (root L) (st .process)} {Out : List ℕ → Type 0} {ws : List ℕ}

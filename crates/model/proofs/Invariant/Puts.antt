@@ -13,15 +13,17 @@ use Rattle.model.specs.Demand.{liveIn}
 use Rattle.model.proofs.Cases.{never}
 use Rattle.model.proofs.Quiet.Ways.{Mem}
 use Rattle.model.proofs.Occam.Paths.{Leaf, l-output, leaf-found, look-put-same, look-put-other, look-after, into, aside}
-use Rattle.model.proofs.Occam.Paths.{leaves-apart, same-path, par-after, same-par}
+use Rattle.model.proofs.Occam.Paths.{leaves-apart, same-path, par-after, same-par, isAlt}
 use Rattle.model.proofs.Words.Parts.{Part, Within}
 use Rattle.model.proofs.Quiet.Marks.{Own}
 use Rattle.model.proofs.Invariant.Trees.{some-same, Label, alone, alone-part, alone-info, alone-parted, Info, Sits, Tree, labelAt}
 use Rattle.model.proofs.Invariant.Trees.{kept, Kept, running}
 use Rattle.model.proofs.Invariant.Zones.{zoneOf}
 use Rattle.model.proofs.Invariant.Stays.{Intact, held-stays}
-use Rattle.model.proofs.Invariant.Writes.{sleepers-by}
 use Rattle.model.proofs.Invariant.Kernel.{Loaded, S, root, LeafAt, NodeAt, Owned, owned, Rest, whose, Lined, part-small, sits-at}
+use Rattle.model.proofs.Invariant.Kernel.{Unlinked, Dozer, at-wait, in-alt, sleeper, Sleepers, linked-in, Plain, plain-of, rest-of}
+use Rattle.model.proofs.Quiet.Timing.{Linked, onto-same}
+use mathlib.Core.Bool.{true}
 
 some-process : {x y : Process} → _≡_ {A = Option Process} (some x) (some y) → x ≡ y
 some-process e = cc
@@ -93,7 +95,7 @@ module _ (L : Loaded) {st : State} {t : Tree (S L) (root L) (st .process)} {path
   ]
   sender-before c gained (outside e) = outside e
 
-  module _ {μ : Mem} {Out : List ℕ → Type 0} {ws : List ℕ} (h : Rest L st μ t Out ws) (out : Out path)
+  module _ {μ : Mem} {Out : List ℕ → Type 0} {ws : List ℕ} (h : Plain L st μ t Out ws) (out : Out path)
       (vars-ok : (x : Site) → List·Memᴰ x (j .vars) → (st .store x ≡ μ (S L .word x)) × (st .store x < 2 ^ 32))
       (chans-ok : (c : Site) → List·Memᴰ c (j .chans) → (μ (S L .word c) ≡ notProcess) ⊎ Owned L st t c (μ (S L .word c)))
       (live-ok : Within (liveIn (framesOf r)) (j .vars))
@@ -125,8 +127,8 @@ module _ (L : Loaded) {st : State} {t : Tree (S L) (root L) (st .process)} {path
           none-sends = λ c m g o s. sender-before c (λ v f e. gained c v f e _ _ _ _ k u m g o) s;
         }
 
-    pub rest-then : Rest L (putting path r st) μ treeThen Out ws
-    rest-then =
+    pub plain-then : Plain L (putting path r st) μ treeThen Out ws
+    plain-then =
         record {
           vars = λ {path = other} n x m.
               ⊎-elim (λ p. vars-ok x (subst (λ z. List·Memᴰ x (zoneOf z .vars)) (here-label n p) m)) (λ d. h .vars (node-before d n) x m)
@@ -140,15 +142,13 @@ module _ (L : Loaded) {st : State} {t : Tree (S L) (root L) (st .process)} {path
               (λ d. h .live (other-before d n)) (same-path path other);
           leaf = λ {path = other} n u.
               let k = other-before (λ e. u (subst Out e out)) n in
-              held-stays (S L) _ _ (omega (arith, part-small L k, S L .top-small)) (sits-at L k) (intact-then k u) (λ t s. s) (h .leaf k u);
+              held-stays (S L) _ _ (omega (arith, part-small L k, S L .top-small)) (sits-at L k) (intact-then k u) (onto-same refl)
+              (h .leaf k u);
           par = λ {path = other} e n.
               let d : path ≢ other = λ p. never (alone-parted (here-label n p)) in
               elim (par-after path other (st .process) (at .found) (at .leaf) leaf e) [
                 | same-par cs f g ↦ let (x, y) = h .par f (node-before d n) in (x, y ∙ g)
               ];
-          sleepers = sleepers-by L (h .sleepers) refl refl (λ w m. (refl, refl))
-              (λ other tm k c n l o. (other-then (λ p. o (subst Out p out)) l, o))
-              (λ other tm k c n l o. (other-before (λ p. o (subst Out p out)) l, o));
         }
       where
         here-label : {other : List ℕ} {l : Label} → NodeAt L (putting path r st) treeThen other l → path ≡ other → l ≡ alone b j
@@ -164,3 +164,51 @@ module _ (L : Loaded) {st : State} {t : Tree (S L) (root L) (st .process)} {path
         here-process n e =
             some-process
             (sym (n .found) ∙ ap (λ z. look z (put path r (st .process))) (sym e) ∙ look-put-same path (st .process) r (at .found))
+
+  module _ {μ : Mem} {Out : List ℕ → Type 0} {ws : List ℕ} (h : Rest L st μ t Out ws) (out : Out path)
+      (vars-ok : (x : Site) → List·Memᴰ x (j .vars) → (st .store x ≡ μ (S L .word x)) × (st .store x < 2 ^ 32))
+      (chans-ok : (c : Site) → List·Memᴰ c (j .chans) → (μ (S L .word c) ≡ notProcess) ⊎ Owned L st t c (μ (S L .word c)))
+      (live-ok : Within (liveIn (framesOf r)) (j .vars))
+      (keeps : (c : Site) → List·Memᴰ c (i .chans) → Own b (μ (S L .word c)) → List·Memᴰ c (j .chans))
+      (lost : (c : Site) (v : ℕ) (k : List Frame) → q ≡ atOutput c v k → (other : List ℕ) (p : Process) (d : Part) (n : Info)
+      → LeafAt L st t other p d n → (Out other → ⊥) → List·Memᴰ c (d .inputs) → ⊥)
+      (gained : (c : Site) (v : ℕ) (k : List Frame) → r ≡ atOutput c v k → (other : List ℕ) (p : Process) (d : Part) (n : Info)
+      → LeafAt L st t other p d n → (Out other → ⊥) → List·Memᴰ c (n .chans) → List·Memᴰ c (d .inputs) → Own d (μ (S L .word c)) → ⊥)
+      (gone : Unlinked L q μ (i .w)) (came : Unlinked L r μ (j .w)) where
+    -- the process is not in the timer queue, before and after
+    sleepers-then : Sleepers L (putting path r st) μ treeThen Out
+    sleepers-then =
+        let z = h .sleepers in
+        record {
+          asleep = z .asleep;
+          chain = z .chain;
+          sorted = z .sorted;
+          once = z .once;
+          each = λ w m. elim (z .each w m) [
+            | sleeper {path = other} k e a d ↦
+                ⊎-elim (λ p. absurd (not-here w m p k e d)) (λ u. sleeper (other-then u k) e a d) (same-path path other)
+          ];
+          known = z .known;
+          all = λ {path = other} {q = p} {b = d} {i = n} k a y f.
+              ⊎-elim (λ e. absurd (not-then e k y f)) (λ u. z .all (other-before u k) a y f) (same-path path other);
+        }
+      where
+        -- the one that was there is not in the queue
+        not-here : (w : ℕ) → List·Memᴰ w (h .sleepers .asleep) → {other : List ℕ} {p : Process} {d : Part} {n : Info} → path ≡ other
+            → LeafAt L st t other p d n → n .w ≡ w → Dozer L Out other p → ⊥
+        not-here w m e k f (at-wait u) = u (subst Out e out)
+        not-here w m e k f (in-alt x) =
+            let same = alone-info (some-same (sym (at .label) ∙ ap (labelAt (S L) t) e ∙ k .label)) in
+            let one = some-same (sym (at .found) ∙ ap (λ z. look z (st .process)) e ∙ k .found) in
+            gone (ap isAlt one ∙ x) (subst (Linked μ) (sym (ap (λ (y : Info). y .w) same ∙ f)) (linked-in L h w m))
+
+        not-then : {other : List ℕ} {p : Process} {d : Part} {n : Info} → path ≡ other
+            → LeafAt L (putting path r st) treeThen other p d n → Dozer L Out other p → (isAlt p ≡ true → Linked μ (n .w)) → ⊥
+        not-then e k (at-wait u) f = u (subst Out e out)
+        not-then e k (in-alt x) f =
+            let same = alone-info (some-same (sym (moved .here) ∙ ap (labelAt (S L) treeThen) e ∙ k .label)) in
+            let one = some-same (sym (here-then .found) ∙ ap (λ z. look z (putting path r st .process)) e ∙ k .found) in
+            came (ap isAlt one ∙ x) (subst (Linked μ) (sym (ap (λ (y : Info). y .w) same)) (f x))
+
+    pub rest-then : Rest L (putting path r st) μ treeThen Out ws
+    rest-then = rest-of L (plain-then (plain-of L h) out vars-ok chans-ok live-ok keeps lost gained) sleepers-then

@@ -113,7 +113,8 @@ module _ (L : Loaded) where
         → Goes (S L) b (st .store) (i .vars) (i .chans) q hi μ at (regsOf (cpuOf s)) → Settled q → Unmarked (S L) b i st μ
         → hi ≤ i .left + cpuOf s .place → Now s st μ b i q
     now-alt : {q : Process} {hi at : ℕ} → Here at (cpuOf s .place) (cpuOf s .operand)
-        → AltGoes (S L) b st (i .vars) (i .chans) q hi μ at (regsOf (cpuOf s)) → hi ≤ i .left + cpuOf s .place → Now s st μ b i q
+        → AltGoes (S L) b (L .times) st (i .vars) (i .chans) q (i .w) hi μ at (regsOf (cpuOf s)) → hi ≤ i .left + cpuOf s .place
+        → Now s st μ b i q
 
   -- it is the first branch of a PAR and starts the others
   pub record NowStarts (s : World) (st : State) (μ : Mem) (t : Tree (S L) (root L) (st .process)) (path : List ℕ) (q : Process) (b : Part)

@@ -34,8 +34,9 @@ use Rattle.model.proofs.Invariant.Grounds.{small-size, sound-at}
 use Rattle.model.proofs.Invariant.Traces.{Trace, t-none, Moves, moves, skip-moves}
 use Rattle.model.proofs.Invariant.Running.{Only, Nobody, fresh, Now, now-goes, now-alt, Inv, runs, idle}
 use Rattle.model.proofs.Invariant.Moving.{other-w, same-leaf, member-cons, member-snoc, member-head, member-last, settled-silent}
-use Rattle.model.proofs.Invariant.Moving.{skips-silent, settled-leaf, sleepers-out}
+use Rattle.model.proofs.Invariant.Moving.{skips-silent, settled-leaf, sleepers-out, settled-off, skips-off}
 use Rattle.model.proofs.Invariant.Reals.{size-is, mirrored, real-state, real-queue, real-memory, links-in}
+use Rattle.model.proofs.Cases.{never}
 
 module _ (L : Loaded) where
   -- a process has settled: the moves that it made, and the invariant. m bytes were left, of which n are now its own instead of k
@@ -71,7 +72,8 @@ module _ (L : Loaded) where
         settled-inv q j sits m stands′
         (rest-then L leaf q m j sits rest refl (λ x l. rest .vars (node L leaf) x (sub .vars-in x l))
         (λ c l. rest .chans (node L leaf) c (sub .chans-in c l)) (sub .live) (λ c l o. absurd (clean c l o))
-        (λ c v k e other r d z y u l. skips-silent sk settled e) (λ c v k e other r d z y u l h o. settled-silent settled e))
+        (λ c v k e other r d z y u l. skips-silent sk settled e) (λ c v k e other r d z y u l h o. settled-silent settled e)
+        (λ e. never (cc (e, skips-off sk settled))) (λ e. never (cc (e, settled-off q settled))))
         (now-goes (fresh L at (cpuOf s .place) (cpuOf s .operand) (stands .inside) (stands .place) (stands .operand))
         (way μ (regsOf (cpuOf s)) (stands .work)) settled (λ c l o. clean c (sub .chans-in c l) o) (omega (arith, stands .place)))
         (skip-moves path (leaf .found) sk) refl
@@ -108,7 +110,7 @@ module _ (L : Loaded) where
   -- a process that can go on gets the processor, whomever it is taken from
   pub gets : {s : World} {st : State} {μ : Mem} {t : Tree (S L) (root L) (st .process)} {path : List ℕ} {q : Process} {b : Part} {i : Info}
       {ws : List ℕ} → Given s μ (i .w) → Real L s st μ ws → Rest L st μ t (Only path) ws → Lined L st t (Only path) ws
-      → LeafAt L st t path q b i → Held (S L) (L .sleeps) b i st μ true q → Got s st (bytesLeft (S L) t)
+      → LeafAt L st t path q b i → Held (S L) (L .times) b i st μ true q → Got s st (bytesLeft (S L) t)
   gets {s} {t = t} {i = i} has real rest lines leaf (h-queued {at} c r h clean) =
       let stands : Stands s i at = record {
         run = has .run;
@@ -128,7 +130,8 @@ module _ (L : Loaded) where
       (runs real (has .run) leaf rest lines
       (now-alt
       (fresh L (at + 2 + sizeEnable gs + 1) (cpuOf s .place) (cpuOf s .operand) near (has .place ∙ r .place) (has .operand))
-      (disable-first (S L) b st (i .w) c (sound-at L rest leaf) same d (has .work)) (omega (arith, r .soon, has .place ∙ r .place))))
+      (disable-first (S L) b (L .times) st (i .w) c (sound-at L rest leaf) same d (has .work))
+      (omega (arith, r .soon, has .place ∙ r .place))))
 
   -- the processor is let go: the front of the queue gets it, or no process runs
   pub data LetGo (s : World) (st : State) (m : ℕ) : Type 0 where
@@ -160,12 +163,12 @@ module _ (L : Loaded) where
             chans = rest .chans;
             live = rest .live;
             leaf = λ {path = other} {q = r} {b = c} {i = j} k n.
-                subst (λ f. Held (S L) (L .sleeps) c j st μ f r)
+                subst (λ f. Held (S L) (L .times) c j st μ f r)
                 (member-cons (j .w) (i .w) ws (λ e. other-w L leaf k n (sym e))) (rest .leaf k (λ o. o));
             par = rest .par;
             sleepers = sleepers-out L (λ other tm k c j l n e.
-                held-awake (S L) (L .sleeps) b i st μ
-                (subst (λ z. Held (S L) (L .sleeps) b i st μ z q) (member-head (i .w) ws) (rest .leaf leaf (λ o. o))) tm k
+                held-awake (S L) (L .times) b i st μ
+                (subst (λ z. Held (S L) (L .times) b i st μ z q) (member-head (i .w) ws) (rest .leaf leaf (λ o. o))) tm k
                 (some-same (sym (leaf .found) ∙ ap (λ z. look z (st .process)) e ∙ l .found)))
                 (λ other tm k c j l n o. o) (rest .sleepers);
           }
@@ -183,7 +186,7 @@ module _ (L : Loaded) where
                 once = a;
               }
 
-      front-goes : Held (S L) (L .sleeps) b i st μ true q → LetGo s st (bytesLeft (S L) t)
+      front-goes : Held (S L) (L .times) b i st μ true q → LetGo s st (bytesLeft (S L) t)
       front-goes held =
           let given : Given front μ (i .w) = record {
             run = refl;
@@ -203,7 +206,7 @@ module _ (L : Loaded) where
           let f : i .w ∷ ws ≡ w ∷ ws = ap (λ z. z ∷ ws) e in
           let rest′ : Rest L st μ t Nobody (i .w ∷ ws) = subst (λ l. Rest L st μ t Nobody l) (sym f) rest in
           front-goes (subst (λ l. Real L s st μ l) (sym f) real) rest′ (subst (λ l. Lined L st t Nobody l) (sym f) lines) leaf
-          (subst (λ z. Held (S L) (L .sleeps) b i st μ z q) (member-head (i .w) ws) (rest′ .leaf leaf (λ o. o)))
+          (subst (λ z. Held (S L) (L .times) b i st μ z q) (member-head (i .w) ws) (rest′ .leaf leaf (λ o. o)))
     ]
 
   -- the memory in which w is linked behind the last of the queue
@@ -225,7 +228,7 @@ module _ (L : Loaded) where
   module _ {s : World} {st : State} {μ : Mem} {t : Tree (S L) (root L) (st .process)} {Out Out′ : List ℕ → Type 0} {ws : List ℕ}
       {path : List ℕ} {q : Process} {b : Part} {i : Info} (real : Real L s st μ ws) (rest : Rest L st μ t Out ws)
       (lines : Lined L st t Out ws)
-      (leaf : LeafAt L st t path q b i) (out : Out path) (held : Held (S L) (L .sleeps) b i st μ true q)
+      (leaf : LeafAt L st t path q b i) (out : Out path) (held : Held (S L) (L .times) b i st μ true q)
       (in-again : (other : List ℕ) → path ≢ other → Out other → Out′ other) (fewer : (other : List ℕ) → Out′ other → Out other)
       (not-out : Out′ path → ⊥) where
     abbrev w : ℕ
@@ -239,14 +242,14 @@ module _ (L : Loaded) where
           live = rest .live;
           leaf = λ {path = other} {q = r} {b = c} {i = j} k n.
               ⊎-elim
-              (λ e. same-leaf L (λ q b (z : Info). Held (S L) (L .sleeps) b z st μ (member (z .w) (ws ++ w ∷ [])) q) e leaf k
-              (subst (λ f. Held (S L) (L .sleeps) b i st μ f q) (sym (member-last w ws)) held))
-              (λ d. subst (λ f. Held (S L) (L .sleeps) c j st μ f r) (sym (member-snoc (j .w) w ws (λ e. other-w L leaf k d (sym e))))
+              (λ e. same-leaf L (λ q b (z : Info). Held (S L) (L .times) b z st μ (member (z .w) (ws ++ w ∷ [])) q) e leaf k
+              (subst (λ f. Held (S L) (L .times) b i st μ f q) (sym (member-last w ws)) held))
+              (λ d. subst (λ f. Held (S L) (L .times) c j st μ f r) (sym (member-snoc (j .w) w ws (λ e. other-w L leaf k d (sym e))))
               (rest .leaf k (λ o. n (in-again other d o)))) (same-path path other);
           par = rest .par;
           sleepers = sleepers-out L (λ other tm k c j l n o. n (fewer other o))
               (λ other tm k c j l n o.
-              ⊎-elim (λ e. held-awake (S L) (L .sleeps) b i st μ held tm k
+              ⊎-elim (λ e. held-awake (S L) (L .times) b i st μ held tm k
               (some-same (sym (leaf .found) ∙ ap (λ z. look z (st .process)) e ∙ l .found))) (λ d. n (in-again other d o))
               (same-path path other)) (rest .sleepers);
         }
@@ -310,7 +313,7 @@ module _ (L : Loaded) where
   -- a process that can go on joins the back of the queue
   pub wakes : {s : World} {st : State} {μ : Mem} {t : Tree (S L) (root L) (st .process)} {Out Out′ : List ℕ → Type 0} {ws : List ℕ}
       {path : List ℕ} {q : Process} {b : Part} {i : Info} → Real L s st μ ws → Rest L st μ t Out ws → Lined L st t Out ws
-      → LeafAt L st t path q b i → Out path → Held (S L) (L .sleeps) b i st μ true q
+      → LeafAt L st t path q b i → Out path → Held (S L) (L .times) b i st μ true q
       → ((other : List ℕ) → path ≢ other → Out other → Out′ other) → ((other : List ℕ) → Out′ other → Out other) → (Out′ path → ⊥)
       → Woken s st μ t Out′ (i .w) ws
   wakes {s} {ws = []} {i = i} real rest lines leaf out held in-again fewer not-out =

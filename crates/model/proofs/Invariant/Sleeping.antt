@@ -3,38 +3,46 @@ use Prim.Native.Nat.{ℕ, _+_, _^_, _≤_, _<_}
 use native.Mathlib.Omega.{arith}
 use mathlib.Core.Path.{_≡_, refl, sym, ap, _∙_, subst}
 use mathlib.Core.Logic.{_≢_, _⊎_, inl, inr, ⊎-elim}
-use mathlib.Core.Bool.{false}
-use mathlib.Core.List.{List, _∷_, List·Memᴰ, List·Memᴰ·tail, List·Memᴰ·cases-cons}
-use Rattle.model.specs.Syntax.{Site}
+use mathlib.Core.Bool.{false, Bool, true}
+use mathlib.Core.List.{List, _∷_, List·Memᴰ, List·Memᴰ·tail, List·Memᴰ·cases-cons, List·Memᴰ·head}
+use Rattle.model.specs.Syntax.{Site, Guards, timed}
 use Rattle.model.specs.Machine.{resumeWord, linkWord, stateWord, timeLinkWord, timeWord, nameOf}
-use Rattle.model.specs.Occam.{Frame, Process, atWait, State, now}
+use Rattle.model.specs.Occam.{Frame, Process, atWait, State, now, atAlt, look}
 use Rattle.model.proofs.Cases.{never}
 use Rattle.model.proofs.Quiet.Ways.{Mem, frontWord, upd, upd-same, upd-other}
-use Rattle.model.proofs.Occam.Paths.{same-path}
+use Rattle.model.proofs.Occam.Paths.{same-path, isAlt}
 use Rattle.model.proofs.Effects.Timers.{Chain, next, Sorted, Once, chain-stable, sorted-stable}
 use Rattle.model.proofs.Words.Parts.{Part}
-use Rattle.model.proofs.Quiet.Marks.{Own}
+use Rattle.model.proofs.Quiet.Marks.{Own, AnyFound, f-first, f-later, finds-present, finds-time, s-none}
 use Rattle.model.proofs.Invariant.Trees.{some-same, Label, parted, alone-parted, Info, Tree, labelAt}
 use Rattle.model.proofs.Invariant.Zones.{zoneOf, zone-under}
-use Rattle.model.proofs.Invariant.Leaves.{member, Asleep, Held, h-asleep, sleeping, held-sleeping, asleep-unqueued}
+use Rattle.model.proofs.Invariant.Leaves.{member, Asleep, Held, h-asleep, sleeping, held-sleeping, asleep-unqueued, Resumes}
+use Rattle.model.proofs.Invariant.Leaves.{h-queued, h-woken, h-wait}
 use Rattle.model.proofs.Invariant.Stays.{Intact, held-stays}
 use Rattle.model.proofs.Invariant.Kernel.{Loaded, S, root, size, LeafAt, NodeAt, Owned, Sleeper, sleeper, Sleepers, Rest, node}
-use Rattle.model.proofs.Invariant.Kernel.{part-small, sits-at}
+use Rattle.model.proofs.Invariant.Kernel.{part-small, sits-at, Dozer, at-wait, in-alt, dozer-out, linked-in, Plain, plain-of}
+use Rattle.model.proofs.Invariant.Kernel.{rest-of}
 use Rattle.model.proofs.Invariant.Grounds.{var-in, chan-in, small-size}
-use Rattle.model.proofs.Invariant.Writes.{apart-zones, time-words, left-out, write-own}
-use Rattle.model.specs.Timer.{Stop}
+use Rattle.model.proofs.Invariant.Writes.{apart-zones, time-words, plain-own}
+use Rattle.model.specs.Timer.{Stop, timeSet, timeNotSet}
 use Rattle.model.proofs.Words.Times.{Near}
 use Rattle.model.proofs.Effects.Walking.{stopIn, stop-link, inserted, linkOf, Fit, inserted-in, in-inserted, once-inserted}
-use Rattle.model.proofs.Effects.Walking.{sorted-inserted, insertedIn, chain-inserted}
+use Rattle.model.proofs.Effects.Walking.{sorted-inserted, insertedIn, chain-inserted, stop-names}
 use mathlib.Core.Option.{none}
 use Rattle.model.proofs.Invariant.Moving.{same-leaf, other-w}
+use Rattle.model.proofs.Quiet.Timing.{Linked, Dozing, no-time, until, Passed, p-unset, p-set, p-linked, least-same, linked-same}
+use Rattle.model.proofs.Quiet.Timing.{onto-same}
+use Rattle.model.proofs.Quiet.Onwards.{marked-same, guarded-fine}
+use Rattle.model.proofs.Quiet.Arrivals.{Comes, comes}
+use Rattle.model.proofs.Quiet.Names.{name-unset}
+use native.Mathlib.Decide.{ℕ-discrete}
 
 module _ (L : Loaded) where
   -- a word that links the timer queue: its front, or the time link of a process in it
-  pub data Spot (st : State) (t : Tree (S L) (root L) (st .process)) (Out : List ℕ → Type 0) : ℕ → Type 0 where
-    at-front : Spot st t Out frontWord
-    behind : {path : List ℕ} {tm : ℕ} {k : List Frame} {b : Part} {i : Info} → LeafAt L st t path (atWait tm k) b i → (Out path → ⊥)
-        → Spot st t Out (timeLinkWord (i .w))
+  pub data Spot (st : State) (t : Tree (S L) (root L) (st .process)) (Out : List ℕ → Type 0) (μ : Mem) : ℕ → Type 0 where
+    at-front : Spot st t Out μ frontWord
+    behind : {path : List ℕ} {q : Process} {b : Part} {i : Info} → LeafAt L st t path q b i → b .bottom + 5 ≤ i .w → Dozer L Out path q
+        → Linked μ (i .w) → Spot st t Out μ (timeLinkWord (i .w))
 
   -- a memory that agrees on the words that are known of a process in it
   asleep-by : {st : State} {μ ν : Mem} {tm : ℕ} {k : List Frame} {b : Part} {i : Info} {hi at : ℕ}
@@ -67,25 +75,94 @@ module _ (L : Loaded) where
       (off (stateWord (i .w)) (λ e. absurd (omega (arith, e, a .space, S L .top-small))))
       (off (timeWord (i .w)) (λ e. absurd (omega (arith, e, a .space, S L .top-small)))) chans a
 
-  module _ {st : State} {μ : Mem} {t : Tree (S L) (root L) (st .process)} {Out : List ℕ → Type 0} {ws : List ℕ}
-      (h : Rest L st μ t Out ws) where
-    -- what is known of a process in it
-    pub asleep-known : {path : List ℕ} {tm : ℕ} {k : List Frame} {b : Part} {i : Info} → LeafAt L st t path (atWait tm k) b i
-        → (Out path → ⊥) → (hi at : ℕ) × Asleep (S L) b i st μ tm k at hi × L .sleeps (i .w) tm (now st)
-    asleep-known {b = b} {i} l n =
-        elim (held-sleeping (S L) (L .sleeps) b i st μ (h .leaf l n)) [ sleeping {hi} {at} a s ↦ (hi, at, a, s) ]
+  -- an ALT in the timer queue keeps what is known of it where its link is another
+  module _ {st : State} (μ : Mem) {t : Tree (S L) (root L) (st .process)} {path : List ℕ} {gs : Guards} {k : List Frame} {b : Part}
+      {i : Info} (l : LeafAt L st t path (atAlt gs k) b i) (z : ℕ) (no-set : z ≢ timeSet) (no-unset : z ≢ timeNotSet)
+      (space : b .bottom + 5 ≤ i .w) (linked : Linked μ (i .w))
+      (off : (c : Site) → List·Memᴰ c (i .chans) → S L .word c ≢ timeLinkWord (i .w)) where
+    abbrev ν₀ : Mem
+    ν₀ = upd μ (timeLinkWord (i .w)) z
 
+    same-at : (v : ℕ) → v ≢ timeLinkWord (i .w) → ν₀ v ≡ μ v
+    same-at v d = upd-other μ (timeLinkWord (i .w)) z v d
+
+    low : i .w ≤ b .top
+    low = sits-at L l .placed .low
+
+    small : b .top ≤ S L .top
+    small = part-small L l
+
+    resume-at : ν₀ (resumeWord (i .w)) ≡ μ (resumeWord (i .w))
+    resume-at = same-at (resumeWord (i .w)) (λ e. absurd (omega (arith, e, space, low, small, S L .top-small)))
+
+    state-at : ν₀ (stateWord (i .w)) ≡ μ (stateWord (i .w))
+    state-at = same-at (stateWord (i .w)) (λ e. absurd (omega (arith, e, space, low, small, S L .top-small)))
+
+    time-at : ν₀ (timeWord (i .w)) ≡ μ (timeWord (i .w))
+    time-at = same-at (timeWord (i .w)) (λ e. absurd (omega (arith, e, space, low, small, S L .top-small)))
+
+    base-at : ν₀ (i .w) ≡ μ (i .w)
+    base-at = same-at (i .w) (λ e. absurd (omega (arith, e, space, low, small, S L .top-small)))
+
+    chan-at : (c : Site) → List·Memᴰ c (i .chans) → ν₀ (S L .word c) ≡ μ (S L .word c)
+    chan-at c m = same-at (S L .word c) (off c m)
+
+    linked-at : Linked ν₀ (i .w)
+    linked-at =
+        let e = upd-same μ (timeLinkWord (i .w)) z in ((λ f. no-set (sym e ∙ f)), (λ f. no-unset (sym e ∙ f)))
+
+    found-at : {hs : Guards} → AnyFound st μ (i .w) hs → AnyFound st ν₀ (i .w) hs
+    found-at (f-first (finds-present h)) = f-first (finds-present h)
+    found-at (f-first (finds-time x y z)) = absurd (linked .0 y)
+    found-at (f-later h) = f-later (found-at h)
+
+    dozing-at : Dozing (L .times) st gs μ (i .w) → Dozing (L .times) st gs ν₀ (i .w)
+    dozing-at (no-time e n) = absurd (linked .1 e)
+    dozing-at (until x m) = until linked-at (least-same (L .times) st time-at m)
+
+    passed-at : {hs : Guards} → Passed (L .times) st gs hs μ (i .w) → Passed (L .times) st gs hs ν₀ (i .w)
+    passed-at (p-unset e) = absurd (linked .1 e)
+    passed-at (p-set e h) = absurd (linked .0 e)
+    passed-at (p-linked x u m) = p-linked linked-at u m
+
+    resumes-at : {at hi : ℕ} → Resumes (S L) b i st μ at hi → Resumes (S L) b i st ν₀ at hi
+    resumes-at r = record { place = resume-at ∙ r .place; soon = r .soon }
+
+    relinked-held : {f : Bool} → Held (S L) (L .times) b i st μ f (atAlt gs k) → Held (S L) (L .times) b i st ν₀ f (atAlt gs k)
+    relinked-held (h-queued c r h u) = absurd (no-alt c)
+      where
+        no-alt : {hi at w : ℕ} {gs : Guards} {k : List Frame} {vars chans : List Site} → Comes (S L) b (st .store) vars chans hi
+            (atAlt gs k) at w → ⊥
+        no-alt (comes s-none settled sub way) = settled
+    relinked-held (h-woken c r s d) =
+        h-woken c (resumes-at r) (state-at ∙ s)
+        (record {
+          marks = marked-same (S L) b st (i .vars) (i .chans) gs μ ν₀ (i .w) chan-at (d .marks);
+          state = state-at ∙ d .state;
+          chosen = ⊎-elim (λ x. let (t, p, y, z) = x in inl (t, p, y, base-at ∙ z)) (λ x. inr (base-at ∙ x .0, found-at (x .1)))
+              (d .chosen);
+          times = λ e. passed-at (d .times e);
+          known = d .known;
+        })
+    relinked-held (h-wait c r s v m n x y g) =
+        h-wait c (resumes-at r) (state-at ∙ s) (base-at ∙ v)
+        (λ d e. chan-at d (guarded-fine (S L .word) b (i .vars) (i .chans) (i .w + 1) e (c .fine .1) .0) ∙ m d e) n
+        (marked-same (S L) b st (i .vars) (i .chans) gs μ ν₀ (i .w) chan-at x) (λ e. dozing-at (y e)) g
+
+  module _ {st : State} {μ : Mem} {t : Tree (S L) (root L) (st .process)} {Out : List ℕ → Type 0} {ws : List ℕ}
+      (h : Plain L st μ t Out ws) where
+    -- what is known of a process in it that waits for the clock
     pub asleep-at : {path : List ℕ} {tm : ℕ} {k : List Frame} {b : Part} {i : Info} → LeafAt L st t path (atWait tm k) b i
         → (Out path → ⊥) → (hi at : ℕ) × Asleep (S L) b i st μ tm k at hi
-    asleep-at l n = let (hi, at, a, s) = asleep-known l n in (hi, at, a)
+    asleep-at {b = b} {i} l n =
+        elim (held-sleeping (S L) (L .times) b i st μ (h .leaf l n)) [ sleeping {hi} {at} a ↦ (hi, at, a) ]
 
     -- it is no name's word
-    off-vars : {v : ℕ} → Spot st t Out v → {other : List ℕ} {l : Label} → NodeAt L st t other l → (x : Site)
+    off-vars : {v : ℕ} → Spot st t Out μ v → {other : List ℕ} {l : Label} → NodeAt L st t other l → (x : Site)
         → List·Memᴰ x (zoneOf l .vars) → S L .word x ≢ v
     off-vars at-front n x m e = absurd (omega (arith, var-in L n x m, small-size L))
-    off-vars (behind {path} {i = i} k out) {other} n x m e =
-        let (hi, at, a) = asleep-at k out in
-        let words = time-words L k a in
+    off-vars (behind {path} {i = i} k space d₀ z₀) {other} n x m e =
+        let words = time-words L k space in
         ⊎-elim
         (λ p.
         let mine = subst (λ z. List·Memᴰ x (zoneOf z .vars)) (some-same (sym (n .label) ∙ ap (labelAt (S L) t) (sym p) ∙ k .label)) m in
@@ -93,19 +170,18 @@ module _ (L : Loaded) where
           arith,
           e,
           sits-at L k .placed .scoped .vars-above x mine,
-          a .space,
+          space,
           sits-at L k .placed .low,
           part-small L k,
           S L .top-small,
         )))
         (λ d. apart-zones L d (node L k) n .vars-in x m (omega (arith, e, words .0), omega (arith, e, words .1))) (same-path path other)
 
-    off-chans : {v : ℕ} → Spot st t Out v → {other : List ℕ} {l : Label} → NodeAt L st t other l → (c : Site)
+    pub off-chans : {v : ℕ} → Spot st t Out μ v → {other : List ℕ} {l : Label} → NodeAt L st t other l → (c : Site)
         → List·Memᴰ c (zoneOf l .chans) → S L .word c ≢ v
     off-chans at-front n c m e = absurd (omega (arith, chan-in L n c m, small-size L))
-    off-chans (behind {path} {i = i} k out) {other} n c m e =
-        let (hi, at, a) = asleep-at k out in
-        let words = time-words L k a in
+    off-chans (behind {path} {i = i} k space d₀ z₀) {other} n c m e =
+        let words = time-words L k space in
         ⊎-elim
         (λ p.
         let mine = subst (λ z. List·Memᴰ c (zoneOf z .chans)) (some-same (sym (n .label) ∙ ap (labelAt (S L) t) (sym p) ∙ k .label)) m in
@@ -113,7 +189,7 @@ module _ (L : Loaded) where
           arith,
           e,
           sits-at L k .placed .scoped .chans-above c mine,
-          a .space,
+          space,
           sits-at L k .placed .low,
           part-small L k,
           S L .top-small,
@@ -121,14 +197,13 @@ module _ (L : Loaded) where
         (λ d. apart-zones L d (node L k) n .chans-in c m (omega (arith, e, words .0), omega (arith, e, words .1))) (same-path path other)
 
     -- nor a PAR's
-    off-par : {v : ℕ} → Spot st t Out v → {other : List ℕ} {a : Part} {vs cs : List Site} {w onward : ℕ}
+    off-par : {v : ℕ} → Spot st t Out μ v → {other : List ℕ} {a : Part} {vs cs : List Site} {w onward : ℕ}
         → NodeAt L st t other (parted a vs cs w onward) → (w ≢ v) × (w + 1 ≢ v)
     off-par at-front {other} n =
         let under = zone-under (S L) t other (n .label) .below in
         ((λ e. absurd (omega (arith, under, S L .top-small))), (λ e. absurd (omega (arith, under, S L .top-small))))
-    off-par (behind {path} {i = i} k out) {other} {w = w} n =
-        let (hi, at, a) = asleep-at k out in
-        let words = time-words L k a in
+    off-par (behind {path} {i = i} k space d₀ z₀) {other} {w = w} n =
+        let words = time-words L k space in
         let d : path ≢ other = λ p. never (alone-parted (some-same (sym (n .label) ∙ ap (labelAt (S L) t) (sym p) ∙ k .label))) in
         let far = apart-zones L d (node L k) n in (
           (λ e. far .words w (omega (arith, e, words .0), omega (arith, e, words .1)) (omega arith, omega arith)),
@@ -136,7 +211,7 @@ module _ (L : Loaded) where
         )
 
     -- a process sees nothing of it but where it is that one
-    spot-intact : {v : ℕ} (z : ℕ) → Spot st t Out v → {other : List ℕ} {q : Process} {b : Part} {i : Info} → LeafAt L st t other q b i
+    spot-intact : {v : ℕ} (z : ℕ) → Spot st t Out μ v → {other : List ℕ} {q : Process} {b : Part} {i : Info} → LeafAt L st t other q b i
         → ((a : ℕ) → b .bottom ≤ a → a < b .top → a ≢ v) → Intact (S L) b i (linkWord (i .w)) st st μ (upd μ v z)
     spot-intact {v} z spot k off =
         record {
@@ -147,71 +222,99 @@ module _ (L : Loaded) where
           none-sends = λ c m g o s. s;
         }
 
-    -- what is known of that one does not speak of the link
-    asleep-relinked : {path : List ℕ} {tm : ℕ} {k : List Frame} {b : Part} {i : Info} (z : ℕ) → LeafAt L st t path (atWait tm k) b i
-        → (Out path → ⊥) → {hi at : ℕ} → Asleep (S L) b i st μ tm k at hi
-        → Asleep (S L) b i st (upd μ (timeLinkWord (i .w)) z) tm k at hi
-    asleep-relinked {i = i} z l n a =
-        asleep-linked l z (λ c m. upd-other μ (timeLinkWord (i .w)) z (S L .word c) (off-chans (behind l n) (node L l) c m)) a
+    -- names in scope of a process are above its time words
+    off-words : {path : List ℕ} {q : Process} {b : Part} {i : Info} → LeafAt L st t path q b i → b .bottom + 5 ≤ i .w → (c : Site)
+        → List·Memᴰ c (i .chans) → S L .word c ≢ timeLinkWord (i .w)
+    off-words l space c m e =
+        absurd (omega (
+          arith,
+          e,
+          sits-at L l .placed .scoped .chans-above c m,
+          space,
+          sits-at L l .placed .low,
+          part-small L l,
+          S L .top-small,
+        ))
+
+    -- one that waits for the clock; what is known of it does not speak of the link
+    held-wait : {path : List ℕ} {tm : ℕ} {k : List Frame} {b : Part} {i : Info} (z : ℕ) → LeafAt L st t path (atWait tm k) b i
+        → (Out path → ⊥) → b .bottom + 5 ≤ i .w
+        → Held (S L) (L .times) b i st (upd μ (timeLinkWord (i .w)) z) (member (i .w) ws) (atWait tm k)
+    held-wait {tm = tm} {k} {b} {i} z l n space =
+        let held = h .leaf l n in
+        let off = off-words l space in
+        elim (held-sleeping (S L) (L .times) b i st μ held) [
+          | sleeping a ↦
+              subst (λ f. Held (S L) (L .times) b i st (upd μ (timeLinkWord (i .w)) z) f (atWait tm k))
+              (sym (asleep-unqueued (S L) (L .times) b i st μ held))
+              (h-asleep (asleep-linked l z (λ c m. upd-other μ (timeLinkWord (i .w)) z (S L .word c) (off c m)) a))
+        ]
+
+    -- one in an ALT: the link is another
+    held-alt : {path : List ℕ} {gs : Guards} {k : List Frame} {b : Part} {i : Info} (z : ℕ) → z ≢ timeSet → z ≢ timeNotSet
+        → LeafAt L st t path (atAlt gs k) b i → (Out path → ⊥) → b .bottom + 5 ≤ i .w → timed gs ≡ true → Linked μ (i .w)
+        → Held (S L) (L .times) b i st (upd μ (timeLinkWord (i .w)) z) (member (i .w) ws) (atAlt gs k)
+    held-alt {gs = gs} {k} {b} {i} z no-set no-unset l n space timed-gs linked =
+        relinked-held μ l z no-set no-unset space linked (off-words l space) (h .leaf l n)
 
     -- one that is not left out keeps what is known of it
-    held-relinked : {v : ℕ} (z : ℕ) → Spot st t Out v → {other : List ℕ} {q : Process} {b : Part} {i : Info} → LeafAt L st t other q b i
-        → (Out other → ⊥) → Held (S L) (L .sleeps) b i st (upd μ v z) (member (i .w) ws) q
-    held-relinked z at-front {b = b} {i} k n =
+    held-relinked : {v : ℕ} (z : ℕ) → z ≢ timeSet → z ≢ timeNotSet → Spot st t Out μ v → {other : List ℕ} {q : Process} {b : Part}
+        {i : Info} → LeafAt L st t other q b i
+        → (Out other → ⊥) → Held (S L) (L .times) b i st (upd μ v z) (member (i .w) ws) q
+    held-relinked z no-set no-unset at-front {b = b} {i} k n =
         let small = part-small L k in
         held-stays (S L) b i (omega (arith, small, S L .top-small)) (sits-at L k)
-        (spot-intact z at-front k (λ a lo hi e. absurd (omega (arith, e, small, S L .top-small)))) (λ t s. s) (h .leaf k n)
-    held-relinked z (behind {path} {i = me} l out) {other} {q} {b} {i} k n =
-        let (hi, at, a) = asleep-at l out in
-        let words = time-words L l a in
+        (spot-intact z at-front k (λ a lo hi e. absurd (omega (arith, e, small, S L .top-small)))) (onto-same refl) (h .leaf k n)
+    held-relinked z no-set no-unset (behind {path} {q = p} {i = me} l space d₀ z₀) {other} {q} {b} {i} k n =
+        let words = time-words L l space in
         ⊎-elim
         (λ e.
-        same-leaf L (λ q b (j : Info). Held (S L) (L .sleeps) b j st (upd μ (timeLinkWord (me .w)) z) (member (j .w) ws) q) e l k
-        (that-one l out))
+        same-leaf L (λ q b (j : Info). Held (S L) (L .times) b j st (upd μ (timeLinkWord (me .w)) z) (member (j .w) ws) q) e l k
+        (that-one l space d₀ z₀ (λ o. n (subst Out e o))))
         (λ d.
         let far = apart-zones L d (node L l) (node L k) in
         held-stays (S L) b i (omega (arith, part-small L k, S L .top-small)) (sits-at L k)
-        (spot-intact z (behind l out) k (λ u lo hi e. far .words u (omega (arith, e, words .0), omega (arith, e, words .1)) (lo, hi)))
-        (λ t s. s) (h .leaf k n)) (same-path path other)
+        (spot-intact z (behind l space d₀ z₀) k
+        (λ u lo hi e. far .words u (omega (arith, e, words .0), omega (arith, e, words .1)) (lo, hi)))
+        (onto-same refl) (h .leaf k n)) (same-path path other)
       where
-        that-one : {path : List ℕ} {tm : ℕ} {k : List Frame} {b : Part} {i : Info} → LeafAt L st t path (atWait tm k) b i → (Out path → ⊥)
-            → Held (S L) (L .sleeps) b i st (upd μ (timeLinkWord (i .w)) z) (member (i .w) ws) (atWait tm k)
-        that-one {tm = tm} {k} {b} {i} l n =
-            let held = h .leaf l n in
-            elim (held-sleeping (S L) (L .sleeps) b i st μ held) [
-              | sleeping a s ↦
-                  subst (λ f. Held (S L) (L .sleeps) b i st (upd μ (timeLinkWord (i .w)) z) f (atWait tm k))
-                  (sym (asleep-unqueued (S L) (L .sleeps) b i st μ held)) (h-asleep (asleep-relinked z l n a) s)
-            ]
+        that-one : {path : List ℕ} {q : Process} {b : Part} {i : Info} → LeafAt L st t path q b i → b .bottom + 5 ≤ i .w
+            → Dozer L Out path q → Linked μ (i .w) → (Out path → ⊥)
+            → Held (S L) (L .times) b i st (upd μ (timeLinkWord (i .w)) z) (member (i .w) ws) q
+        that-one l space (at-wait u) k n = held-wait z l n space
+        that-one l space (in-alt x) k n = held-alt z no-set no-unset l n space x k
 
     -- the word leads elsewhere, and some processes come in or are left out
-    pub rest-relinked : {v : ℕ} (z : ℕ) → Spot st t Out v → {Out′ : List ℕ → Type 0}
+    pub plain-relinked : {v : ℕ} (z : ℕ) → z ≢ timeSet → z ≢ timeNotSet → Spot st t Out μ v → {Out′ : List ℕ → Type 0}
         → ((other : List ℕ) (q : Process) (b : Part) (i : Info) → LeafAt L st t other q b i → (Out′ other → ⊥)
-        → (Out other → ⊥) ⊎ Held (S L) (L .sleeps) b i st (upd μ v z) (member (i .w) ws) q)
-        → Sleepers L st (upd μ v z) t Out′ → Rest L st (upd μ v z) t Out′ ws
-    rest-relinked {v} z spot known sleepers =
+        → (Out other → ⊥) ⊎ Held (S L) (L .times) b i st (upd μ v z) (member (i .w) ws) q)
+        → Plain L st (upd μ v z) t Out′ ws
+    plain-relinked {v} z no-set no-unset spot known =
         record {
           vars = λ n x m. let (e, s) = h .vars n x m in (e ∙ sym (upd-other μ v z (S L .word x) (off-vars spot n x m)), s);
           chans = λ n c m.
               let e = upd-other μ v z (S L .word c) (off-chans spot n c m) in
               ⊎-elim (λ f. inl (e ∙ f)) (λ o. inr (subst (Owned L st t c) (sym e) o)) (h .chans n c m);
           live = h .live;
-          leaf = λ k n. ⊎-elim (λ m. held-relinked z spot k m) (λ g. g) (known _ _ _ _ k n);
+          leaf = λ k n. ⊎-elim (λ m. held-relinked z no-set no-unset spot k m) (λ g. g) (known _ _ _ _ k n);
           par = λ {w = w} e n.
               let (a, b) = h .par e n in
               let (f, g) = off-par spot n in
               (upd-other μ v z w f ∙ a, upd-other μ v z (w + 1) g ∙ b);
-          sleepers = sleepers;
         }
 
-    -- the first of the timer queue leaves it, and is left out
+  module _ {st : State} {μ : Mem} {t : Tree (S L) (root L) (st .process)} {Out : List ℕ → Type 0} {ws : List ℕ}
+      (h : Rest L st μ t Out ws) where
+    -- the first of the timer queue, which waits for the clock, leaves it, and is left out
     pub rest-unlinked : {path : List ℕ} {tm : ℕ} {k : List Frame} {b : Part} {i : Info} → LeafAt L st t path (atWait tm k) b i
         → (Out path → ⊥) → (ts : List ℕ) → h .sleepers .asleep ≡ i .w ∷ ts
-        → (r : Rest L st (upd μ frontWord (μ (timeLinkWord (i .w)))) t (λ other. Out other ⊎ (path ≡ other)) ws) ×
-        (r .sleepers .asleep ≡ ts)
-    unfolding rest-relinked
+        → (r : Rest L st (upd μ frontWord (μ (timeLinkWord (i .w)))) t (λ other. Out other ⊎ (path ≡ other)) ws)
+        × (r .sleepers .asleep ≡ ts)
     rest-unlinked {path} {i = i} l out ts e =
-        (rest-relinked z at-front (λ other q b i k n. inl (λ o. n (inl o))) queue, refl)
+        let (no-set, no-unset) = linked-in L h (i .w) (subst (List·Memᴰ (i .w)) (sym e) (List·Memᴰ·head refl)) in (
+          rest-of L (plain-relinked (plain-of L h) z no-set no-unset at-front (λ other q b i k n. inl (λ o. n (inl o)))) queue,
+          refl,
+        )
       where
         z : ℕ
         z = μ (timeLinkWord (i .w))
@@ -236,8 +339,9 @@ module _ (L : Loaded) where
 
         each : (w : ℕ) → List·Memᴰ w ts → Sleeper L st t (λ other. Out other ⊎ (path ≡ other)) w
         each w m = elim (old .each w (member-of w m)) [
-          | sleeper {path = other} {i = j} k f n ↦ sleeper k f (λ o. ⊎-elim n (λ p.
-              once .0 w m (same-leaf L (λ q b (y : Info). i .w ≡ y .w) p l k refl ∙ f)) o)
+          | sleeper {path = other} {i = j} k f a d ↦
+              sleeper k f a (dozer-out L (λ tm g e n o. ⊎-elim n
+              (λ p. once .0 w m (same-leaf L (λ q b (y : Info). i .w ≡ y .w) p l k refl ∙ f)) o) d)
         ]
 
         queue : Sleepers L st (upd μ frontWord z) t (λ other. Out other ⊎ (path ≡ other))
@@ -249,42 +353,51 @@ module _ (L : Loaded) where
                   sorted-stable μ (upd μ frontWord z) (now st) ts (λ w m. times w) (subst (Sorted (now st) μ) e (old .sorted o) .1);
               once = once .1;
               each = each;
-              all = λ {path = other} {i = j} k n.
-                  ⊎-elim (λ f. absurd (other-w L l k (λ p. n (inr p)) (sym f))) (λ m. m)
-                  (List·Memᴰ·cases-cons (subst (List·Memᴰ (j .w)) e (old .all k (λ o. n (inl o)))));
+              known = λ w m.
+                  let (a, b) = old .known w (member-of w m) in
+                  (subst (λ n. n < 2 ^ 32) (sym (times w)) a, subst (λ n. L .sleeps w n (now st)) (sym (times w)) b);
+              all = λ {path = other} {i = j} k a d f.
+                  ⊎-elim (λ g. absurd (other-w L l k (not-that k d) (sym g))) (λ m. m)
+                  (List·Memᴰ·cases-cons (subst (List·Memᴰ (j .w)) e
+                  (old .all k a (dozer-out L (λ tm g e n o. n (inl o)) d)
+                  (λ x. linked-same (L .times) st (upd μ frontWord z) μ (j .w) (sym (same (j .w))) (f x)))));
             }
+          where
+            not-that : {other : List ℕ} {q : Process} {b : Part} {j : Info} → LeafAt L st t other q b j
+                → Dozer L (λ o. Out o ⊎ (path ≡ o)) other q → path ≢ other
+            not-that k (at-wait n) p = n (inr p)
+            not-that k (in-alt x) p = never (cc (some-same (sym (l .found) ∙ ap (λ z. look z (st .process)) p ∙ k .found)))
 
-    -- a word of one that is left out is no word that links
-    spot-off : {v : ℕ} → Spot st t Out v → {other : List ℕ} {q : Process} {b : Part} {i : Info} → LeafAt L st t other q b i → Out other
-        → (a : ℕ) → b .bottom ≤ a → a < b .top → a ≢ v
-    spot-off at-front k o a lo hi e = absurd (omega (arith, e, part-small L k, S L .top-small))
-    spot-off (behind l n) k o a lo hi e =
-        let (far, at, y) = asleep-at l n in
-        let words = time-words L l y in
-        apart-zones L (λ p. n (subst Out (sym p) o)) (node L l) (node L k) .words a (omega (arith, e, words .0), omega (arith, e, words .1))
-        (lo, hi)
+    -- a word of one that is left out and not in an ALT, or none of its time links, is no word that links
+    spot-off : {v : ℕ} → Spot st t Out μ v → {other : List ℕ} {q : Process} {b : Part} {i : Info} → LeafAt L st t other q b i
+        → isAlt q ≡ false → Out other → (a : ℕ) → b .bottom ≤ a → a < b .top → a ≢ v
+    spot-off at-front k un o a lo hi e = absurd (omega (arith, e, part-small L k, S L .top-small))
+    spot-off (behind {path} l space d z₀) {other} k un o a lo hi e =
+        let words = time-words L l space in
+        ⊎-elim (λ p. not-it p l d) (λ u. apart-zones L u (node L l) (node L k) .words a
+        (omega (arith, e, words .0), omega (arith, e, words .1))
+        (lo, hi)) (same-path path other)
+      where
+        not-it : {p : List ℕ} {q : Process} {b : Part} {i : Info} → p ≡ other → LeafAt L st t p q b i → Dozer L Out p q → ⊥
+        not-it p l (at-wait n) = n (subst Out (sym p) o)
+        not-it p l (in-alt x) =
+            never (cc (un, ap isAlt (some-same (sym (k .found) ∙ ap (λ z. look z (st .process)) (sym p) ∙ l .found)), x))
 
     -- what a walk finds: workspaces with time words in memory
     pub fits : (v : ℕ) → List·Memᴰ v (h .sleepers .asleep) → Fit (size L) v
     fits v m = elim (h .sleepers .each v m) [
-      | sleeper l e n ↦
-          let (hi, at, a) = asleep-at l n in
+      | sleeper l e a d ↦
           let low = sits-at L l .placed .low in
           record {
             small = omega (arith, e, low, part-small L l, small-size L);
-            space = omega (arith, e, a .space);
+            space = omega (arith, e, a);
             inside = omega (arith, e, low, part-small L l);
           }
     ]
 
-    pub times-near : L .ordered → (v : ℕ) → List·Memᴰ v (h .sleepers .asleep)
+    pub times-near : L .times .sure → (v : ℕ) → List·Memᴰ v (h .sleepers .asleep)
         → (μ (timeWord v) < 2 ^ 32) × Near (now st) (μ (timeWord v))
-    times-near o v m = elim (h .sleepers .each v m) [
-      | sleeper {tm = tm} {i = i} l e n ↦
-          let (hi, at, a, s) = asleep-known l n in
-          let is : μ (timeWord v) ≡ tm = ap (λ z. μ (timeWord z)) (sym e) ∙ a .time-is in
-          (omega (arith, is, a .small), subst (Near (now st)) (sym is) (L .sleeps-near o (i .w) tm (now st) s))
-    ]
+    times-near o v m = let (a, b) = h .sleepers .known v m in (a, L .sleeps-near o v (μ (timeWord v)) (now st) b)
 
     pub links-apart : (u v : ℕ) → List·Memᴰ u (h .sleepers .asleep) → List·Memᴰ v (h .sleepers .asleep)
         → timeLinkWord u ≡ timeLinkWord v → u ≡ v
@@ -293,13 +406,11 @@ module _ (L : Loaded) where
         let g = fits v n in
         omega (arith, e, f .small, f .space, g .small, g .space)
 
-    times-off : (u v : ℕ) → List·Memᴰ u (h .sleepers .asleep) → List·Memᴰ v (h .sleepers .asleep) → timeWord v ≢ timeLinkWord u
+    pub times-off : (u v : ℕ) → List·Memᴰ u (h .sleepers .asleep) → List·Memᴰ v (h .sleepers .asleep) → timeWord v ≢ timeLinkWord u
     times-off u v m n z = by (h .sleepers .each u m) (h .sleepers .each v n)
       where
         by : Sleeper L st t Out u → Sleeper L st t Out v → ⊥
-        by (sleeper {path} {i = i} l e o) (sleeper {path = other} {i = j} l₂ e₂ o₂) =
-            let (hi, at, a) = asleep-at l o in
-            let (hi₂, at₂, a₂) = asleep-at l₂ o₂ in
+        by (sleeper {path} {i = i} l e a d) (sleeper {path = other} {i = j} l₂ e₂ a₂ d₂) =
             let words = time-words L l a in
             let words₂ = time-words L l₂ a₂ in
             ⊎-elim
@@ -309,13 +420,12 @@ module _ (L : Loaded) where
             (λ d. apart-zones L d (node L l) (node L l₂) .words (timeLinkWord (i .w)) (words .0, words .1)
             (omega (arith, z, e, e₂, words₂ .2), omega (arith, z, e, e₂, words₂ .3))) (same-path path other)
 
-  -- a process that waits for the clock goes into the timer queue, and is left out no more
-  module _ {st : State} {μ : Mem} {t : Tree (S L) (root L) (st .process)} {Out Out′ : List ℕ → Type 0} {ws : List ℕ}
-      (h : Rest L st μ t Out ws) {path : List ℕ} {tm : ℕ} {k : List Frame} {b : Part} {i : Info}
-      (leaf : LeafAt L st t path (atWait tm k) b i)
-      (out : Out path) (more : (other : List ℕ) → path ≢ other → Out other → Out′ other) (fewer : (other : List ℕ) → Out′ other → Out other)
-      (not-out : Out′ path → ⊥) {hi at : ℕ} (a : Asleep (S L) b i st μ tm k at hi) (known : L .sleeps (i .w) tm (now st))
-      (clock-word : now st < 2 ^ 32) (unqueued : member (i .w) ws ≡ false) where
+  -- a process goes into the timer queue with the time in its word, and is left out no more
+  module _ {st : State} {μ : Mem} {t : Tree (S L) (root L) (st .process)} {Out : List ℕ → Type 0} {ws : List ℕ}
+      (h : Rest L st μ t Out ws) {path : List ℕ} {q : Process} {b : Part} {i : Info} (leaf : LeafAt L st t path q b i)
+      (out : Out path) (space : b .bottom + 5 ≤ i .w) (absent : (v : ℕ) → List·Memᴰ v (h .sleepers .asleep) → i .w ≢ v)
+      (tm : ℕ) (time-is : μ (timeWord (i .w)) ≡ tm) (tm-small : tm < 2 ^ 32) (knows : L .sleeps (i .w) tm (now st))
+      (clock-word : now st < 2 ^ 32) where
     abbrev w : ℕ
     w = i .w
 
@@ -335,8 +445,8 @@ module _ (L : Loaded) where
 
     own-words : (b .bottom ≤ timeLinkWord w) × (timeLinkWord w < b .top) × (timeLinkWord w < w)
     own-words =
-        let words = time-words L leaf a in
-        (words .0, words .1, omega (arith, a .space, sits-at L leaf .placed .low, part-small L leaf, S L .top-small))
+        let words = time-words L leaf space in
+        (words .0, words .1, omega (arith, space, sits-at L leaf .placed .low, part-small L leaf, S L .top-small))
 
     vars-off : (x : Site) → List·Memᴰ x (i .vars) → S L .word x ≢ timeLinkWord w
     vars-off x m e = absurd (omega (arith, e, sits-at L leaf .placed .scoped .vars-above x m, own-words .2))
@@ -344,80 +454,158 @@ module _ (L : Loaded) where
     chans-off : (c : Site) → List·Memᴰ c (i .chans) → S L .word c ≢ timeLinkWord w
     chans-off c m e = absurd (omega (arith, e, sits-at L leaf .placed .scoped .chans-above c m, own-words .2))
 
-    rest-own : Rest L st ν t Out ws
-    rest-own = write-own L leaf h (timeLinkWord w) (place .at) (own-words .0) (own-words .1) vars-off chans-off (left-out out)
-
-    new : (v : ℕ) → List·Memᴰ v ts → w ≢ v
-    new v m e = elim (h .sleepers .each v m) [
-      | sleeper l f n ↦ other-w L leaf l (λ p. n (subst Out p out)) (e ∙ sym f)
-    ]
-
     -- the word that leads to it then
-    pub spot : Spot st t Out (linkOf (place .before))
-    spot = stop-link μ tm none ts (Spot st t Out) at-front (λ v m. elim (h .sleepers .each v m) [
-      | sleeper l e n ↦ subst (λ z. Spot st t Out (timeLinkWord z)) e (behind l n)
+    pub spot : Spot st t Out μ (linkOf (place .before))
+    spot = stop-link μ tm none ts (Spot st t Out μ) at-front (λ v m. elim (h .sleepers .each v m) [
+      | sleeper l e a d ↦
+          subst (λ z. Spot st t Out μ (timeLinkWord z)) e (behind l a d (subst (Linked μ) (sym e) (linked-in L h v m)))
     ])
 
+    -- that word is in no part of its own
     off-spot : (v : ℕ) → b .bottom ≤ v → v < b .top → v ≢ linkOf (place .before)
-    off-spot v lo hi = spot-off h spot leaf out v lo hi
+    off-spot v lo hi = stop-link μ tm none ts (λ z. v ≢ z) (λ e. absurd (omega (arith, e, hi, part-small L leaf, S L .top-small)))
+        (λ u m. elim (h .sleepers .each u m) [
+          | sleeper {path = other} l e a d ↦ λ f.
+              let words = time-words L l a in
+              ⊎-elim (λ p. absent u m (same-leaf L (λ q b (y : Info). y .w ≡ u) (sym p) l leaf e))
+              (λ c. apart-zones L c (node L leaf) (node L l) .words v (lo, hi)
+              (omega (arith, f, e, words .0), omega (arith, f, e, words .1)))
+              (same-path path other)
+        ])
 
-    -- what is known of it, and of its time
-    asleep : Asleep (S L) b i st η tm k at hi
-    asleep =
-        let low = sits-at L leaf .placed .low in
-        let small = part-small L leaf in
-        let same : (v : ℕ) → b .bottom ≤ v → v < b .top → η v ≡ ν v =
-        λ v lo hi. upd-other ν (linkOf (place .before)) (nameOf w) v (off-spot v lo hi) in
-        asleep-by
-        (same (resumeWord w) (omega (arith, a .space, S L .top-small)) (omega (arith, a .space, S L .top-small)))
-        (same (stateWord w) (omega (arith, a .space, S L .top-small)) (omega (arith, a .space, S L .top-small)))
-        (same (timeWord w) (omega (arith, a .space, S L .top-small)) (omega (arith, a .space, S L .top-small)))
-        (λ c m. upd-other ν (linkOf (place .before)) (nameOf w) (S L .word c) (off-chans h spot (node L leaf) c m))
-        (asleep-linked leaf (place .at) (λ c m. upd-other μ (timeLinkWord w) (place .at) (S L .word c) (chans-off c m)) a)
+    -- its own words stay but its link, and the words of channels
+    pub own-stays : (v : ℕ) → b .bottom ≤ v → v < b .top → v ≢ timeLinkWord w → η v ≡ μ v
+    own-stays v lo hi d =
+        upd-other ν (linkOf (place .before)) (nameOf w) v (off-spot v lo hi) ∙ upd-other μ (timeLinkWord w) (place .at) v d
+
+    spot-then : Spot st t Out ν (linkOf (place .before))
+    spot-then = stop-link μ tm none ts (Spot st t Out ν) at-front (λ v m. elim (h .sleepers .each v m) [
+      | sleeper {path = other} l e a d ↦
+          let words = time-words L l a in
+          let far : timeLinkWord v ≢ timeLinkWord w = λ f.
+          absent v m (sym (omega (
+            arith,
+            f,
+            e,
+            a,
+            space,
+            sits-at L l .placed .low,
+            part-small L l,
+            sits-at L leaf .placed .low,
+            part-small L leaf,
+            S L .top-small,
+          ))) in
+          subst (λ z. Spot st t Out ν (timeLinkWord z)) e (behind l a d (subst (Linked ν) (sym e)
+          (linked-same (L .times) st μ ν v (upd-other μ (timeLinkWord w) (place .at) (timeLinkWord v) far) (linked-in L h v m))))
+    ])
+
+    pub chan-stays : (c : Site) → List·Memᴰ c (i .chans) → η (S L .word c) ≡ μ (S L .word c)
+    chan-stays c m =
+        upd-other ν (linkOf (place .before)) (nameOf w) (S L .word c) (off-chans (plain-of L h) spot (node L leaf) c m)
+        ∙ upd-other μ (timeLinkWord w) (place .at) (S L .word c) (chans-off c m)
+
+    -- its link is one
+    at-link : (place .at ≢ timeSet) × (place .at ≢ timeNotSet)
+    at-link = stop-names μ tm none ts (λ v m. fits h v m .small)
+
+    pub linked-then : Linked η w
+    linked-then =
+        let e : η (timeLinkWord w) ≡ place .at =
+        upd-other ν (linkOf (place .before)) (nameOf w) (timeLinkWord w) (off-spot (timeLinkWord w) (own-words .0) (own-words .1))
+        ∙ upd-same μ (timeLinkWord w) (place .at) in
+        ((λ f. at-link .0 (sym e ∙ f)), (λ f. at-link .1 (sym e ∙ f)))
 
     -- time words are no link words
     times-same : (v : ℕ) → List·Memᴰ v ts → η (timeWord v) ≡ μ (timeWord v)
     times-same v m = elim (h .sleepers .each v m) [
-      | sleeper l e n ↦
-          let (hi, at, y) = asleep-at h l n in
-          let words = time-words L l y in
-          let d : path ≢ _ = λ p. n (subst Out p out) in
-          let far = apart-zones L d (node L leaf) (node L l) in
+      | sleeper {path = other} l e a d ↦
+          let words = time-words L l a in
           upd-other ν (linkOf (place .before)) (nameOf w) (timeWord v)
           (stop-link μ tm none ts (λ z. timeWord v ≢ z) (λ z. absurd (omega (arith, z))) (λ u o. times-off h u v o m))
           ∙ upd-other μ (timeLinkWord w) (place .at) (timeWord v)
-          (λ z. far .words (timeLinkWord w) (own-words .0, own-words .1) (omega (arith, z, e, words .2), omega (arith, z, e, words .3)))
+          (λ z. ⊎-elim (λ p. absent v m (same-leaf L (λ q b (y : Info). y .w ≡ v) (sym p) l leaf e))
+          (λ c. apart-zones L c (node L leaf) (node L l) .words (timeLinkWord w) (own-words .0, own-words .1)
+          (omega (arith, z, e, words .2), omega (arith, z, e, words .3))) (same-path path other))
     ]
 
-    queue : Sleepers L st η t Out′
-    queue =
-        record {
-          asleep = inserted μ tm w ts;
-          chain = chain-inserted μ tm w ts none frontWord refl (h .sleepers .chain)
-              (record {
-                first = λ e. absurd (omega (arith, e));
-                own = λ v m e.
-                    let low = sits-at L leaf .placed .low in
-                    new v m (sym (omega (arith, e, fits h v m .small, fits h v m .space, a .space, part-small L leaf, small-size L)));
-                others = λ v m e. absurd (omega (arith, e));
-              }) (links-apart h) (h .sleepers .once);
-          sorted = λ o.
-              sorted-inserted μ η (now st) tm w ts clock-word (a .small) (L .sleeps-near o w tm (now st) known)
-              (λ v m. let (s, n) = times-near h o v m in (s, n, times-same v m)) (asleep .time-is) (h .sleepers .sorted o);
-          once = once-inserted μ tm w ts new (h .sleepers .once);
-          each = λ v m. ⊎-elim (λ e. sleeper leaf (sym e) not-out)
-              (λ n. elim (h .sleepers .each v n) [ sleeper {path = other} l e o ↦ sleeper l e (λ q. o (fewer other q)) ])
-              (inserted-in μ tm w ts v m);
-          all = λ {path = other} l n.
-              in-inserted μ tm w ts _
-              (⊎-elim (λ e. inl (same-leaf L (λ q b (y : Info). y .w ≡ w) e leaf l refl))
-              (λ d. inr (h .sleepers .all l (λ o. n (more other d o)))) (same-path path other));
-        }
+    time-now : η (timeWord w) ≡ tm
+    time-now =
+        let words = time-words L leaf space in
+        own-stays (timeWord w) (words .2) (words .3)
+        (λ e. absurd (omega (arith, e, space, sits-at L leaf .placed .low, part-small L leaf, S L .top-small))) ∙ time-is
 
-    pub rest-asleep : Rest L st η t Out′ ws
-    rest-asleep =
-        rest-relinked rest-own (nameOf w) spot
-        (λ other q c j l n.
-        ⊎-elim (λ e. inr (same-leaf L (λ q b (y : Info). Held (S L) (L .sleeps) b y st η (member (y .w) ws) q) e leaf l
-        (subst (λ f. Held (S L) (L .sleeps) b i st η f (atWait tm k)) (sym unqueued) (h-asleep asleep known))))
-        (λ d. inl (λ o. n (more other d o))) (same-path path other)) queue
+    module _ {Out′ : List ℕ → Type 0} (dozes : Dozer L Out′ path q) (more : (other : List ℕ) → path ≢ other → Out other → Out′ other)
+        (fewer : (other : List ℕ) → Out′ other → Out other)
+        (held : (Out′ path → ⊥) → Held (S L) (L .times) b i st η (member w ws) q) where
+      queue : Sleepers L st η t Out′
+      queue =
+          record {
+            asleep = inserted μ tm w ts;
+            chain = chain-inserted μ tm w ts none frontWord refl (h .sleepers .chain)
+                (record {
+                  first = λ e. absurd (omega (arith, e));
+                  own = λ v m e.
+                      let low = sits-at L leaf .placed .low in
+                      absent v m (sym (omega (arith, e, fits h v m .small, fits h v m .space, space, part-small L leaf, small-size L)));
+                  others = λ v m e. absurd (omega (arith, e));
+                }) (links-apart h) (h .sleepers .once);
+            sorted = λ o.
+                sorted-inserted μ η (now st) tm w ts clock-word tm-small (L .sleeps-near o w tm (now st) knows)
+                (λ v m. let (s, n) = times-near h o v m in (s, n, times-same v m)) time-now (h .sleepers .sorted o);
+            once = once-inserted μ tm w ts absent (h .sleepers .once);
+            each = λ v m. ⊎-elim (λ e. sleeper leaf (sym e) space dozes)
+                (λ n. elim (h .sleepers .each v n) [
+                  | sleeper {path = other} l e a d ↦ sleeper l e a (dozer-out L (λ tm k f o u. o (fewer other u)) d)
+                ]) (inserted-in μ tm w ts v m);
+            known = λ v m. ⊎-elim
+                (λ e. subst (λ z. (η (timeWord z) < 2 ^ 32) × L .sleeps z (η (timeWord z)) (now st)) (sym e)
+                (subst (λ n. n < 2 ^ 32) (sym time-now) tm-small, subst (λ n. L .sleeps w n (now st)) (sym time-now) knows))
+                (λ n.
+                let (a, b) = h .sleepers .known v n in
+                let e = times-same v n in
+                (subst (λ n. n < 2 ^ 32) (sym e) a, subst (λ n. L .sleeps v n (now st)) (sym e) b)) (inserted-in μ tm w ts v m);
+            all = λ {path = other} {i = j} l a d f.
+                in-inserted μ tm w ts _
+                (⊎-elim (λ e. inl (same-leaf L (λ q b (y : Info). y .w ≡ w) e leaf l refl))
+                (λ u. inr (link-of l a u d f (ℕ-discrete (timeLinkWord (j .w)) (linkOf (place .before))))) (same-path path other));
+          }
+        where
+          -- another whose link leads to it now was there before
+          link-of : {other : List ℕ} {p : Process} {c : Part} {j : Info} → LeafAt L st t other p c j → c .bottom + 5 ≤ j .w → path ≢ other
+              → Dozer L Out′ other p → (isAlt p ≡ true → Linked η (j .w)) → Dec (timeLinkWord (j .w) ≡ linkOf (place .before))
+              → List·Memᴰ (j .w) ts
+          link-of {j = j} l a u d f (yes e) =
+              stop-link μ tm none ts (λ z. timeLinkWord (j .w) ≡ z → List·Memᴰ (j .w) ts) (λ z. absurd (omega (arith, z)))
+              (λ v m z.
+              subst (λ y. List·Memᴰ y ts)
+              (omega (arith, z, a, sits-at L l .placed .low, part-small L l, S L .top-small, fits h v m .small, fits h v m .space)) m) e
+          link-of {other} {j = j} l a u d f (no e) =
+              let far : timeLinkWord (j .w) ≢ timeLinkWord w = λ z.
+              other-w L leaf l u (omega (
+                arith,
+                z,
+                a,
+                space,
+                sits-at L l .placed .low,
+                part-small L l,
+                sits-at L leaf .placed .low,
+                part-small L leaf,
+                S L .top-small,
+              )) in
+              let same : η (timeLinkWord (j .w)) ≡ μ (timeLinkWord (j .w)) =
+              upd-other ν (linkOf (place .before)) (nameOf w) (timeLinkWord (j .w)) e
+              ∙ upd-other μ (timeLinkWord w) (place .at) (timeLinkWord (j .w)) far in
+              h .sleepers .all l a (dozer-out L (λ tm k g o v. o (more other u v)) d)
+              (λ x. linked-same (L .times) st η μ (j .w) (sym same) (f x))
+
+      pub rest-asleep : Rest L st η t Out′ ws
+      rest-asleep =
+          let (no-set, no-unset) = name-unset w (omega (arith, sits-at L leaf .placed .low, part-small L leaf, small-size L)) in
+          rest-of L
+          (plain-relinked
+          (plain-own L leaf (plain-of L h) (timeLinkWord w) (place .at) (own-words .0) (own-words .1) vars-off chans-off (inl out))
+          (nameOf w) no-set no-unset spot-then
+          (λ other p c j l n.
+          ⊎-elim (λ e. inr (same-leaf L (λ q b (y : Info). Held (S L) (L .times) b y st η (member (y .w) ws) q) e leaf l
+          (held (λ o. n (subst Out′ e o)))))
+          (λ d. inl (λ o. n (more other d o))) (same-path path other))) queue

@@ -3,28 +3,34 @@ use Prim.Native.Nat.{ℕ, _+_, _^_, _≤_, _<_}
 use native.Mathlib.Omega.{arith}
 use mathlib.Core.Path.{_≡_, refl, sym, ap, ap₂, _∙_, subst}
 use mathlib.Core.Logic.{_≢_, _⊎_, inl, inr, ⊎-elim}
-use mathlib.Core.Bool.{Bool, cond, not}
+use mathlib.Core.Bool.{Bool, cond, not, true}
 use mathlib.Core.List.{List, List·Memᴰ}
 use lib.Dec.{eqb}
 use Rattle.model.specs.Syntax.{Site, Expr, constant, variable, NOT, binary, Pairs, noPair, pair, Guard, inputGuard, skipGuard}
-use Rattle.model.specs.Syntax.{condition, Guards}
-use Rattle.model.specs.Machine.{resumeWord, linkWord, stateWord, nameOf, timeWord}
+use Rattle.model.specs.Syntax.{condition, Guards, timeGuard, noGuard, guard, timed}
+use Rattle.model.specs.Machine.{resumeWord, linkWord, stateWord, nameOf, timeWord, timeLinkWord}
 use Rattle.model.specs.Occam.{Store, eval, isTrue, Frame, Process, firstTrue, deny, operate, State, Sender, Ready, by-input, by-skip}
-use Rattle.model.specs.Occam.{now}
+use Rattle.model.specs.Occam.{now, by-time}
 use Rattle.model.proofs.Quiet.Ways.{Regs, Mem, way-stable}
 use Rattle.model.proofs.Words.Values.{FineExpr}
 use Rattle.model.proofs.Quiet.Setting.{Setting}
 use Rattle.model.proofs.Words.Parts.{Part, guardRoom, FineWhole, FineInput, FinePairs, FineGuards}
 use Rattle.model.proofs.Quiet.Continuations.{cont-low}
-use Rattle.model.proofs.Quiet.Marks.{Own, own-name, AnyReady, r-first, r-later, Picks, p-first, p-later, Guarded, g-first, g-later}
-use Rattle.model.proofs.Quiet.Marks.{Unready, Noticed, n-none, n-later, Marked, Disabling, Point, pt-stop, pt-assign, pt-var}
-use Rattle.model.proofs.Quiet.Marks.{pt-chan, pt-taken, pt-none, pt-while, pt-in, pt-out, pt-par-place, pt-par-count, pt-end, pt-alt}
-use Rattle.model.proofs.Quiet.Marks.{pt-read, pt-store, pt-wait-for}
+use Rattle.model.proofs.Quiet.Marks.{Own, own-name, Picks, p-first, p-later, Guarded, g-first, g-later, Unready, Noticed, n-none}
+use Rattle.model.proofs.Quiet.Marks.{n-later, Marked, Disabling, Point, pt-stop, pt-assign, pt-var, pt-chan, pt-taken, pt-none}
+use Rattle.model.proofs.Quiet.Marks.{pt-while, pt-in, pt-out, pt-par-place, pt-par-count, pt-end, pt-alt, pt-read, pt-store}
+use Rattle.model.proofs.Quiet.Marks.{pt-wait-for, Present, is-sent, is-skip, AnyPresent, a-first, a-later, finds-present, finds-time}
+use Rattle.model.proofs.Quiet.Marks.{AnyFound, f-first, f-later}
 use Rattle.model.proofs.Quiet.Arrivals.{Goes, Comes, comes}
 use Rattle.model.proofs.Quiet.Onwards.{guarded-fine}
+use Rattle.model.proofs.Quiet.Timing.{Times, Timely, t-first, t-later, OfTime, EachTime, e-none, e-later, each-all, Least, Bringing}
+use Rattle.model.proofs.Quiet.Timing.{not-set, is-set, Dozing, no-time, until, Passed, p-unset, p-set, p-linked, Guarding}
+use Rattle.model.proofs.Quiet.Timing.{linked-same, Onto}
+use Rattle.model.proofs.Cases.{never}
 use Rattle.model.proofs.Invariant.Trees.{Info, Sits}
 use Rattle.model.proofs.Invariant.Leaves.{Unmarked, MarkedOnly, Resumes, Waits, Held, h-queued, h-woken, h-input, h-output, h-stop}
 use Rattle.model.proofs.Invariant.Leaves.{h-wait, Asleep, h-asleep}
+use Rattle.model.specs.Word.{after}
 
 -- expressions whose variables are as they were
 module _ (b : Part) (vars : List Site) {σ τ : Store} (same : (x : Site) → List·Memᴰ x vars → List·Memᴰ x (b .reads) → σ x ≡ τ x) where
@@ -181,39 +187,34 @@ module _ (S : Setting) (b : Part) (i : Info) (high : b .top < 2 ^ 32) (sits : Si
 
   -- guards
   module _ (vw : ℕ) where
-    -- a guard that is ready stays so
-    guard-stays : {g : Guard} → FineWhole b (i .vars) vw guardRoom (condition g) → FineInput b (i .vars) (i .chans) g → Ready st g
-        → Ready st′ g
-    guard-stays f c (by-input {e} {c = d} h s) = by-input (sym (true-same b (i .vars) (intact .reads) e f) ∙ h) (intact .sends d (c .2) s)
-    guard-stays f c (by-skip {e} h) = by-skip (sym (true-same b (i .vars) (intact .reads) e f) ∙ h)
+    -- a guard that is present stays so
+    guard-stays : {g : Guard} → FineWhole b (i .vars) vw guardRoom (condition g) → FineInput b (i .vars) (i .chans) vw g → Present st g
+        → Present st′ g
+    guard-stays f c (is-sent {e} {c = d} h s) = is-sent (sym (true-same b (i .vars) (intact .reads) e f) ∙ h) (intact .sends d (c .2) s)
+    guard-stays f c (is-skip {e} h) = is-skip (sym (true-same b (i .vars) (intact .reads) e f) ∙ h)
 
-    pub ready-stays : {gs : Guards} → FineGuards (S .word) b (i .vars) (i .chans) vw gs → AnyReady st gs → AnyReady st′ gs
-    ready-stays f (r-first r) = r-first (guard-stays (f .0) (f .1) r)
-    ready-stays f (r-later g) = r-later (ready-stays (f .3) g)
+    pub present-stays : {gs : Guards} → FineGuards (S .word) b (i .vars) (i .chans) vw gs → AnyPresent st gs → AnyPresent st′ gs
+    present-stays f (a-first r) = a-first (guard-stays (f .0) (f .1) r)
+    present-stays f (a-later g) = a-later (present-stays (f .3) g)
 
-    pub picks-stays : {k : List Frame} {gs : Guards} {b′ t : ℕ} {p : Process}
-        → FineGuards (S .word) b (i .vars) (i .chans) vw gs → Picks st k gs b′ t p
-        → Picks st′ k gs b′ t p
-    picks-stays f (p-first r) = p-first (guard-stays (f .0) (f .1) r)
-    picks-stays f (p-later g) = p-later (picks-stays (f .3) g)
-
-    -- none becomes ready where each true guard is marked
+    -- none becomes present where each true guard is marked
     pub unready-stays : {gs : Guards} → FineGuards (S .word) b (i .vars) (i .chans) vw gs
-        → ((d : Site) → Guarded (st .store) d gs → Own b (μ (S .word d))) → (AnyReady st gs → ⊥) → AnyReady st′ gs → ⊥
-    unready-stays f m n (r-first (by-input {e} {c} h s)) =
+        → ((d : Site) → Guarded (st .store) d gs → Own b (μ (S .word d))) → (AnyPresent st gs → ⊥) → AnyPresent st′ gs → ⊥
+    unready-stays f m n (a-first (is-sent {e} {c} h s)) =
         let t = true-same b (i .vars) (intact .reads) e (f .0) ∙ h in
-        n (r-first (by-input t (intact .none-sends c (f .1 .1) (f .1 .2) (m c (g-first t)) s)))
-    unready-stays f m n (r-first (by-skip {e} h)) = n (r-first (by-skip (true-same b (i .vars) (intact .reads) e (f .0) ∙ h)))
-    unready-stays f m n (r-later g) = unready-stays (f .3) (λ d h. m d (g-later h)) (λ h. n (r-later h)) g
+        n (a-first (is-sent t (intact .none-sends c (f .1 .1) (f .1 .2) (m c (g-first t)) s)))
+    unready-stays f m n (a-first (is-skip {e} h)) = n (a-first (is-skip (true-same b (i .vars) (intact .reads) e (f .0) ∙ h)))
+    unready-stays f m n (a-later g) = unready-stays (f .3) (λ d h. m d (g-later h)) (λ h. n (a-later h)) g
 
     guard-unready : (w : ℕ) → Own b (nameOf w) → (g : Guard) → FineWhole b (i .vars) vw guardRoom (condition g)
-        → FineInput b (i .vars) (i .chans) g
+        → FineInput b (i .vars) (i .chans) vw g
         → Unready st (S .word) μ w g → Unready st′ (S .word) ν w g
     guard-unready w o (inputGuard e c x) f d u = λ z.
         let g = u (true-same b (i .vars) (intact .reads) e f ∙ z) in
         let mine = subst (Own b) (sym (g .0)) o in
         (own-on c (d .1) mine ∙ g .0, (λ s. g .1 (intact .none-sends c (d .1) (d .2) mine s)))
     guard-unready w o (skipGuard e) f d u = sym (true-same b (i .vars) (intact .reads) e f) ∙ u
+    guard-unready w o (timeGuard e t) f d u = tt
 
     pub noticed-stays : {gs hs : Guards} {w : ℕ} → Own b (nameOf w) → FineGuards (S .word) b (i .vars) (i .chans) vw gs
         → Noticed st (S .word) μ w gs hs → Noticed st′ (S .word) ν w gs hs
@@ -227,16 +228,134 @@ module _ (S : Setting) (b : Part) (i : Info) (high : b .top < 2 ^ 32) (sits : Si
         let g = h c m (subst (Own b) e o) in
         (e ∙ g .0, guarded-same b (i .vars) (intact .reads) (S .word) (i .chans) vw f (g .1))
 
-    pub disabling-stays : {k : List Frame} {gs hs : Guards} {choice w : ℕ} → FineGuards (S .word) b (i .vars) (i .chans) vw gs
+    -- times
+    of-stays : {P Q : ℕ → Type 0} (g : Guard) → FineWhole b (i .vars) vw guardRoom (condition g)
+        → FineInput b (i .vars) (i .chans) vw g → ((u : ℕ) → P u → Q u) → OfTime (st .store) P g → OfTime (st′ .store) Q g
+    of-stays (inputGuard e c x) f d h o = tt
+    of-stays (skipGuard e) f d h o = tt
+    of-stays {Q = Q} (timeGuard e t) f d h o = λ z.
+        subst Q (value-same b (i .vars) (intact .reads) t (d .0, d .1, tt {0})) (h (eval (st .store) t)
+        (o (true-same b (i .vars) (intact .reads) e f ∙ z)))
+
+    pub each-stays : {P Q : ℕ → Type 0} {gs hs : Guards} → FineGuards (S .word) b (i .vars) (i .chans) vw gs → ((u : ℕ) → P u → Q u)
+        → EachTime (st .store) P gs hs → EachTime (st′ .store) Q gs hs
+    each-stays f h e-none = e-none
+    each-stays f h (e-later {g = g} o r) = e-later (of-stays g (f .0) (f .1) h o) (each-stays (f .3) h r)
+
+    pub timely-stays : {u : ℕ} {gs : Guards} → FineGuards (S .word) b (i .vars) (i .chans) vw gs → Timely (st .store) u gs
+        → Timely (st′ .store) u gs
+    timely-stays f (t-first {e} {t} z q) =
+        t-first (sym (true-same b (i .vars) (intact .reads) e (f .0)) ∙ z)
+        (sym (value-same b (i .vars) (intact .reads) t (f .1 .0, f .1 .1, tt {0})) ∙ q)
+    timely-stays f (t-later h) = t-later (timely-stays (f .3) h)
+
+    pub timely-back : {u : ℕ} {gs : Guards} → FineGuards (S .word) b (i .vars) (i .chans) vw gs → Timely (st′ .store) u gs
+        → Timely (st .store) u gs
+    timely-back f (t-first {e} {t} z q) =
+        t-first (true-same b (i .vars) (intact .reads) e (f .0) ∙ z)
+        (value-same b (i .vars) (intact .reads) t (f .1 .0, f .1 .1, tt {0}) ∙ q)
+    timely-back f (t-later h) = t-later (timely-back (f .3) h)
+
+    -- in the same context or another
+    module _ {T T′ : Times} {w : ℕ} (onto : Onto T T′ w (now st) (now st′)) where
+      pub guarding-stays : {gs hs : Guards} → FineGuards (S .word) b (i .vars) (i .chans) vw gs → Guarding T st gs hs w
+          → Guarding T′ st′ gs hs w
+      guarding-stays f h = each-stays f (λ u g. (g .0, onto .on u (g .1))) h
+
+      least-stays : {gs hs : Guards} → FineGuards (S .word) b (i .vars) (i .chans) vw gs → ν (timeWord w) ≡ μ (timeWord w)
+          → Least T st gs hs μ w → Least T′ st′ gs hs ν w
+      least-stays f e l =
+          record {
+            tm = l .tm;
+            is = e ∙ l .is;
+            small = l .small;
+            one = timely-stays f (l .one);
+            knows = onto .on (l .tm) (l .knows);
+            least = each-stays f (λ u h o. h (onto .less o)) (l .least);
+          }
+
+      module _ {gs : Guards} (f : FineGuards (S .word) b (i .vars) (i .chans) vw gs) (link : ν (timeLinkWord w) ≡ μ (timeLinkWord w))
+          (time : ν (timeWord w) ≡ μ (timeWord w)) where
+        pub bringing-stays : {hs : Guards} → Bringing T st gs hs μ w → Bringing T′ st′ gs hs ν w
+        bringing-stays (not-set z n) = not-set (link ∙ z) (each-stays f (λ u h. h) n)
+        bringing-stays (is-set z l) = is-set (link ∙ z) (least-stays f time l)
+
+        pub dozing-stays : Dozing T st gs μ w → Dozing T′ st′ gs ν w
+        dozing-stays (no-time z n) = no-time (link ∙ z) (each-stays f (λ u h. h) n)
+        dozing-stays (until z l) = until (linked-same T st μ ν w link z) (least-stays f time l)
+
+        pub passed-stays : {hs : Guards} → FineGuards (S .word) b (i .vars) (i .chans) vw hs → Guarding T st gs noGuard w
+            → Passed T st gs hs μ w → Passed T′ st′ gs hs ν w
+        passed-stays f′ g (p-unset z) = p-unset (link ∙ z)
+        passed-stays f′ g (p-set z h) =
+            p-set (link ∙ z)
+            (λ u m a o.
+            let m₀ = timely-back f m in
+            let (small, k) = each-all (st .store) g u m₀ in
+            onto .past u small k o (h u m₀ (ap (λ y. after y u) (sym time) ∙ a) (onto .less o)))
+        passed-stays f′ g (p-linked z u m) = p-linked (linked-same T st μ ν w link z) u (timely-stays f′ m)
+
+    -- what will be found still is; an ALT has its time words where it has room for them
+    pub found-stays : {w : ℕ} {hs : Guards} → vw ≡ w + 1
+        → (b .bottom + 5 ≤ w → (ν (timeLinkWord w) ≡ μ (timeLinkWord w)) × (ν (timeWord w) ≡ μ (timeWord w)))
+        → FineGuards (S .word) b (i .vars) (i .chans) vw hs → AnyFound st μ w hs → AnyFound st′ ν w hs
+    found-stays e words f (f-first (finds-present h)) = f-first (finds-present (guard-stays (f .0) (f .1) h))
+    found-stays e words f (f-first (finds-time {e = c} {t} x y z)) =
+        let (link, time) = words (omega (arith, e, f .1 .2)) in
+        f-first (finds-time (sym (true-same b (i .vars) (intact .reads) c (f .0)) ∙ x) (link ∙ y)
+        (ap₂ after time (sym (value-same b (i .vars) (intact .reads) t (f .1 .0, f .1 .1, tt {0}))) ∙ z))
+    found-stays e words f (f-later h) = f-later (found-stays e words (f .3) h)
+
+    -- a guard that was ready, by its time too, is so
+    module _ {T T′ : Times} {w : ℕ} (onto : Onto T T′ w (now st) (now st′)) where
+      ready-stays : {g : Guard} → FineWhole b (i .vars) vw guardRoom (condition g) → FineInput b (i .vars) (i .chans) vw g
+          → OfTime (st .store) (λ u. (u < 2 ^ 32) × T .guarded w u (now st)) g → T′ .sure → Ready st g → Ready st′ g
+      ready-stays f c k o (by-input {e} {c = d} h s) = by-input (sym (true-same b (i .vars) (intact .reads) e f) ∙ h)
+          (intact .sends d (c .2) s)
+      ready-stays f c k o (by-skip {e} h) = by-skip (sym (true-same b (i .vars) (intact .reads) e f) ∙ h)
+      ready-stays f c k o (by-time {e} {t} h p) =
+          let (small, g) = k h in
+          by-time (sym (true-same b (i .vars) (intact .reads) e f) ∙ h)
+          (ap (after (now st′)) (sym (value-same b (i .vars) (intact .reads) t (c .0, c .1, tt {0}))) ∙ onto .past
+          (eval (st .store) t) small g o p)
+
+      pub picks-stays : {k : List Frame} {gs : Guards} {b′ t : ℕ} {p : Process} → FineGuards (S .word) b (i .vars) (i .chans) vw gs
+          → Guarding T st gs noGuard w → Picks T st k gs b′ t p → Picks T′ st′ k gs b′ t p
+      picks-stays f (e-later g r) (p-first h) = p-first (λ o. ready-stays (f .0) (f .1) g o (h (onto .less o)))
+      picks-stays f (e-later g r) (p-later h) = p-later (picks-stays (f .3) r h)
+
+    -- an ALT with a time guard has room for its two words
+    pub timed-room : {w : ℕ} (gs : Guards) → vw ≡ w + 1 → FineGuards (S .word) b (i .vars) (i .chans) vw gs → timed gs ≡ true
+        → b .bottom + 5 ≤ w
+    unfolding timed
+    timed-room noGuard e f t = never (cc)
+    timed-room (guard (inputGuard c d x) s gs) e f t = timed-room gs e (f .3) t
+    timed-room (guard (skipGuard c) s gs) e f t = timed-room gs e (f .3) t
+    timed-room (guard (timeGuard c u) s gs) e f t = omega (arith, e, f .1 .2)
+
+    pub disabling-stays : {T T′ : Times} {k : List Frame} {gs hs : Guards} {choice w : ℕ} → Onto T T′ w (now st) (now st′) → vw ≡ w + 1
+        → FineGuards (S .word) b (i .vars) (i .chans) vw gs
         → FineGuards (S .word) b (i .vars) (i .chans) vw hs → ν w ≡ μ w → ν (stateWord w) ≡ μ (stateWord w)
-        → Disabling S b st (i .vars) (i .chans) k gs hs choice μ w → Disabling S b st′ (i .vars) (i .chans) k gs hs choice ν w
-    disabling-stays {w = w} f g e x d =
+        → (b .bottom + 5 ≤ w → (ν (timeLinkWord w) ≡ μ (timeLinkWord w)) × (ν (timeWord w) ≡ μ (timeWord w)))
+        → Disabling S b T st (i .vars) (i .chans) k gs hs choice μ w → Disabling S b T′ st′ (i .vars) (i .chans) k gs hs choice ν w
+    disabling-stays {gs = gs} {w = w} onto same-w f g e x words d =
         record {
           marks = marked-stays w g (d .marks);
           state = x ∙ d .state;
-          chosen = ⊎-elim (λ c. let (t, p, h, z) = c in inl (t, p, picks-stays f h, e ∙ z)) (λ c. inr (e ∙ c .0, ready-stays g (c .1)))
-              (d .chosen);
+          chosen = ⊎-elim (λ c. let (t, p, h, z) = c in inl (t, p, picks-stays onto f (d .known) h, e ∙ z))
+              (λ c. inr (e ∙ c .0, found-stays same-w words g (c .1))) (d .chosen);
+          times = λ z.
+              let (link, time) = words (timed-room gs same-w f z) in
+              passed-stays onto f link time g (d .known) (d .times z);
+          known = guarding-stays onto f (d .known);
         }
+
+    pub waiting-stays : {T T′ : Times} {gs : Guards} {w : ℕ} → Onto T T′ w (now st) (now st′) → vw ≡ w + 1
+        → FineGuards (S .word) b (i .vars) (i .chans) vw gs
+        → (b .bottom + 5 ≤ w → (ν (timeLinkWord w) ≡ μ (timeLinkWord w)) × (ν (timeWord w) ≡ μ (timeWord w)))
+        → (timed gs ≡ true → Dozing T st gs μ w) → timed gs ≡ true → Dozing T′ st′ gs ν w
+    waiting-stays {gs = gs} onto same-w f words z t =
+        let (link, time) = words (timed-room gs same-w f t) in dozing-stays onto f link time (z t)
 
 -- one that waits for the clock
 pub asleep-stays : (S : Setting) (b : Part) (i : Info) → b .top < 2 ^ 32 → Sits S b i → {st st′ : State} {μ ν : Mem}
@@ -258,34 +377,43 @@ asleep-stays S b i high sits intact a =
       unmarked = unmarked-stays S b i high sits intact (a .unmarked);
     }
 
-pub held-stays : (S : Setting) {sleeps sleeps′ : (w t clock : ℕ) → Type 0} (b : Part) (i : Info) → b .top < 2 ^ 32 → Sits S b i
-    → {st st′ : State} {μ ν : Mem} → Intact S b i (linkWord (i .w)) st st′ μ ν
-    → ((t : ℕ) → sleeps (i .w) t (now st) → sleeps′ (i .w) t (now st′)) → {f : Bool} {q : Process} → Held S sleeps b i st μ f q
-    → Held S sleeps′ b i st′ ν f q
-held-stays S b i high sits intact known (h-queued c r h u) =
+-- the two words of an ALT with a time guard stay
+pub time-words-same : (S : Setting) (b : Part) (i : Info) → b .top < 2 ^ 32 → Sits S b i → {st st′ : State} {μ ν : Mem}
+    → Intact S b i (linkWord (i .w)) st st′ μ ν → b .bottom + 5 ≤ i .w
+    → (ν (timeLinkWord (i .w)) ≡ μ (timeLinkWord (i .w))) × (ν (timeWord (i .w)) ≡ μ (timeWord (i .w)))
+time-words-same S b i high sits intact space =
+    let low = sits .placed .low in (
+      intact .own (timeLinkWord (i .w)) (omega (arith, space, low)) (omega (arith, space, low)) (λ e. absurd (omega (arith, space, low))),
+      intact .own (timeWord (i .w)) (omega (arith, space, low)) (omega (arith, space, low)) (λ e. absurd (omega (arith, space, low))),
+    )
+
+pub held-stays : (S : Setting) {T T′ : Times} (b : Part) (i : Info) → b .top < 2 ^ 32 → Sits S b i
+    → {st st′ : State} {μ ν : Mem} → Intact S b i (linkWord (i .w)) st st′ μ ν → Onto T T′ (i .w) (now st) (now st′)
+    → {f : Bool} {q : Process} → Held S T b i st μ f q → Held S T′ b i st′ ν f q
+held-stays S b i high sits intact onto (h-queued c r h u) =
     h-queued (comes-stays S b (i .vars) (i .chans) (intact .reads) c)
     (resumes-stays S b i high sits intact (λ e. absurd (omega (arith, sits .placed .room, sits .placed .low))) r) h
     (unmarked-stays S b i high sits intact u)
-held-stays S b i high sits intact known (h-woken c r s d) =
+held-stays S b i high sits {μ = μ} {ν} intact onto (h-woken {gs} c r s d) =
     let low = sits .placed .low in
     let state =
     state-same S b i high sits intact (omega (arith, c .fine .0)) (λ e. absurd (omega (arith, sits .placed .room, c .fine .0, low))) in
     h-woken c (resumes-stays S b i high sits intact (λ e. absurd (omega (arith, sits .placed .room, low))) r) (state ∙ s)
-    (disabling-stays S b i high sits intact (i .w + 1) (c .fine .1) (c .fine .1)
+    (disabling-stays S b i high sits intact (i .w + 1) onto refl (c .fine .1) (c .fine .1)
     (base-same S b i high sits intact (omega (arith, sits .placed .room)) (omega (arith, cont-low S b (c .after)))
-    (λ e. absurd (omega (arith, sits .placed .room, low)))) state d)
-held-stays S b i high sits intact known (h-input {c} w t m n) =
+    (λ e. absurd (omega (arith, sits .placed .room, low)))) state (time-words-same S b i high sits intact) d)
+held-stays S b i high sits intact onto (h-input {c} w t m n) =
     let low = sits .placed .low in
     h-input
     (waits-stays S b i high sits intact (λ e. absurd (omega (arith, w .space, low))) (λ e. absurd (omega (arith, w .space, low))) w) t m
     (λ s. n (intact .none-sends c (w .scope) m (subst (Own b) (sym (w .here)) (own-w S b i high sits intact)) s))
-held-stays S b i high sits intact known (h-output w m l v z) =
+held-stays S b i high sits intact onto (h-output w m l v z) =
     let low = sits .placed .low in
     h-output
     (waits-stays S b i high sits intact (λ e. absurd (omega (arith, w .space, low))) (λ e. absurd (omega (arith, w .space, low))) w) m l
     (base-same S b i high sits intact (omega (arith, w .space)) l (λ e. absurd (omega (arith, w .space, low))) ∙ v) z
-held-stays S b i high sits intact known (h-stop u) = h-stop (unmarked-stays S b i high sits intact u)
-held-stays S b i high sits {st} {st′} {μ} {ν} intact known (h-wait {gs} c r s v m n k) =
+held-stays S b i high sits intact onto (h-stop u) = h-stop (unmarked-stays S b i high sits intact u)
+held-stays S b i high sits {st} {st′} {μ} {ν} intact onto (h-wait {gs} c r s v m n k z g) =
     let low = sits .placed .low in
     let mine : Own b (nameOf (i .w)) = own-w S b i high sits intact in
     let back : (d : Site) → Guarded (st′ .store) d gs → Guarded (st .store) d gs =
@@ -299,4 +427,6 @@ held-stays S b i high sits {st} {st′} {μ} {ν} intact known (h-wait {gs} c r 
     (here d (back d g)) ∙ m d (back d g))
     (unready-stays S b i high sits intact (i .w + 1) (c .fine .1) here n)
     (marked-stays S b i high sits intact (i .w + 1) (i .w) (c .fine .1) k)
-held-stays S b i high sits intact known (h-asleep {t} a s) = h-asleep (asleep-stays S b i high sits intact a) (known t s)
+    (waiting-stays S b i high sits intact (i .w + 1) onto refl (c .fine .1) (time-words-same S b i high sits intact) z)
+    (guarding-stays S b i high sits intact (i .w + 1) onto (c .fine .1) g)
+held-stays S b i high sits intact onto (h-asleep a) = h-asleep (asleep-stays S b i high sits intact a)

@@ -1,9 +1,9 @@
 -- Moves of an Occam run one after another, with their communications and events.
 use Prim.Native.Nat.{ℕ, _≤_}
 use native.Mathlib.Omega.{arith}
-use mathlib.Core.Path.{_≡_, refl, ap, _∙_, subst}
+use mathlib.Core.Path.{_≡_, refl, ap, _∙_, subst, sym}
 use mathlib.Core.List.{List, [], _∷_, _++_}
-use mathlib.Core.Option.{Option, some}
+use mathlib.Core.Option.{Option, none, some}
 use Rattle.model.specs.Syntax.{SKIP, PAR, noStmt, Stmt}
 use Rattle.model.specs.Occam.{Frame, Process, before, resume, look, put, moved, go, State, Communication, Step, begins, Event, ends}
 use Rattle.model.specs.Occam.{chooses, goesOn, reading, stores, communicates, receives, offers, takes, ticks, Outside, offered, held}
@@ -13,6 +13,7 @@ use Rattle.model.proofs.Occam.Paths.{look-put-same, put-put-same, put-f
 use Rattle.model.proofs.Occam.Live.{most, step-most, outside-most}
 use Rattle.model.proofs.Quiet.Marks.{Skips, s-none, s-skip, s-par}
 use Rattle.model.proofs.Invariant.Puts.{putting}
+use Rattle.model.proofs.Cases.{never}
 
 -- moves that lead from one state to another
 pub data Trace : State → Segment → State → List Communication → List Event → Type 0 where
@@ -75,6 +76,17 @@ trace-clock (t-event {es} (held e) m) = trace-clock m
 trace-clock (t-event {es} (taken path e) m) = trace-clock m
 trace-clock (t-event {es} (nobody n) m) = trace-clock m
 trace-clock (t-event {es} (ticked h) m) = trace-clock m
+
+-- a clock that was given stays given
+clock-given : (k : Option ℕ) (es : List Event) → clockAfter k es ≡ none → k ≡ none
+clock-given k [] z = z
+clock-given k (offers c v a ∷ es) z = clock-given k es z
+clock-given k (takes c a ∷ es) z = clock-given k es z
+clock-given k (ticks c ∷ es) z = never (cc (clock-given (some c) es z))
+
+pub trace-given : {st st′ : State} {g : Segment} {cs : List Communication} {es : List Event} → Trace st g st′ cs es → st′ .clock ≡ none
+    → st .clock ≡ none
+trace-given {st} {es = es} ms z = clock-given (st .clock) es (sym (trace-clock ms) ∙ z)
 
 -- some moves: those of a segment that is not given
 pub data Moves (st st′ : State) (cs : List Communication) : Type 0 where

@@ -10,22 +10,24 @@ use Rattle.model.specs.Word.{notProcess}
 use Rattle.model.specs.Syntax.{Site}
 use Rattle.model.specs.Usage.{same}
 use Rattle.model.specs.Machine.{linkWord, timeLinkWord, timeWord}
-use Rattle.model.specs.Occam.{Store, store, Process, State, Sender, process, outside, now, Frame, atWait}
+use Rattle.model.specs.Occam.{Store, store, Process, State, Sender, process, outside, now, look}
 use Rattle.model.proofs.Cases.{never, by-bool}
 use Rattle.model.proofs.Tables.Sites.{same-refl, same-eq}
 use Rattle.model.proofs.Quiet.Ways.{upd, upd-same, upd-other, Mem, frontWord}
-use Rattle.model.proofs.Occam.Paths.{left, leaves-apart, same-path}
+use Rattle.model.proofs.Occam.Paths.{left, leaves-apart, same-path, isAlt}
 use Rattle.model.proofs.Words.Parts as Parts
 use Rattle.model.proofs.Words.Parts.{Part}
 use Rattle.model.proofs.Quiet.Marks.{Own}
 use Rattle.model.proofs.Invariant.Trees.{some-same, Label, alone, parted, alone-info, alone-parted, Info, Tree, labelAt, parts-apart}
 use Rattle.model.proofs.Invariant.Zones.{zoneOf, Distant, zones-distant, Differ, names-differ}
 use Rattle.model.proofs.Effects.Timers.{Sorted, chain-stable, sorted-stable}
-use Rattle.model.proofs.Invariant.Leaves.{Asleep, sleeping, held-sleeping}
 use Rattle.model.proofs.Invariant.Stays.{Intact, held-stays}
 use Rattle.model.proofs.Invariant.Grounds.{var-in, chan-in, small-size}
 use Rattle.model.proofs.Invariant.Kernel.{Loaded, S, root, LeafAt, NodeAt, Owned, owned, Rest, whose, Lined, sleeper, Sleepers, node}
-use Rattle.model.proofs.Invariant.Kernel.{part-small, sits-at}
+use Rattle.model.proofs.Invariant.Kernel.{part-small, sits-at, Dozer, at-wait, in-alt, Plain, plain-of, rest-of}
+use Rattle.model.proofs.Quiet.Timing.{linked-same, Onto, onto-same}
+use mathlib.Core.Bool.{true}
+use Rattle.model.specs.Limits.{wordLimit}
 
 -- a state with another store, other offers and another clock
 abbrev pub stateWith : Store → (ℕ → Option ℕ) → Option ℕ → State → State
@@ -75,76 +77,70 @@ module _ (L : Loaded) where
     before-node : {path : List ℕ} {l : Label} → NodeAt L (stateWith σ o k st) t path l → NodeAt L st t path l
     before-node h = record { label = h .label }
 
-  -- the timer queue of another state and memory, where those that wait for the clock are the same and keep their words
+  -- a process with room for them has time words of its own
+  pub time-words : {st : State} {t : Tree (S L) (root L) (st .process)} {path : List ℕ} {q : Process} {b : Part} {i : Info}
+      → LeafAt L st t path q b i → b .bottom + 5 ≤ i .w
+      → (b .bottom ≤ timeLinkWord (i .w)) × (timeLinkWord (i .w) < b .top) × (b .bottom ≤ timeWord (i .w)) × (timeWord (i .w) < b .top)
+  time-words at space =
+      let low = sits-at L at .placed .low in
+      let small = part-small L at in (
+        omega (arith, space, S L .top-small),
+        omega (arith, space, S L .top-small),
+        omega (arith, space, S L .top-small),
+        omega (arith, space, S L .top-small),
+      )
+
+  -- the two words of a process stay
+  abbrev pub TimeSame : (μ ν : Mem) (w : ℕ) → Type 0
+  TimeSame μ ν w = (ν (timeLinkWord w) ≡ μ (timeLinkWord w)) × (ν (timeWord w) ≡ μ (timeWord w))
+
+  -- the timer queue of another state and memory, where those that may be in it are the same and keep their words
   pub sleepers-by : {st st′ : State} {μ ν : Mem} {t : Tree (S L) (root L) (st .process)} {t′ : Tree (S L) (root L) (st′ .process)}
       {Out Out′ : List ℕ → Type 0} (z : Sleepers L st μ t Out) → now st′ ≡ now st → ν frontWord ≡ μ frontWord
-      → ((w : ℕ) → List·Memᴰ w (z .asleep) → (ν (timeLinkWord w) ≡ μ (timeLinkWord w)) × (ν (timeWord w) ≡ μ (timeWord w)))
-      → ((path : List ℕ) (tm : ℕ) (k : List Frame) (b : Part) (i : Info) → LeafAt L st t path (atWait tm k) b i → (Out path → ⊥)
-      → LeafAt L st′ t′ path (atWait tm k) b i × (Out′ path → ⊥))
-      → ((path : List ℕ) (tm : ℕ) (k : List Frame) (b : Part) (i : Info) → LeafAt L st′ t′ path (atWait tm k) b i → (Out′ path → ⊥)
-      → LeafAt L st t path (atWait tm k) b i × (Out path → ⊥))
+      → ((path : List ℕ) (q : Process) (b : Part) (i : Info) → LeafAt L st t path q b i → b .bottom + 5 ≤ i .w → Dozer L Out path q
+      → TimeSame μ ν (i .w))
+      → ((path : List ℕ) (q : Process) (b : Part) (i : Info) → LeafAt L st t path q b i → Dozer L Out path q
+      → LeafAt L st′ t′ path q b i × Dozer L Out′ path q)
+      → ((path : List ℕ) (q : Process) (b : Part) (i : Info) → LeafAt L st′ t′ path q b i → Dozer L Out′ path q
+      → LeafAt L st t path q b i × Dozer L Out path q)
       → Sleepers L st′ ν t′ Out′
-  sleepers-by {st} {st′} {μ} {ν} z clock front words on back =
+  sleepers-by {st} {st′} {μ} {ν} z clock front same on back =
       record {
         asleep = z .asleep;
         chain = chain-stable front (λ w m. words w m .0) (z .chain);
         sorted = λ o. subst (λ c. Sorted c ν (z .asleep)) (sym clock)
             (sorted-stable μ ν (now st) (z .asleep) (λ w m. words w m .1) (z .sorted o));
         once = z .once;
-        each = λ w m. elim (z .each w m) [ sleeper k e n ↦ let (l, o) = on _ _ _ _ _ k n in sleeper l e o ];
-        all = λ k n. let (l, o) = back _ _ _ _ _ k n in z .all l o;
+        each = λ w m. elim (z .each w m) [ sleeper k e a d ↦ let (l, f) = on _ _ _ _ k d in sleeper l e a f ];
+        known = λ w m.
+            let (a, b) = z .known w m in
+            let e = words w m .1 in (
+              subst (λ n. n < 2 ^ 32) (sym e) a,
+              subst (λ n. L .sleeps w n (now st′)) (sym e)
+                  (subst (L .sleeps w (μ (timeWord w))) (sym clock) b),
+            );
+        all = λ {i = i} k a d f.
+            let (l, g) = back _ _ _ _ k d in
+            z .all l a g (λ e. linked-same (L .times) st ν μ (i .w) (sym (same _ _ _ _ l a g .0)) (f e));
       }
-
-  -- a process that waits for the clock has time words of its own
-  pub time-words : {st : State} {μ : Mem} {t : Tree (S L) (root L) (st .process)} {path : List ℕ} {q : Process} {b : Part} {i : Info}
-      {tm : ℕ} {k : List Frame} {at hi : ℕ} → LeafAt L st t path q b i → Asleep (S L) b i st μ tm k at hi
-      → (b .bottom ≤ timeLinkWord (i .w)) × (timeLinkWord (i .w) < b .top) × (b .bottom ≤ timeWord (i .w)) × (timeWord (i .w) < b .top)
-  time-words at a =
-      let low = sits-at L at .placed .low in
-      let small = part-small L at in (
-        omega (arith, a .space, S L .top-small),
-        omega (arith, a .space, S L .top-small),
-        omega (arith, a .space, S L .top-small),
-        omega (arith, a .space, S L .top-small),
-      )
-
-  -- those that wait for the clock keep their time words where those that are not left out keep their words but one
-  pub time-same : {st : State} {μ : Mem} {t : Tree (S L) (root L) (st .process)} {Out : List ℕ → Type 0} {ws : List ℕ} (ν : Mem)
-      (h : Rest L st μ t Out ws)
-      → ((path : List ℕ) (q : Process) (b : Part) (i : Info) → LeafAt L st t path q b i → (Out path → ⊥) → (v : ℕ) → b .bottom ≤ v
-      → v < b .top → v ≢ linkWord (i .w) → ν v ≡ μ v)
-      → (w : ℕ) → List·Memᴰ w (h .sleepers .asleep) → (ν (timeLinkWord w) ≡ μ (timeLinkWord w)) × (ν (timeWord w) ≡ μ (timeWord w))
-  time-same {st} {μ} ν h own w m = elim (h .sleepers .each w m) [
-    | sleeper {b = b} {i = i} k e n ↦
-        elim (held-sleeping (S L) (L .sleeps) b i st μ (h .leaf k n)) [
-          | sleeping a s ↦
-              let words = time-words k a in
-              let off : (v : ℕ) → v < linkWord (i .w) → v ≢ linkWord (i .w) = λ v l f. absurd (omega arith) in
-              let below = sits-at L k .placed .low in
-              let small = part-small L k in
-              subst (λ w. (ν (timeLinkWord w) ≡ μ (timeLinkWord w)) × (ν (timeWord w) ≡ μ (timeWord w))) e (
-                own _ _ _ _ k n (timeLinkWord (i .w)) (words .0) (words .1)
-                    (off (timeLinkWord (i .w)) (omega (arith, a .space, S L .top-small))),
-                own _ _ _ _ k n (timeWord (i .w)) (words .2) (words .3)
-                    (off (timeWord (i .w)) (omega (arith, a .space, S L .top-small))),
-              )
-        ]
-  ]
+    where
+      words : (w : ℕ) → List·Memᴰ w (z .asleep) → TimeSame μ ν w
+      words w m = elim (z .each w m) [ sleeper k e a d ↦ subst (TimeSame μ ν) e (same _ _ _ _ k a d) ]
 
   -- another store, other offers, another clock and another memory, where each process that is not left out sees nothing of it
-  pub rest-changed : {st : State} {μ ν : Mem} {t : Tree (S L) (root L) (st .process)} {Out : List ℕ → Type 0} {ws : List ℕ} {σ : Store}
-      {o : ℕ → Option ℕ} {clock : Option ℕ} (h : Rest L st μ t Out ws)
+  pub plain-changed : {st : State} {μ ν : Mem} {t : Tree (S L) (root L) (st .process)} {Out : List ℕ → Type 0} {ws : List ℕ} {σ : Store}
+      {o : ℕ → Option ℕ} {clock : Option ℕ} (h : Plain L st μ t Out ws)
       → ((path : List ℕ) (q : Process) (b : Part) (i : Info) → LeafAt L st t path q b i → (Out path → ⊥)
       → Intact (S L) b i (linkWord (i .w)) st (stateWith σ o clock st) μ ν)
-      → ((w tm : ℕ) → L .sleeps w tm (now st) → L .sleeps w tm (now (stateWith σ o clock st))) → Sleepers L (stateWith σ o clock st) ν t Out
+      → ((w : ℕ) → Onto (L .times) (L .times) w (now st) (now (stateWith σ o clock st)))
       → ((path : List ℕ) (l : Label) → NodeAt L st t path l → (x : Site) → List·Memᴰ x (zoneOf l .vars)
       → st .store x ≡ μ (S L .word x) → st .store x < 2 ^ 32 → (σ x ≡ ν (S L .word x)) × (σ x < 2 ^ 32))
       → ((path : List ℕ) (l : Label) → NodeAt L st t path l → (c : Site) → List·Memᴰ c (zoneOf l .chans)
       → (ν (S L .word c) ≡ μ (S L .word c)) ⊎ ((ν (S L .word c) ≡ notProcess) ⊎ Owned L st t c (ν (S L .word c))))
       → ((path : List ℕ) (a : Part) (vs cs : List Site) (w onward : ℕ) → NodeAt L st t path (parted a vs cs w onward)
       → (ν w ≡ μ w) × (ν (w + 1) ≡ μ (w + 1)))
-      → Rest L (stateWith σ o clock st) ν t Out ws
-  rest-changed h intact known sleepers vars chans par =
+      → Plain L (stateWith σ o clock st) ν t Out ws
+  plain-changed h intact onto vars chans par =
       record {
         vars = λ e x m. let k = before-node e in vars _ _ k x m (h .vars k x m .0) (h .vars k x m .1);
         chans = λ e c m.
@@ -154,24 +150,38 @@ module _ (L : Loaded) where
         live = λ e. h .live (before-leaf e);
         leaf = λ {i = i} e n.
             let k = before-leaf e in
-            held-stays (S L) _ _ (omega (arith, part-small L k, S L .top-small)) (sits-at L k) (intact _ _ _ _ k n) (known (i .w))
+            held-stays (S L) _ _ (omega (arith, part-small L k, S L .top-small)) (sits-at L k) (intact _ _ _ _ k n) (onto (i .w))
             (h .leaf k n);
         par = λ e m.
             let k = before-node m in
             let (z, y) = h .par e k in
             let (f, g) = par _ _ _ _ _ _ k in
             (f ∙ z, g ∙ y);
-        sleepers = sleepers;
       }
+
+  pub rest-changed : {st : State} {μ ν : Mem} {t : Tree (S L) (root L) (st .process)} {Out : List ℕ → Type 0} {ws : List ℕ} {σ : Store}
+      {o : ℕ → Option ℕ} {clock : Option ℕ} (h : Rest L st μ t Out ws)
+      → ((path : List ℕ) (q : Process) (b : Part) (i : Info) → LeafAt L st t path q b i → (Out path → ⊥)
+      → Intact (S L) b i (linkWord (i .w)) st (stateWith σ o clock st) μ ν)
+      → ((w : ℕ) → Onto (L .times) (L .times) w (now st) (now (stateWith σ o clock st))) → Sleepers L (stateWith σ o clock st) ν t Out
+      → ((path : List ℕ) (l : Label) → NodeAt L st t path l → (x : Site) → List·Memᴰ x (zoneOf l .vars)
+      → st .store x ≡ μ (S L .word x) → st .store x < 2 ^ 32 → (σ x ≡ ν (S L .word x)) × (σ x < 2 ^ 32))
+      → ((path : List ℕ) (l : Label) → NodeAt L st t path l → (c : Site) → List·Memᴰ c (zoneOf l .chans)
+      → (ν (S L .word c) ≡ μ (S L .word c)) ⊎ ((ν (S L .word c) ≡ notProcess) ⊎ Owned L st t c (ν (S L .word c))))
+      → ((path : List ℕ) (a : Part) (vs cs : List Site) (w onward : ℕ) → NodeAt L st t path (parted a vs cs w onward)
+      → (ν w ≡ μ w) × (ν (w + 1) ≡ μ (w + 1)))
+      → Rest L (stateWith σ o clock st) ν t Out ws
+  rest-changed h intact onto sleepers vars chans par = rest-of L (plain-changed (plain-of L h) intact onto vars chans par) sleepers
 
   module _ {st : State} {μ ν : Mem} {t : Tree (S L) (root L) (st .process)} {Out : List ℕ → Type 0} {ws : List ℕ} {σ : Store}
       {o : ℕ → Option ℕ} (h : Rest L st μ t Out ws)
       (intact : (path : List ℕ) (q : Process) (b : Part) (i : Info) → LeafAt L st t path q b i → (Out path → ⊥)
-      → Intact (S L) b i (linkWord (i .w)) st (changed σ o st) μ ν) (front : ν frontWord ≡ μ frontWord) where
+      → Intact (S L) b i (linkWord (i .w)) st (changed σ o st) μ ν) (front : ν frontWord ≡ μ frontWord)
+      (dozers : (path : List ℕ) (q : Process) (b : Part) (i : Info) → LeafAt L st t path q b i → b .bottom + 5 ≤ i .w
+      → Dozer L Out path q → TimeSame μ ν (i .w)) where
     sleepers-same : Sleepers L (changed σ o st) ν t Out
     sleepers-same =
-        sleepers-by (h .sleepers) refl front (time-same ν h (λ path q b i l n. intact path q b i l n .own))
-        (λ path tm k b i l n. (after-leaf l, n)) (λ path tm k b i l n. (before-leaf l, n))
+        sleepers-by (h .sleepers) refl front dozers (λ path q b i l d. (after-leaf l, d)) (λ path q b i l d. (before-leaf l, d))
 
     pub rest-same : ((path : List ℕ) (l : Label) → NodeAt L st t path l → (x : Site) → List·Memᴰ x (zoneOf l .vars)
         → st .store x ≡ μ (S L .word x) → st .store x < 2 ^ 32 → (σ x ≡ ν (S L .word x)) × (σ x < 2 ^ 32))
@@ -180,7 +190,7 @@ module _ (L : Loaded) where
         → ((path : List ℕ) (a : Part) (vs cs : List Site) (w onward : ℕ) → NodeAt L st t path (parted a vs cs w onward)
         → (ν w ≡ μ w) × (ν (w + 1) ≡ μ (w + 1)))
         → Rest L (changed σ o st) ν t Out ws
-    rest-same vars chans par = rest-changed h intact (λ w tm k. k) sleepers-same vars chans par
+    rest-same vars chans par = rest-changed h intact (λ w. onto-same refl) sleepers-same vars chans par
 
   -- senders depend on processes and offers alone
   pub sender-stored : {st : State} {σ : Store} {c : Site} → Sender st c → Sender (changed σ (st .offers) st) c
@@ -191,24 +201,35 @@ module _ (L : Loaded) where
   sender-kept (process path e) = process path e
   sender-kept (outside e) = outside e
 
+  -- a word that is none of the two of an ALT that has the processor
+  abbrev pub Calm : Process → Info → ℕ → Type 0
+  Calm q i v = isAlt q ≡ true → (timeLinkWord (i .w) ≢ v) × (timeWord (i .w) ≢ v)
+
   -- a word of a process's own: the process is left out, or it is its link word
-  pub data Free (Out : List ℕ → Type 0) (path : List ℕ) (i : Info) (v : ℕ) : Type 0 where
-    left-out : Out path → Free Out path i v
-    link : v ≡ linkWord (i .w) → Free Out path i v
+  pub data Free (Out : List ℕ → Type 0) (path : List ℕ) (q : Process) (i : Info) (v : ℕ) : Type 0 where
+    left-out : Out path → Calm q i v → Free Out path q i v
+    link : v ≡ linkWord (i .w) → Free Out path q i v
+
+  -- such a word is none of the two where the process may be in the timer queue
+  dozer-off : {Out : List ℕ → Type 0} {path : List ℕ} {q : Process} {i : Info} {v : ℕ} → Dozer L Out path q → Free Out path q i v
+      → 5 ≤ i .w → i .w ≤ wordLimit → (timeLinkWord (i .w) ≢ v) × (timeWord (i .w) ≢ v)
+  dozer-off (at-wait n) (left-out f g) l h = absurd (n f)
+  dozer-off (at-wait n) (link e) l h = ((λ z. absurd (omega (arith, z, e))), (λ z. absurd (omega (arith, z, e))))
+  dozer-off (in-alt t) (left-out f g) l h = g t
+  dozer-off (in-alt t) (link e) l h = ((λ z. absurd (omega (arith, z, e))), (λ z. absurd (omega (arith, z, e))))
 
   module _ {st : State} {μ : Mem} {t : Tree (S L) (root L) (st .process)} {Out : List ℕ → Type 0} {ws : List ℕ}
       {path : List ℕ} {q : Process}
-      {b : Part} {i : Info} (at : LeafAt L st t path q b i) (h : Rest L st μ t Out ws) where
-    -- a word of its own that is no name's
-    pub write-own : (v z : ℕ) → b .bottom ≤ v → v < b .top → ((x : Site) → List·Memᴰ x (i .vars) → S L .word x ≢ v)
-        → ((c : Site) → List·Memᴰ c (i .chans) → S L .word c ≢ v) → Free Out path i v → Rest L st (upd μ v z) t Out ws
-    write-own v z low high no-var no-chan free = rest-same h intact front vars chans par
+      {b : Part} {i : Info} (at : LeafAt L st t path q b i) where
+    -- a word of its own that is no name's, the timer queue apart
+    pub plain-own : Plain L st μ t Out ws → (v z : ℕ) → b .bottom ≤ v → v < b .top → ((x : Site) → List·Memᴰ x (i .vars) → S L .word x ≢ v)
+        → ((c : Site) → List·Memᴰ c (i .chans) → S L .word c ≢ v) → (Out path ⊎ (v ≡ linkWord (i .w)))
+        → Plain L st (upd μ v z) t Out ws
+    plain-own h v z low high no-var no-chan free =
+        plain-changed h intact (λ w. onto-same refl) vars chans par
       where
         ν : Mem
         ν = upd μ v z
-
-        front : ν frontWord ≡ μ frontWord
-        front = upd-other μ v z frontWord (λ e. absurd (omega (arith, part-small L at, S L .top-small)))
 
         -- another's words
         vars-off : (other : List ℕ) (l : Label) → NodeAt L st t other l → (x : Site) → List·Memᴰ x (zoneOf l .vars) → S L .word x ≢ v
@@ -230,7 +251,7 @@ module _ (L : Loaded) where
         own-off other r c j k n a lo hi d e =
             ⊎-elim (λ (p : path ≡ other).
             let same : i ≡ j = alone-info (some-same (sym (at .label) ∙ ap (labelAt (S L) t) p ∙ k .label)) in
-            elim free [ left-out f ↦ n (subst Out p f) | link f ↦ d (e ∙ f ∙ ap (λ (y : Info). linkWord (y .w)) same) ])
+            ⊎-elim (λ f. n (subst Out p f)) (λ f. d (e ∙ f ∙ ap (λ (y : Info). linkWord (y .w)) same)) free)
             (λ u. apart-zones u (node L at) (node L k) .words a (omega (arith, e), omega (arith, e)) (lo, hi)) (same-path path other)
 
         intact : (other : List ℕ) (r : Process) (c : Part) (j : Info) → LeafAt L st t other r c j → (Out other → ⊥)
@@ -262,6 +283,46 @@ module _ (L : Loaded) where
               upd-other μ v z (w + 1) (λ e. far .words (w + 1) (omega (arith, e), omega (arith, e)) (omega arith, omega arith)),
             )
 
+  module _ {st : State} {μ : Mem} {t : Tree (S L) (root L) (st .process)} {Out : List ℕ → Type 0} {ws : List ℕ}
+      {path : List ℕ} {q : Process}
+      {b : Part} {i : Info} (at : LeafAt L st t path q b i) (h : Rest L st μ t Out ws) where
+    -- a word of its own that is no name's
+    pub write-own : (v z : ℕ) → b .bottom ≤ v → v < b .top → ((x : Site) → List·Memᴰ x (i .vars) → S L .word x ≢ v)
+        → ((c : Site) → List·Memᴰ c (i .chans) → S L .word c ≢ v) → Free Out path q i v → Rest L st (upd μ v z) t Out ws
+    write-own v z low high no-var no-chan free =
+        rest-of L
+        (plain-own at (plain-of L h) v z low high no-var no-chan (elim free [ left-out f g ↦ inl f | link f ↦ inr f ]))
+        (sleepers-by (h .sleepers) refl front dozers (λ path q b i l d. (l, d)) (λ path q b i l d. (l, d)))
+      where
+        ν : Mem
+        ν = upd μ v z
+
+        front : ν frontWord ≡ μ frontWord
+        front = upd-other μ v z frontWord (λ e. absurd (omega (arith, part-small L at, S L .top-small)))
+
+        -- the time words of those that may be in the timer queue
+        dozers : (other : List ℕ) (r : Process) (c : Part) (j : Info) → LeafAt L st t other r c j → c .bottom + 5 ≤ j .w
+            → Dozer L Out other r → TimeSame μ ν (j .w)
+        dozers other r c j k space d =
+            let words = time-words k space in
+            ⊎-elim
+            (λ p.
+            let same : i ≡ j = alone-info (some-same (sym (at .label) ∙ ap (labelAt (S L) t) p ∙ k .label)) in
+            let one : r ≡ q = some-same (sym (k .found) ∙ ap (λ z. look z (st .process)) (sym p) ∙ at .found) in
+            let mine = subst (λ z. Dozer L Out z q) (sym p) (subst (Dozer L Out other) one d) in
+            let low : 5 ≤ i .w = omega (arith, space, ap (λ (y : Info). y .w) same) in
+            let (a, b) = dozer-off mine free low (omega (arith, sits-at L at .placed .low, part-small L at, S L .top-small)) in
+            subst (λ (y : Info). TimeSame μ ν (y .w)) same (
+              upd-other μ v z (timeLinkWord (i .w)) a,
+              upd-other μ v z (timeWord (i .w)) b,
+            ))
+            (λ u.
+            let far = apart-zones u (node L at) (node L k) in (
+              upd-other μ v z (timeLinkWord (j .w)) (λ e. far .words v (low, high)
+                  (omega (arith, e, words .0), omega (arith, e, words .1))),
+              upd-other μ v z (timeWord (j .w)) (λ e. far .words v (low, high) (omega (arith, e, words .2), omega (arith, e, words .3))),
+            )) (same-path path other)
+
     -- where the path is the same or another
     elsewhere : (other : List ℕ) {l : Label} → NodeAt L st t other l → (path ≢ other → Distant (S L) (zoneOf (alone b i)) (zoneOf l))
     elsewhere other n d = apart-zones d (node L at) n
@@ -273,10 +334,37 @@ module _ (L : Loaded) where
     par-off : {other : List ℕ} {a : Part} {vs cs : List Site} {w onward : ℕ} → NodeAt L st t other (parted a vs cs w onward) → path ≢ other
     par-off n p = never (alone-parted (some-same (sym (n .label) ∙ ap (labelAt (S L) t) (sym p) ∙ at .label)))
 
+    -- a name's word is no time word: it is above the workspace, or in no other's part
+    above-words : {other : List ℕ} {r : Process} {c : Part} {j : Info} → LeafAt L st t other r c j → c .bottom + 5 ≤ j .w → path ≡ other
+        → i ≡ j
+    above-words {j = j} k space p = alone-info (some-same (sym (at .label) ∙ ap (labelAt (S L) t) p ∙ k .label))
+
+    time-off : (v : ℕ) → i .w ≤ v
+        → ((other : List ℕ) (l : Label) → NodeAt L st t other l → path ≢ other → zoneOf l .lo ≤ v → v < zoneOf l .hi → ⊥) → (z : ℕ)
+        → (other : List ℕ) (r : Process) (c : Part) (j : Info) → LeafAt L st t other r c j → c .bottom + 5 ≤ j .w → Dozer L Out other r
+        → TimeSame μ (upd μ v z) (j .w)
+    time-off v high far z other r c j k space d =
+        let words = time-words k space in
+        let low = sits-at L k .placed .low in
+        let small = part-small L k in
+        ⊎-elim
+        (λ p.
+        let same : i .w ≡ j .w = ap (λ (y : Info). y .w) (above-words k space p) in (
+          upd-other μ v z (timeLinkWord (j .w)) (λ e. absurd (omega (arith, e, same, space, S L .top-small))),
+          upd-other μ v z (timeWord (j .w)) (λ e. absurd (omega (arith, e, same, space, S L .top-small))),
+        ))
+        (λ u. (
+          upd-other μ v z (timeLinkWord (j .w)) (λ e. far other _ (node L k) u (omega (arith, e, words .0)) (omega (arith, e, words .1))),
+          upd-other μ v z (timeWord (j .w)) (λ e. far other _ (node L k) u (omega (arith, e, words .2)) (omega (arith, e, words .3))),
+        )) (same-path path other)
+
     -- a variable that it may change
     pub write-var : (y : Site) (z : ℕ) → List·Memᴰ y (i .vars) → List·Memᴰ y (b .changes) → z < 2 ^ 32 → Out path
         → Rest L (changed (store y z (st .store)) (st .offers) st) (upd μ (S L .word y) z) t Out ws
-    write-var y z mine mine′ small out = rest-same h intact front vars chans par
+    write-var y z mine mine′ small out =
+        rest-same h intact front
+        (time-off (S L .word y) (sits-at L at .placed .scoped .vars-above y mine)
+        (λ other l n d lo hi. elsewhere other n d .vars-out y mine (lo, hi)) z) vars chans par
       where
         v : ℕ
         v = S L .word y
@@ -334,7 +422,10 @@ module _ (L : Loaded) where
         → ((other : List ℕ) (r : Process) (c : Part) (j : Info) → LeafAt L st t other r c j → (Out other → ⊥)
         → (Own c (μ (S L .word y)) → ⊥) × (Own c z → ⊥))
         → (z ≡ notProcess) ⊎ Owned L st t y z → Out path → Rest L st (upd μ (S L .word y) z) t Out ws
-    write-chan y z mine strange owner out = rest-same h intact front vars chans par
+    write-chan y z mine strange owner out =
+        rest-same h intact front
+        (time-off (S L .word y) (sits-at L at .placed .scoped .chans-above y mine)
+        (λ other l n d lo hi. elsewhere other n d .chans-out y mine (lo, hi)) z) vars chans par
       where
         v : ℕ
         v = S L .word y
@@ -416,5 +507,5 @@ module _ (L : Loaded) where
         chans = λ d m. inl refl;
         sends = senders other r c j l n .0;
         none-sends = senders other r c j l n .1;
-      }) refl
+      }) refl (λ other r c j l space d. (refl, refl))
       (λ other l n x m e k. (e, k)) (λ other l n c m. inl refl) (λ other a vs cs w onward n. (refl, refl))

@@ -5,7 +5,7 @@ use mathlib.Core.Path.{_≡_, subst, _∙_}
 use mathlib.Core.List.{List, [], _∷_}
 use mathlib.Core.Option.{some}
 use Rattle.model.specs.Syntax.{Stmt, SKIP, STOP, assign, input, output, VAR, CHAN, SEQ, PAR, IF, WHILE, ALT, Stmts, noStmt, stmt}
-use Rattle.model.specs.Syntax.{Pairs, noPair, pair, Guard, inputGuard, skipGuard, Guards, Program, TIME, WAIT}
+use Rattle.model.specs.Syntax.{Pairs, noPair, pair, Guard, inputGuard, skipGuard, timeGuard, Guards, Program, TIME, WAIT}
 use Rattle.model.specs.Reader.{names}
 use Rattle.model.specs.Counts.{processes, mostProcesses, sumProcesses, pairProcesses, guardProcesses}
 use Rattle.model.specs.Occam.{Store, isTrue, Frame, inSeq, inVar, inWhile, enter, enterAll, resume, begin, branches, firstTrue, go}
@@ -168,6 +168,7 @@ most-branch : (g : Guard) (s : Stmt) (k : List Frame) → most (begin (branchOf 
 unfolding processes
 most-branch (inputGuard e c x) s k = omega (arith, most-begin (SEQ (stmt (input c x) (stmt s noStmt))) k, processes-one s)
 most-branch (skipGuard e) s k = most-begin s k
+most-branch (timeGuard e t) s k = most-begin s k
 
 most-choice : {st : State} {k : List Frame} {gs : Guards} {p : Process} → Choice st k gs p → most p ≤ max (guardProcesses gs) (mostAfter k)
 unfolding guardProcesses

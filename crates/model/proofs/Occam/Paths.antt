@@ -4,11 +4,11 @@ use native.Mathlib.Omega.{arith}
 use native.Mathlib.Decide.{ℕ-discrete}
 use mathlib.Core.Path.{_≡_, refl, sym, ap, subst, _∙_}
 use mathlib.Core.Logic.{_≢_, _⊎_, inl, inr, ⊎-elim}
-use mathlib.Core.Bool.{true, false}
+use mathlib.Core.Bool.{true, false, Bool}
 use mathlib.Core.List.{List, [], _∷_, _++_, append-nil, List·Memᴰ, Memᴰ·append-right}
 use mathlib.Core.Option.{Option, none, some}
 use Rattle.model.specs.Syntax.{Site, Stmt, SKIP, STOP, assign, input, output, VAR, CHAN, SEQ, PAR, IF, WHILE, ALT, Stmts, noStmt}
-use Rattle.model.specs.Syntax.{stmt, Guards, TIME, WAIT}
+use Rattle.model.specs.Syntax.{stmt, Guards, TIME, WAIT, timed}
 use Rattle.model.specs.Scheme.{howMany}
 use Rattle.model.specs.Occam.{Frame, inSeq, inVar, inWhile, enter, enterAll, resume, begin, branches, closed, Process, before}
 use Rattle.model.specs.Occam.{atInput, atOutput, atStop, atAlt, inPar, finished, Branches, noBranch, branch, over, branchAt}
@@ -748,3 +748,27 @@ awake-resume k = entering-awake (resumes k)
 
 pub awake-begin : (s : Stmt) (k : List Frame) → Awake (begin s k)
 awake-begin s k = entering-awake (enters s k (resumes k))
+
+-- a process that has come to an ALT with a time guard
+abbrev pub isAlt : Process → Bool
+isAlt (atAlt gs k) = timed gs
+isAlt (before s k) = false
+isAlt (atInput c x k) = false
+isAlt (atOutput c v k) = false
+isAlt (atStop k) = false
+isAlt (atWait t k) = false
+isAlt (toRead x k) = false
+isAlt (hasRead x v k) = false
+isAlt (inPar bs k) = false
+isAlt finished = false
+
+entering-off : {p : Process} → Entering p → isAlt p ≡ false
+entering-off en-before = refl
+entering-off en-read = refl
+entering-off en-finished = refl
+
+pub off-resume : (k : List Frame) → isAlt (resume k) ≡ false
+off-resume k = entering-off (resumes k)
+
+pub off-begin : (s : Stmt) (k : List Frame) → isAlt (begin s k) ≡ false
+off-begin s k = entering-off (enters s k (resumes k))

@@ -11,22 +11,22 @@ use mathlib.Core.Option.{some}
 use Rattle.model.specs.Syntax.{Site, Stmt, Stmts, noStmt, stmt, Guards}
 use Rattle.model.specs.Counts.{need}
 use Rattle.model.specs.Scheme.{size, howMany}
-use Rattle.model.specs.Machine.{World, stateWord, nameOf}
-use Rattle.model.specs.Occam.{Store, Frame, Process, atOutput, begin, look, State}
+use Rattle.model.specs.Machine.{World, stateWord, nameOf, timeLinkWord, timeWord}
+use Rattle.model.specs.Occam.{Store, Frame, Process, atOutput, begin, look, State, now}
 use Rattle.model.proofs.Cases.{never}
 use Rattle.model.proofs.Quiet.Ways.{Regs, regsOf, Mem, upd, upd-other, Way, arrived, through, quiet, loads, stores, reloads, jumps}
 use Rattle.model.proofs.Quiet.Ways.{falls, way-stable}
 use Rattle.model.proofs.Quiet.Setting.{Setting}
-use Rattle.model.proofs.Occam.Paths.{same-path, silent-begin}
+use Rattle.model.proofs.Occam.Paths.{same-path, silent-begin, isAlt}
 use Rattle.model.proofs.Words.Parts.{Part, joins, partOf, FineGuards}
 use Rattle.model.proofs.Quiet.Continuations.{cont-low}
 use Rattle.model.proofs.Quiet.Marks.{Own, AltCode, Enabling, Enables, e-input, e-skip, Disables, d-input, d-skip, AltPoint, own-name}
-use Rattle.model.proofs.Quiet.Marks.{pt-enable, pt-wait, pt-disable, pt-choose}
+use Rattle.model.proofs.Quiet.Marks.{pt-enable, pt-wait, pt-disable, pt-choose, e-time, d-time}
 use Rattle.model.proofs.Quiet.Arrivals.{Goes, comes}
 use Rattle.model.proofs.Quiet.Onwards.{AltGoes, alt-goes, Starts, rest-fine, guarded-fine}
 use Rattle.model.proofs.Invariant.Trees.{some-same, Info, newInfo, Sits, Tree, bytesLeft}
 use Rattle.model.proofs.Invariant.Stays.{value-same, Intact, goes-stays, comes-stays, unmarked-stays, noticed-stays, marked-stays}
-use Rattle.model.proofs.Invariant.Stays.{ready-stays, disabling-stays}
+use Rattle.model.proofs.Invariant.Stays.{disabling-stays, present-stays, bringing-stays, guarding-stays, timed-room}
 use Rattle.model.proofs.Effects.OneWord.{cpuOf}
 use Rattle.model.proofs.Effects.Queues.{apart-none}
 use Rattle.model.proofs.Quiet.PathEnds.{Moving, begins, alters, ends, alt-kind, alt-moving}
@@ -34,7 +34,8 @@ use Rattle.model.proofs.Invariant.Kernel.{Loaded, S, root, LeafAt, Rest
 use Rattle.model.proofs.Invariant.Grounds.{small-size}
 use Rattle.model.proofs.Invariant.Running.{Only, Nobody, StartsLeft, Later, l-here, l-next, NotStarted, not-started, Starting, Here}
 use Rattle.model.proofs.Invariant.Running.{ToStart, Now, now-goes, now-alt, NowStarts, Inv, runs, starts, idle}
-use Rattle.model.proofs.Invariant.Moving.{same-leaf, settled-silent, skips-silent}
+use Rattle.model.proofs.Invariant.Moving.{same-leaf, settled-silent, skips-silent, skips-off}
+use Rattle.model.proofs.Quiet.Timing.{Times, Onto, onto-same}
 
 -- what holds of the memory at the significant instruction of a path without jumps, and is not told by spare words, holds on it
 pub way-holds : (S : Setting) {P : ℕ → Mem → ℕ → Regs → Type 0} {E : Type 0} {σ : Store} {R : Site → Type 0} {Spare : ℕ → Type 0}
@@ -57,14 +58,19 @@ module _ (S : Setting) (b : Part) (vars chans : List Site) {st st′ : State}
       → Enables S b st vars chans gs j r j′ → Enables S b st′ vars chans gs j r j′
   enables-stays vw f (e-input {e} x v c g) = e-input x (v ∙ value-same b vars same e (f .0)) c g
   enables-stays vw f (e-skip {e} x v g) = e-skip x (v ∙ value-same b vars same e (f .0)) g
+  enables-stays vw f (e-time {e} {t} x v u z g) =
+      let same-time = value-same b vars same t (f .1 .0, f .1 .1, tt {0}) in
+      e-time x (v ∙ value-same b vars same e (f .0)) (u ∙ same-time) (subst (λ n. n < 2 ^ 32) same-time z) g
 
   pub disables-stays : {gs : Guards} {c m j j′ : ℕ} {r : Regs} (vw : ℕ) → FineGuards (S .word) b vars chans vw gs
       → Disables S b st vars chans gs c m j r j′ → Disables S b st′ vars chans gs c m j r j′
   disables-stays vw f (d-input {e} x u v c g) = d-input x u (v ∙ value-same b vars same e (f .0)) c g
   disables-stays vw f (d-skip {e} x u v g) = d-skip x u (v ∙ value-same b vars same e (f .0)) g
+  disables-stays vw f (d-time {e} {t} x u v z g) =
+      d-time x u (v ∙ value-same b vars same e (f .0)) (z ∙ value-same b vars same t (f .1 .0, f .1 .1, tt {0})) g
 
-module _ (S : Setting) (b : Part) (i : Info) (high : b .top < 2 ^ 32) (sits : Sits S b i) {st st′ : State} {μ ν : Mem}
-    (intact : Intact S b i (b .top) st st′ μ ν) where
+module _ (S : Setting) (b : Part) (i : Info) (high : b .top < 2 ^ 32) (sits : Sits S b i) {T T′ : Times}
+    {st st′ : State} {μ ν : Mem} (onto : (w : ℕ) → Onto T T′ w (now st) (now st′)) (intact : Intact S b i (b .top) st st′ μ ν) where
   pub all-same : (v : ℕ) → b .bottom ≤ v → v < b .top → ν v ≡ μ v
   all-same v lo hi = intact .own v lo hi (λ e. absurd (omega arith))
 
@@ -79,19 +85,31 @@ module _ (S : Setting) (b : Part) (i : Info) (high : b .top < 2 ^ 32) (sits : Si
     alt-state : ν (stateWord w) ≡ μ (stateWord w)
     alt-state = let l = cont-low S b (c .after) in all-same (stateWord w) (omega (arith, c .fine .0)) (omega (arith, c .fine .0))
 
-    enabling-stays : {hs : Guards} → Enabling S b st (i .vars) (i .chans) gs hs μ w → Enabling S b st′ (i .vars) (i .chans) gs hs ν w
+    -- its two words for times, where it has room for them
+    alt-times : b .bottom + 5 ≤ w → (ν (timeLinkWord w) ≡ μ (timeLinkWord w)) × (ν (timeWord w) ≡ μ (timeWord w))
+    alt-times space =
+        let l = cont-low S b (c .after) in
+        let link = all-same (timeLinkWord w) (omega (arith, space)) (omega (arith, space)) in
+        (link, all-same (timeWord w) (omega (arith, space)) (omega (arith, space)))
+
+    enabling-stays : {hs : Guards} → Enabling S b T st (i .vars) (i .chans) gs hs μ w
+        → Enabling S b T′ st′ (i .vars) (i .chans) gs hs ν w
     enabling-stays n =
         record {
           rest = n .rest;
           marks = marked-stays S b i high sits intact (w + 1) w (c .fine .1) (n .marks);
           state = ⊎-elim
               (λ e. inl (alt-state ∙ e .0, noticed-stays S b i high sits intact (w + 1) alt-own (c .fine .1) (e .1)))
-              (λ e. inr (alt-state ∙ e .0, ready-stays S b i high sits intact (w + 1) (c .fine .1) (e .1))) (n .state);
+              (λ e. inr (alt-state ∙ e .0, present-stays S b i high sits intact (w + 1) (c .fine .1) (e .1))) (n .state);
+          times = λ z.
+              let (link, time) = alt-times (timed-room S b i high sits intact (w + 1) gs refl (c .fine .1) z) in
+              bringing-stays S b i high sits intact (w + 1) (onto w) (c .fine .1) link time (n .times z);
+          known = guarding-stays S b i high sits intact (w + 1) (onto w) (c .fine .1) (n .known);
         }
 
   -- the significant instructions of an ALT
-  alt-point-stays : {q : Process} (up j : ℕ) (r : Regs) → AltPoint S b st (i .vars) (i .chans) q up μ j r
-      → AltPoint S b st′ (i .vars) (i .chans) q up ν j r
+  alt-point-stays : {q : Process} (up j : ℕ) (r : Regs) → AltPoint S b T st (i .vars) (i .chans) q up μ j r
+      → AltPoint S b T′ st′ (i .vars) (i .chans) q up ν j r
   alt-point-stays up j r (pt-enable c l n e) =
       pt-enable c l (enabling-stays (r .w) c n)
       (enables-stays S b (i .vars) (i .chans) (intact .reads) (r .w + 1) (rest-fine (S .word) b (i .vars) (i .chans) (r .w + 1)
@@ -99,10 +117,14 @@ module _ (S : Setting) (b : Part) (i : Info) (high : b .top < 2 ^ 32) (sits : Si
   alt-point-stays up j r (pt-wait c n) = pt-wait c (enabling-stays (r .w) c n)
   alt-point-stays up j r (pt-disable c l t n d) =
       let f = rest-fine (S .word) b (i .vars) (i .chans) (r .w + 1) t (c .fine .1) in
-      pt-disable c l t (disabling-stays S b i high sits intact (r .w + 1) (c .fine .1) f (alt-base (r .w) c) (alt-state (r .w) c) n)
+      pt-disable c l t
+      (disabling-stays S b i high sits intact (r .w + 1) (onto (r .w)) refl (c .fine .1) f (alt-base (r .w) c) (alt-state (r .w) c)
+      (alt-times (r .w) c) n)
       (disables-stays S b (i .vars) (i .chans) (intact .reads) (r .w + 1) f d)
   alt-point-stays up j r (pt-choose c n) =
-      pt-choose c (disabling-stays S b i high sits intact (r .w + 1) (c .fine .1) tt (alt-base (r .w) c) (alt-state (r .w) c) n)
+      pt-choose c
+      (disabling-stays S b i high sits intact (r .w + 1) (onto (r .w)) refl (c .fine .1) tt (alt-base (r .w) c) (alt-state (r .w) c)
+      (alt-times (r .w) c) n)
 
 -- where all words but a part's link word stay, they stay with one more value in a word that is no channel's
 intact-upd : {S : Setting} {b : Part} {i : Info} {skip : ℕ} {st st′ : State} {μ ν : Mem} (v z : ℕ)
@@ -122,14 +144,14 @@ intact-upd {S} {b} {i} {μ = μ} {ν = ν} v z off k =
     there : (κ : Mem) (c : Site) → List·Memᴰ c (i .chans) → upd κ v z (S .word c) ≡ κ (S .word c)
     there κ c m = upd-other κ v z (S .word c) (λ e. absurd (omega (arith, off c m, e)))
 
-pub alt-stays : (S : Setting) (b : Part) (i : Info) → b .top < 2 ^ 32 → Sits S b i → {st st′ : State} {μ ν : Mem}
-    → Intact S b i (b .top) st st′ μ ν → {q : Process} {hi j : ℕ} {r : Regs} → AltGoes S b st (i .vars) (i .chans) q hi μ j r
-    → AltGoes S b st′ (i .vars) (i .chans) q hi ν j r
-alt-stays S b i high sits {st} {st′} intact (alt-goes w way) =
-    alt-goes w
+pub alt-stays : (S : Setting) (b : Part) (i : Info) → b .top < 2 ^ 32 → Sits S b i → {T T′ : Times} {st st′ : State} {μ ν : Mem}
+    → ((w : ℕ) → Onto T T′ w (now st) (now st′)) → Intact S b i (b .top) st st′ μ ν → {q : Process} {v hi j : ℕ} {r : Regs}
+    → AltGoes S b T st (i .vars) (i .chans) q v hi μ j r → AltGoes S b T′ st′ (i .vars) (i .chans) q v hi ν j r
+alt-stays S b i high sits {st = st} {st′} onto intact (alt-goes w tied way) =
+    alt-goes w tied
     (way-stable (S .xs) (S .off) (S .word) (Intact S b i (b .top) st st′) (λ μ ν v z s k. intact-upd v z (s .0 .no-chan) k)
-    (λ μ ν v s k. all-same S b i high sits k v (s .0 .above) (s .0 .below)) (λ x m. intact .reads x (m .0) (m .1)) (λ w c. absurd c)
-    (λ h μ ν j r k p. (alt-point-stays S b i high sits k h j r (p .0), p .1)) intact way)
+    (λ μ ν v s k. all-same S b i high sits onto k v (s .0 .above) (s .0 .below)) (λ x m. intact .reads x (m .0) (m .1)) (λ w c. absurd c)
+    (λ h μ ν j r k p. (alt-point-stays S b i high sits onto k h j r (p .0), p .1)) intact way)
 
 -- the k-th of some statements
 later-few : {ss : Stmts} {d b k d′ b′ : ℕ} {r : Stmt} → Later ss d b k r d′ b′ → k < howMany ss
@@ -166,7 +188,24 @@ not-started-known : (B : StartsLeft) (other : List ℕ) → NotStarted B other �
 not-started-known B other =
     ⊎-elim (λ u. inl u) (λ n. inr (λ u. elim u [ not-started k l e ↦ n k l e ])) (not-started-upto B other (howMany (B .ss)) (omega arith))
 
+-- whether a process is left out
+pub starting-known : (path : List ℕ) (B : StartsLeft) (other : List ℕ) → Starting path B other ⊎ (Starting path B other → ⊥)
+starting-known path B other =
+    ⊎-elim (λ e. inl (inl e))
+    (λ d. ⊎-elim (λ u. inl (inr u)) (λ n. inr (λ o. ⊎-elim d n o)) (not-started-known B other)) (same-path path other)
+
 module _ (L : Loaded) where
+  -- nothing happens
+  pub intact-refl : {b : Part} {i : Info} {skip : ℕ} {st : State} {μ : Mem} → Intact (S L) b i skip st st μ μ
+  intact-refl =
+      record {
+        own = λ a lo hi d. refl;
+        reads = λ x m g. refl;
+        chans = λ d m. inl refl;
+        sends = λ d m z. z;
+        none-sends = λ d m g z y. y;
+      }
+
   -- two machines whose processes see the same registers
   pub record SameRegs (u s : World) : Type 0 where
     pub run : cpuOf u .running ≡ cpuOf s .running
@@ -183,15 +222,17 @@ module _ (L : Loaded) where
     soon-same n h = omega (arith, same .place)
 
     pub now-stays : {st st′ : State} {μ ν : Mem} {b : Part} {i : Info} {q : Process} → b .top < 2 ^ 32 → Sits (S L) b i
-        → Intact (S L) b i (b .top) st st′ μ ν → Now L s st μ b i q → Now L u st′ ν b i q
-    now-stays {st′ = st′} {ν = ν} {b} {i} {q} high sits intact (now-goes {hi} {at} h way settled clean soon) =
+        → ((w : ℕ) → Onto (L .times) (L .times) w (now st) (now st′)) → Intact (S L) b i (b .top) st st′ μ ν → Now L s st μ b i q
+        → Now L u st′ ν b i q
+    now-stays {st′ = st′} {ν = ν} {b} {i} {q} high sits onto intact (now-goes {hi} {at} h way settled clean soon) =
         now-goes (here-same h)
         (subst (λ r. Goes (S L) b (st′ .store) (i .vars) (i .chans) q hi ν at r) (sym (same .regs))
-        (goes-stays (S L) b (i .vars) (i .chans) (intact .reads) (all-same (S L) b i high sits intact) way))
+        (goes-stays (S L) b (i .vars) (i .chans) (intact .reads) (all-same (S L) b i high sits onto intact) way))
         settled (unmarked-stays (S L) b i high sits intact clean) (soon-same (i .left) soon)
-    now-stays {st′ = st′} {ν = ν} {b} {i} {q} high sits intact (now-alt {hi} {at} h way soon) =
+    now-stays {st′ = st′} {ν = ν} {b} {i} {q} high sits onto intact (now-alt {hi} {at} h way soon) =
         now-alt (here-same h)
-        (subst (λ r. AltGoes (S L) b st′ (i .vars) (i .chans) q hi ν at r) (sym (same .regs)) (alt-stays (S L) b i high sits intact way))
+        (subst (λ r. AltGoes (S L) b (L .times) st′ (i .vars) (i .chans) q (i .w) hi ν at r) (sym (same .regs))
+        (alt-stays (S L) b i high sits onto intact way))
         (soon-same (i .left) soon)
 
   -- a part is below the end of words
@@ -269,7 +310,7 @@ module _ (L : Loaded) where
         → Own b (μ (S L .word c)) → List·Memᴰ c (b .inputs)
     pub free : (cpuOf s .running ≡ true) ⊎ Free s Out ws
     pub stays : (u : World) (st′ : State) (ν : Mem) (t′ : Tree (S L) (root L) (st′ .process)) (us : List ℕ) → SameRegs u s
-        → Keeps st st′ μ ν t t′ Out → (cpuOf s .running ≡ false → us ≡ []) → Real L u st′ ν us → Rest L st′ ν t′ Out us
+        → now st′ ≡ now st → Keeps st st′ μ ν t t′ Out → (cpuOf s .running ≡ false → us ≡ []) → Real L u st′ ν us → Rest L st′ ν t′ Out us
         → Lined L st′ t′ Out us → Inv L u st′ (bytesLeft (S L) t′)
 
   -- a process that goes on sends nothing
@@ -288,7 +329,7 @@ module _ (L : Loaded) where
   -- an ALT's marks are at its guards
   point-marks : {st : State} {μ : Mem} {b : Part} (i : Info) {q : Process} (c : Site) → List·Memᴰ c (i .chans) → Own b (μ (S L .word c))
       → (up j : ℕ)
-      (r : Regs) → AltPoint (S L) b st (i .vars) (i .chans) q up μ j r → List·Memᴰ c (b .inputs)
+      (r : Regs) → AltPoint (S L) b (L .times) st (i .vars) (i .chans) q up μ j r → List·Memᴰ c (b .inputs)
   point-marks {b = b} i c m o up j r (pt-enable a l n e) =
       guarded-fine (S L .word) b (i .vars) (i .chans) (r .w + 1) (n .marks c m o .1) (a .fine .1) .1
   point-marks {b = b} i c m o up j r (pt-wait a n) =
@@ -303,11 +344,25 @@ module _ (L : Loaded) where
       → List·Memᴰ c (i .chans)
       → Own b (μ (S L .word c)) → List·Memᴰ c (b .inputs)
   now-marks (now-goes h way settled clean soon) c m o = absurd (clean c m o)
-  now-marks {b = b} {i} (now-alt h (alt-goes w way) soon) c m o =
+  now-marks {b = b} {i} (now-alt h (alt-goes w tied way) soon) c m o =
       way-holds (S L) (λ ν. Own b (ν (S L .word c)) → List·Memᴰ c (b .inputs))
       (λ ν v z s k o. k
       (subst (Own b) (sym (upd-other ν v z (S L .word c) (λ e. absurd (omega (arith, s .0 .no-chan c m, e))))) o))
       (λ h ν j r p o. point-marks i c m o h j r (p .0)) (λ ν z. absurd z) way o
+
+  -- a first branch and those that it has still to start have not come to an ALT
+  pub starts-off : {s : World} {st : State} {μ : Mem} {t : Tree (S L) (root L) (st .process)} {path : List ℕ} {q : Process} {b : Part}
+      {i : Info} → LeafAt L st t path q b i → (B : StartsLeft) → NowStarts L s st μ t path q b i B
+      → {other : List ℕ} {p : Process} {a : Part} {j : Info} → LeafAt L st t other p a j → Starting path B other → isAlt p ≡ false
+  unfolding howMany
+  starts-off leaf B now k (inl e) =
+      same-leaf L (λ z a (j : Info). isAlt z ≡ false) e leaf k (elim (now .own) [ comes sk settled sub way ↦ skips-off sk settled ])
+  starts-off leaf B now k (inr (not-started n l e)) = elim (later-found (stmt (B .s) (B .ss)) (B .d) (B .b) n (omega arith)) [
+    | nth {r} h ↦
+        let next-start = now .all-to-start n r _ _ h in
+        same-leaf L (λ z a (j : Info). isAlt z ≡ false) (sym e) (next-start .leaf) k
+        (elim (next-start .comes) [ comes sk settled sub way ↦ skips-off sk settled ])
+  ]
 
   module _ {s : World} {st : State} {μ : Mem} {t : Tree (S L) (root L) (st .process)} {path : List ℕ} {q : Process} {b : Part} {i : Info}
       {ws : List ℕ} (real : Real L s st μ ws) (run : cpuOf s .running ≡ true) (leaf : LeafAt L st t path q b i) where
@@ -324,9 +379,10 @@ module _ (L : Loaded) where
               (now-marks now c (same-leaf L (λ z a (j : Info). List·Memᴰ c (j .chans)) (sym o) k leaf m)
               (same-leaf L (λ z a (j : Info). Own a (μ (S L .word c))) (sym o) k leaf n));
           free = inl run;
-          stays = λ u st′ ν t′ us same keeps f real′ rest′ lines′.
+          stays = λ u st′ ν t′ us same clock keeps f real′ rest′ lines′.
               let (leaf′, intact) = keeps path q b i leaf refl in
-              runs real′ (same .run ∙ run) leaf′ rest′ lines′ (now-stays same (part-high leaf) (sits-at L leaf) intact now);
+              runs real′ (same .run ∙ run) leaf′ rest′ lines′
+              (now-stays same (part-high leaf) (sits-at L leaf) (λ w. onto-same (sym clock)) intact now);
         }
 
     -- no channel holds a name of the first branch or of those that it has still to start
@@ -353,15 +409,14 @@ module _ (L : Loaded) where
           real = real;
           rest = rest;
           lined = lines;
-          known = λ other. ⊎-elim (λ e. inl (inl e))
-              (λ d. ⊎-elim (λ u. inl (inr u)) (λ n. inr (λ o. ⊎-elim d n o)) (not-started-known B other)) (same-path path other);
+          known = starting-known path B;
           silent = λ other c v k e o. ⊎-elim
               (λ p. elim (now .own) [
                 | comes sk settled sub way ↦ skips-silent sk settled (some-same (sym (leaf .found) ∙ ap (λ z. look z (st .process)) p ∙ e))
               ]) (λ u. not-started-silent other c v k e u) o;
           marks = λ other p a j k o c m n. absurd (starts-unmarked B now other p a j k o c m n);
           free = inl run;
-          stays = λ u st′ ν t′ us same keeps f real′ rest′ lines′.
+          stays = λ u st′ ν t′ us same clock keeps f real′ rest′ lines′.
               starts B real′ (same .run ∙ run) (keeps path q b i leaf (inl refl) .0) rest′ lines′ (starts-stays same leaf keeps now);
         }
       where
@@ -387,7 +442,7 @@ module _ (L : Loaded) where
         silent = λ other c v k e o. o;
         marks = λ other p a j k o c m n. absurd o;
         free = inr (record { stopped = stop; operand = operand; nobody = λ other o. o; unqueued = refl });
-        stays = λ u st′ ν t′ us same keeps f real′ rest′ lines′.
+        stays = λ u st′ ν t′ us same clock keeps f real′ rest′ lines′.
             idle (subst (λ l. Real L u st′ ν l) (f stop) real′) (same .run ∙ stop) (same .operand ∙ operand)
             (subst (λ l. Rest L st′ ν t′ Nobody l) (f stop) rest′);
       }

@@ -11,10 +11,10 @@ use lib.ListN.{getD}
 use borrow.Author.Tests.{eq-eqb}
 use Rattle.model.specs.Word.{notProcess}
 use Rattle.model.specs.Limits.{wordLimit}
-use Rattle.model.specs.Syntax.{Site, inputOf, Guards}
+use Rattle.model.specs.Syntax.{Site, inputOf, Guards, noGuard, timed}
 use Rattle.model.specs.Layout.{base}
 use Rattle.model.specs.Scheme.{sizeEnable}
-use Rattle.model.specs.Machine.{World, done, resumeWord, stateWord, nameOf}
+use Rattle.model.specs.Machine.{World, done, resumeWord, stateWord, timeLinkWord, timeWord, nameOf}
 use Rattle.model.specs.Alternative.{isAltState, notify, waiting, ready, noneSelected}
 use Rattle.model.specs.Run.{land}
 use Rattle.model.specs.Outside.{offering}
@@ -27,15 +27,16 @@ use Rattle.model.proofs.Cases.{never}
 use Rattle.model.proofs.Quiet.Names.{name-given}
 use Rattle.model.proofs.Quiet.Ways.{upd-same, upd-other, upd, regsOf, Mem}
 use Rattle.model.proofs.Words.Parts.{Part, Target}
+use Rattle.model.proofs.Quiet.Timing.{Dozing, Guarding}
 use Rattle.model.proofs.Quiet.Marks.{Own, Guarded, AltCode, Marked, Disabling, own-name}
-use Rattle.model.proofs.Quiet.Onwards.{AltWay, alt-goes, guarded-ready}
+use Rattle.model.proofs.Quiet.Onwards.{AltWay, alt-goes, Tied, guarded-present, present-found}
 use Rattle.model.proofs.Invariant.Trees.{Info, Tree, bytesLeft}
 use Rattle.model.proofs.Invariant.Leaves.{member, Unmarked, Resumes, Waits, Held, h-woken}
 use Rattle.model.proofs.Invariant.Stays.{Intact, intact-trans}
 use Rattle.model.proofs.Effects.OneWord.{cpuOf, stored}
 use Rattle.model.proofs.Effects.Acts.{notify-waiting, notify-other}
 use Rattle.model.proofs.Invariant.Kernel.{Loaded, S, root, size, LeafAt, Rest, Lined, Real, node, part-small, sits-at}
-use Rattle.model.proofs.Invariant.Writes.{changed, after-leaf, after-lined, apart-parts, own-one, write-var, change-offers}
+use Rattle.model.proofs.Invariant.Writes.{changed, after-leaf, after-lined, apart-parts, own-one, write-var, change-offers, Calm}
 use Rattle.model.proofs.Invariant.Puts.{putting}
 use Rattle.model.proofs.Invariant.Grounds.{var-in, small-size}
 use Rattle.model.proofs.Invariant.Traces.{Trace, t-none, t-step, t-event}
@@ -44,7 +45,8 @@ use Rattle.model.proofs.Invariant.Moving.{same-leaf, rest-in, lined-out
 use Rattle.model.proofs.Invariant.Reals.{size-is, mirrored, real-state, real-stored, link-any, link-var, link-chan}
 use Rattle.model.proofs.Steps.Channels.{Holder, holds-input, holds-output, holds-wait, holds-woken, holds-out, holder, input-at}
 use Rattle.model.proofs.Steps.Meets.{not-own, clear-chan, var-above, chan-above, rest-below, real-below}
-use Rattle.model.proofs.Steps.Outword.{ready-more, picks-more, no-alt-state}
+use Rattle.model.proofs.Steps.Outword.{SameTimes, found-more, picks-more, dozed, passed-more as times-more, no-alt-state}
+use Rattle.model.proofs.Steps.Quiets.{tied-alt}
 use Rattle.model.proofs.Outside.Bystanders.{SameRegs, Keeps, Ground, runs-ground, starts-unmarked, starts-ground, idle-ground}
 use Rattle.model.proofs.Outside.Wakings.{With, Answers, answers, inv-lands, intact-var, intact-chan, intact-own, intact-offers}
 use Rattle.model.proofs.Outside.Wakings.{Joins, goes-on, waited-goes, answers-talk, answers-silent, input-named, outside-chan}
@@ -101,7 +103,7 @@ module _ (L : Loaded) {s : World} {st : State} {μ : Mem} {t : Tree (S L) (root 
         (λ a m x o g. fewer-senders st k v (λ e. strange d (omega (arith, part-small L l, small-size L))
             (subst (λ z. Own d (μ (S L .word z))) e o)) g),
       )) in
-      let inv = G .stays (holding k v s) st₁ μ t ws (record { run = refl; place = refl; operand = refl; regs = refl })
+      let inv = G .stays (holding k v s) st₁ μ t ws (record { run = refl; place = refl; operand = refl; regs = refl }) refl
       (λ path q b i l o. (after-leaf L l, intact-held (strange b (omega (arith, part-small L l, small-size L))))) idle-empty
       (real-held L k v below small (G .real)) rest (after-lined L (G .lined)) in
       answers (holding k v s) (Demand.outside (offers k v Offered) [] st₁ ∷ [])
@@ -139,9 +141,24 @@ module _ (L : Loaded) {s : World} {st : State} {μ : Mem} {t : Tree (S L) (root 
     abbrev ν : Mem
     ν = upd μ (stateWord (j .w)) ready
 
+    -- its time words are others
+    alt-calm : (timeLinkWord (j .w) ≢ stateWord (j .w)) × (timeWord (j .w) ≢ stateWord (j .w))
+    alt-calm =
+        let low = sits-at L chooser .placed .low in
+        let tall = part-small L chooser in (
+          (λ q. absurd (omega (arith, q, a .fine .0, low, tall, small-size L))),
+          (λ q. absurd (omega (arith, q, a .fine .0, low, tall, small-size L))),
+        )
+
+    alt-times : SameTimes μ ν (j .w)
+    alt-times = (
+      upd-other μ (stateWord (j .w)) ready (timeLinkWord (j .w)) (alt-calm .0),
+      upd-other μ (stateWord (j .w)) ready (timeWord (j .w)) (alt-calm .1),
+    )
+
     rest₁ : Rest L st₁ ν t (With Out other) ws
     rest₁ =
-        rest-below L chooser₁ (inr refl) (sits-at L chooser .placed) (stateWord (j .w)) ready (t-low .0) (t-low .1)
+        rest-below L chooser₁ (inr refl) (sits-at L chooser .placed) (stateWord (j .w)) ready (t-low .0) (t-low .1) (λ e. alt-calm)
         (change-offers L (withOffer k v (st .offers)) (rest-with L chooser (λ t f e. never (cc)) (G .rest)) (λ path r b i x n. (
           (λ y m g. more-senders st k v g),
           (λ y m z o g. fewer-senders st k v (λ e. own-one L (apart-parts L chooser x (λ q. n (inr q))) own-chooser
@@ -201,35 +218,40 @@ module _ (L : Loaded) {s : World} {st : State} {μ : Mem} {t : Tree (S L) (root 
 
     -- it waits: it is woken
     did-wake : Guarded (st .store) c gs → member (j .w) ws ≡ false → Resumes (S L) d j st μ (to + 2 + sizeEnable gs + 1) far
-        → μ (stateWord (j .w)) ≡ waiting → μ (j .w) ≡ noneSelected → Marked (S L) d st (j .vars) (j .chans) gs μ (j .w) → Goal
-    did-wake guarded unqueued r state chosen marks =
+        → μ (stateWord (j .w)) ≡ waiting → μ (j .w) ≡ noneSelected → Marked (S L) d st (j .vars) (j .chans) gs μ (j .w)
+        → (timed gs ≡ true → Dozing (L .times) st gs μ (j .w)) → Guarding (L .times) st gs noGuard (j .w) → Goal
+    did-wake guarded unqueued r state chosen marks dozes known =
         let lines = after-lined L (lined-out L chooser unqueued (λ y q. ⊎-elim (λ p. inr p) (λ p. inl p) q) (G .lined)) in
-        let held : Held (S L) (L .sleeps) d j st₁ ν true (atAlt gs l) =
+        let held : Held (S L) (L .times) d j st₁ ν true (atAlt gs l) =
         h-woken a (resumes₁ r) (upd-same μ (stateWord (j .w)) ready)
         (record {
           marks = marked₁ marks;
           state = upd-same μ (stateWord (j .w)) ready;
-          chosen = inr (base-word ∙ chosen, guarded-ready guarded (offer-sends st k v));
+          chosen = inr (base-word ∙ chosen, present-found ν (j .w) (guarded-present guarded (offer-sends st k v)));
+          times = λ e. dozed (L .times) st st₁ refl refl alt-times (dozes e);
+          known = known;
         }) in
         answers-silent L (t-event event t-none) refl
         (λ u e lands. tells state refl u (notify-waiting (j .w) (holding k v s) (rw (size-is L (G .real)) alt-in) ∙ e) lands)
-        (goes-on L G same-regs real₁ rest₁ lines chooser₁ strange keeps held)
+        (goes-on L G same-regs refl real₁ rest₁ lines chooser₁ strange keeps held)
 
     -- it was woken before: it stays Ready
     did-tell : member (j .w) ws ≡ true → Resumes (S L) d j st μ (to + 2 + sizeEnable gs + 1) far → μ (stateWord (j .w)) ≡ ready
-        → Disabling (S L) d st (j .vars) (j .chans) l gs gs (a .choice) μ (j .w) → Goal
+        → Disabling (S L) d (L .times) st (j .vars) (j .chans) l gs gs (a .choice) μ (j .w) → Goal
     did-tell queued r state dis =
-        let held : Held (S L) (L .sleeps) d j st₁ ν true (atAlt gs l) =
+        let held : Held (S L) (L .times) d j st₁ ν true (atAlt gs l) =
         h-woken a (resumes₁ r) (upd-same μ (stateWord (j .w)) ready)
         (record {
           marks = marked₁ (dis .marks);
           state = upd-same μ (stateWord (j .w)) ready;
-          chosen = ⊎-elim (λ y. let (n, q, g, x) = y in inl (n, q, picks-more (λ y. more-senders st k v) refl g, base-word ∙ x))
-              (λ y. inr (base-word ∙ y .0, ready-more (λ y. more-senders st k v) refl (y .1))) (dis .chosen);
+          chosen = ⊎-elim (λ y. let (n, q, g, x) = y in inl (n, q, picks-more (λ y. more-senders st k v) refl refl g, base-word ∙ x))
+              (λ y. inr (base-word ∙ y .0, found-more (λ y. more-senders st k v) refl (λ e. alt-times) (y .1))) (dis .chosen);
+          times = λ e. times-more (L .times) st st₁ refl refl alt-times (dis .times e);
+          known = dis .known;
         }) in
-        let rest₂ = rest-in L {Out′ = Out} chooser₁ (subst (λ y. Held (S L) (L .sleeps) d j st₁ ν y (atAlt gs l)) (sym queued) held)
+        let rest₂ = rest-in L {Out′ = Out} chooser₁ (subst (λ y. Held (S L) (L .times) d j st₁ ν y (atAlt gs l)) (sym queued) held)
         (λ y n q. ⊎-elim (λ o. o) (λ e. absurd (n e)) q) (λ y o. inl o) (λ t f e. never (cc)) rest₁ in
-        let inv = G .stays s₁ st₁ ν t ws same-regs keeps idle-empty real₁ rest₂ (after-lined L (G .lined)) in
+        let inv = G .stays s₁ st₁ ν t ws same-regs refl keeps idle-empty real₁ rest₂ (after-lined L (G .lined)) in
         answers s₁ (Demand.outside (offers k v Offered) [] st₁ ∷ [])
         (tells state refl s₁
         (notify-other (j .w) ready (holding k v s) (rw (size-is L (G .real)) alt-in) (λ q. absurd (omega arith))) (inv-lands L inv))
@@ -331,9 +353,9 @@ module _ (L : Loaded) {s : World} {st : State} {μ : Mem} {t : Tree (S L) (root 
 
     goes : Joins L (j .w) s₂ (putting other (resume l) st₃) (bytesLeft (S L) t)
     goes =
-        waited-goes L G (record { run = refl; place = refl; operand = refl; regs = refl }) real₃ rest₃
+        waited-goes L G (record { run = refl; place = refl; operand = refl; regs = refl }) refl real₃ rest₃
         (after-lined L lines₁) receiver₃ strange
-        keeps₃ waits kept₃ refl clean₃ (λ a z f e here p y n q m. never (cc))
+        keeps₃ waits kept₃ refl refl clean₃ (λ a z f e here p y n q m. never (cc))
 
     -- offered, and received
     passes : Trace st (Demand.outside (offers k v Offered) [] st₁ ∷ Demand.step (over-channel c v) (putting other (resume l) st₃) ∷ [])
@@ -357,7 +379,7 @@ module _ (L : Loaded) {s : World} {st : State} {μ : Mem} {t : Tree (S L) (root 
       → Own b (μ (S L .word c)) → Goal) → Holder L st μ t Out ws c → Goal
   by-holder out (holds-input y n e w x inp unsent) = did-pass y n e w x
   by-holder out (holds-output y n e w o low z tiny) = absurd (L .one-way k (part-of L y .outputs c o))
-  by-holder out (holds-wait y n e a r g z all un mk here guarded inp) = did-wake y n a here guarded e r g z mk
+  by-holder out (holds-wait y n e a r g z all un mk dozes known here guarded inp) = did-wake y n a here guarded e r g z mk dozes known
   by-holder out (holds-woken y n e a r g d here guarded inp) = did-tell y n a here e r g d
   by-holder out (holds-out y o m n) = out _ _ _ _ y o m n
 
@@ -376,7 +398,7 @@ module _ (L : Loaded) {s : World} {st : State} {μ : Mem} {t : Tree (S L) (root 
   high = omega (arith, part-small L leaf, small-size L)
 
   -- its workspace, and its state word
-  module _ {p : ℕ} (named : μ (S L .word (inputOf k)) ≡ nameOf p) (stood : Stood L b i st μ p) where
+  module _ {p : ℕ} (tied : Tied q p (i .w)) (named : μ (S L .word (inputOf k)) ≡ nameOf p) (stood : Stood L b i st μ p) where
     w-low : (b .bottom ≤ stateWord p) × (stateWord p < p + 1)
     w-low =
         let l = stood .placed .low in (omega (arith, stood .low, l, high), omega (arith, stood .low, l, high))
@@ -390,9 +412,18 @@ module _ (L : Loaded) {s : World} {st : State} {μ : Mem} {t : Tree (S L) (root 
     abbrev η₄ : Mem
     η₄ = upd μ (stateWord p) ready
 
+    -- its time words are others
+    own-calm : Calm L q i (stateWord p)
+    own-calm e =
+        let same = tied-alt q e tied in
+        let l = stood .placed .low in (
+          (λ z. absurd (omega (arith, z, same, stood .low, l, high))),
+          (λ z. absurd (omega (arith, z, same, stood .low, l, high))),
+        )
+
     rest₄ : Rest L st₄ η₄ t (Only path) ws
     rest₄ =
-        rest-below L (after-leaf L leaf) refl (stood .placed) (stateWord p) ready (w-low .0) (w-low .1)
+        rest-below L (after-leaf L leaf) refl (stood .placed) (stateWord p) ready (w-low .0) (w-low .1) own-calm
         (change-offers L (withOffer k v (st .offers)) (G .rest) (λ other r d j x n. (
           (λ y l g. more-senders st k v g),
           (λ y l z f g. fewer-senders st k v (λ e. own-one L (apart-parts L leaf x n) o (subst (λ z. Own d (μ (S L .word z))) e f)) g),
@@ -415,11 +446,11 @@ module _ (L : Loaded) {s : World} {st : State} {μ : Mem} {t : Tree (S L) (root 
         (mirrored L (G .real) (stateWord p) w-in state) alt (notify-other p z (holding k v s) (rw sz w-in) n) lands
 
     did-alert : {hi at : ℕ} → Here L at (cpuOf s .place) (cpuOf s .operand)
-        → AltWay (S L) b st (i .vars) (i .chans) q p hi μ at (regsOf (cpuOf s))
+        → AltWay (S L) b (L .times) st (i .vars) (i .chans) q p hi μ at (regsOf (cpuOf s))
         → hi ≤ i .left + cpuOf s .place → Answers L (λ u. offering k v s ≡ done tt u) s st (offers k v Offered) (bytesLeft (S L) t)
     did-alert here way soon =
         let inv = runs real₄ run (after-leaf L leaf) rest₄ (after-lined L (G .lined))
-        (now-alt here (alt-goes p (told-way L b i st (inputOf k) m high k v refl p (subst (Own b) named o) (stood .low)
+        (now-alt here (alt-goes p tied (told-way L b i st (inputOf k) m high k v refl p (subst (Own b) named o) (stood .low)
         (record {
           holds = named;
           now-ready = upd-same μ (stateWord p) ready;
@@ -432,9 +463,9 @@ module _ (L : Loaded) {s : World} {st : State} {μ : Mem} {t : Tree (S L) (root 
 
   now-alerts : Now L s st μ b i q → Answers L (λ u. offering k v s ≡ done tt u) s st (offers k v Offered) (bytesLeft (S L) t)
   now-alerts (now-goes h way settled clean soon) = absurd (clean (inputOf k) m o)
-  now-alerts (now-alt {hi} {at} h (alt-goes w way) soon) =
+  now-alerts (now-alt {hi} {at} h (alt-goes w tied way) soon) =
       let there = stood L b i st (inputOf k) m high o way in
-      did-alert (there .holds) (there .stood) h way soon
+      did-alert tied (there .holds) (there .stood) h way soon
 
 -- every offer that is not turned down
 pub offers-does : (L : Loaded) {s : World} {st : State} {n : ℕ} → Inv L s st n → (k v : ℕ) → k < L .prog .inputs → v < 2 ^ 32

@@ -11,28 +11,27 @@ use Rattle.model.specs.Word.{after, notProcess}
 use Rattle.model.specs.Limits.{wordLimit}
 use Rattle.model.specs.Machine.{World, done, timeLinkWord, timeWord, nameOf}
 use Rattle.model.specs.Timer.{wasAt, wakeFrom}
-use Rattle.model.specs.Occam.{Frame, atWait, look, State, now, goesOn}
-use Rattle.model.specs.Demand.{Segment, step}
+use Rattle.model.specs.Occam.{Process, State, now}
+use Rattle.model.specs.Demand.{Segment}
 use Rattle.model.proofs.Cases.{by-bool}
 use Rattle.model.proofs.Quiet.Names.{name-back, name-injective, name-given}
 use Rattle.model.proofs.Quiet.Ways.{Mem, frontWord}
-use Rattle.model.proofs.Occam.Paths.{leaf-resume, awake-resume}
 use Rattle.model.proofs.Words.Parts.{Part}
 use Rattle.model.proofs.Words.Times.{distance, Near, stays-ahead}
 use Rattle.model.proofs.Effects.Timers.{Chain, ends, next, Sorted}
 use Rattle.model.proofs.Effects.Seen.{tally, tally-le, hits, Words, one-hit, words-more}
 use Rattle.model.proofs.Effects.Waking.{fronted, wakeFrom-ends, wakeFrom-stops, wakeFrom-wakes}
-use Rattle.model.proofs.Invariant.Trees.{some-same, Info, Tree, bytesLeft}
-use Rattle.model.proofs.Invariant.Leaves.{Asleep, sleeping, held-sleeping}
-use Rattle.model.proofs.Invariant.Stays.{intact-trans}
-use Rattle.model.proofs.Invariant.Kernel.{Loaded, S, root, size, LeafAt, Rest, Lined, Real, sleeper, part-small, sits-at}
-use Rattle.model.proofs.Invariant.Puts.{other-before}
+use Rattle.model.proofs.Invariant.Trees.{Info, Tree, bytesLeft}
+use Rattle.model.proofs.Invariant.Kernel.{Loaded, S, root, size, LeafAt, Dozer, at-wait, in-alt, Rest, Lined, Real, sleeper}
 use Rattle.model.proofs.Invariant.Grounds.{small-size}
-use Rattle.model.proofs.Invariant.Traces.{Trace, t-none, t-step}
-use Rattle.model.proofs.Invariant.Moving.{other-w}
+use Rattle.model.proofs.Invariant.Sleeping.{fits, times-near}
+use Rattle.model.proofs.Invariant.Traces.{Trace, t-none, trace-then}
 use Rattle.model.proofs.Invariant.Reals.{size-is, mirrored}
-use Rattle.model.proofs.Outside.Bystanders.{SameRegs, Keeps}
-use Rattle.model.proofs.Outside.Rousing.{inside, then, tree, leaf-then, woken, awoken, linkedThen, keeps-then, bytes-then, wakes-one}
+use Rattle.model.proofs.Outside.Bystanders.{SameRegs}
+use Rattle.model.proofs.Outside.Asides.{Known, Aside}
+use Rattle.model.proofs.Outside.Leaving.{First, inside, link-low, time-low, once, member-of}
+use Rattle.model.proofs.Outside.Rousing.{Wakes, wakes-on, wait-wakes}
+use Rattle.model.proofs.Outside.Alarms.{busy-leaves, alt-wakes}
 
 -- the steps that are left are enough: those that were seen have link words of their own
 pub record Enough (size left : ℕ) (seen : List ℕ) : Type 0 where
@@ -58,30 +57,41 @@ enough-on {size} {seen = seen} w e small inside new =
       words = words-more (nameOf w) seen low (e .words);
     }
 
-module _ (L : Loaded) (c : ℕ) (word : c < 2 ^ 32) (near : L .ordered → (w tm : ℕ) → L .sleeps w tm c → Near c tm) (s₀ : World)
-    (st₀ : State) (μ₀ : Mem)
-    (t₀ : Tree (S L) (root L) (st₀ .process)) (Out : List ℕ → Type 0) where
-  -- how far the waking has come; those that are left out are as they were
+module _ (L : Loaded) (c : ℕ) (word : c < 2 ^ 32) {Out : List ℕ → Type 0} {Go : Known L} (A : Aside L c Out Go) (s₀ : World) where
+  -- how far the waking has come, with what is known of those that are left out
   pub record Stage (s : World) (st : State) (μ : Mem) (t : Tree (S L) (root L) (st .process)) (ws : List ℕ) : Type 0 where
     pub real : Real L s st μ ws
     pub rest : Rest L st μ t Out ws
     pub lined : Lined L st t Out ws
     pub same-regs : SameRegs L s s₀
-    pub keeps : Keeps L st₀ st μ₀ μ t₀ t Out
+    pub go : Go s st μ t
     pub clock : now st ≡ c
 
-  -- no time of those that wait on is past, where their order is known
-  abbrev pub Ahead : (st : State) → Tree (S L) (root L) (st .process) → Type 0
-  Ahead st t =
-      L .ordered → (path : List ℕ) (tm : ℕ) (k : List Frame) (b : Part) (i : Info) → LeafAt L st t path (atWait tm k) b i → (Out path → ⊥)
-      → after c tm ≡ false
+  -- no time of those that wait on is past, where times are sure
+  abbrev pub Ahead : {s : World} {st : State} {μ : Mem} {t : Tree (S L) (root L) (st .process)} {ws : List ℕ} → Stage s st μ t ws → Type 0
+  Ahead {μ = μ} stage = L .times .sure → (v : ℕ) → List·Memᴰ v (stage .rest .sleepers .asleep) → after c (μ (timeWord v)) ≡ false
 
   -- all are woken
   pub data Roused (n front : ℕ) (seen : List ℕ) (f : ℕ) (s : World) (st : State) (bytes : ℕ) : Type 0 where
     all-roused : (u : World) {st′ : State} {μ : Mem} {t : Tree (S L) (root L) (st′ .process)} {ws : List ℕ} (g : Segment)
         → wakeFrom n c front seen (s .machine .timer .front) (fronted f s) ≡ done (u .machine .timer .front) (fronted f u)
-        → u .talk ≡ s .talk → Trace st g st′ [] [] → Stage u st′ μ t ws → Ahead st′ t → bytesLeft (S L) t ≡ bytes
+        → u .talk ≡ s .talk → Trace st g st′ [] [] → (stage : Stage u st′ μ t ws) → Ahead stage → bytesLeft (S L) t ≡ bytes
         → Roused n front seen f s st bytes
+
+  -- what n steps come to from every stage
+  abbrev Rouses : (n front f : ℕ) → Type 0
+  Rouses n front f =
+      (seen : List ℕ) (s : World) (st : State) (μ : Mem) (t : Tree (S L) (root L) (st .process)) (ws : List ℕ) (stage : Stage s st μ t ws)
+      → Enough (size L) n seen → ((v : ℕ) → List·Memᴰ v (stage .rest .sleepers .asleep) → wasAt (nameOf v) seen ≡ false)
+      → Roused n front seen f s st (bytesLeft (S L) t)
+
+  -- the first wakes, whoever it is
+  first-wakes : {s : World} {st : State} {μ : Mem} {t : Tree (S L) (root L) (st .process)} {ws path : List ℕ} {q : Process} {b : Part}
+      {i : Info} {ts : List ℕ} → First L s st μ t Out ws path q b i ts → Go s st μ t → now st ≡ c → Dozer L Out path q
+      → after c (μ (timeWord (i .w))) ≡ true → Wakes L c (i .w) (μ (timeLinkWord (i .w))) ts Out Go s st (bytesLeft (S L) t)
+  first-wakes F go clock (at-wait n) late = wait-wakes L c A F go clock n late
+  first-wakes {path = path} F go clock (in-alt x) late =
+      ⊎-elim (λ o. busy-leaves L c A F go clock x o) (λ n. alt-wakes L c A F go clock n x late) (A .known path)
 
   module _ (n front : ℕ) (seen : List ℕ) (f : ℕ) {s : World} {st : State} {μ : Mem} {t : Tree (S L) (root L) (st .process)} {ws : List ℕ}
       (stage : Stage s st μ t ws) (enough : Enough (size L) (suc n) seen)
@@ -93,122 +103,91 @@ module _ (L : Loaded) (c : ℕ) (word : c < 2 ^ 32) (near : L .ordered → (w tm
     at-end : stage .rest .sleepers .asleep ≡ [] → s .machine .timer .front ≡ notProcess → Goal
     at-end none e =
         all-roused s [] (wakeFrom-ends n c front seen (fronted f s) e) refl t-none stage
-        (λ x path tm k b i l o. absurd (List·Memᴰ·not-nil (subst (List·Memᴰ (i .w)) none (stage .rest .sleepers .all l o)))) refl
+        (λ o v m. absurd (List·Memᴰ·not-nil (subst (List·Memᴰ v) none m))) refl
 
     -- the first of those that wait
-    module _ {path : List ℕ} {tm : ℕ} {k : List Frame} {b : Part} {i : Info} (leaf : LeafAt L st t path (atWait tm k) b i)
-        (strange : Out path → ⊥) {hi at : ℕ} (asleep : Asleep (S L) b i st μ tm k at hi) (known : L .sleeps (i .w) tm (now st))
-        (ts : List ℕ) (first : stage .rest .sleepers .asleep ≡ i .w ∷ ts) (is : s .machine .timer .front ≡ nameOf (i .w)) where
-      close : L .ordered → (w tm : ℕ) → L .sleeps w tm (now st) → Near c tm
-      close x w tm z = near x w tm (subst (λ d. L .sleeps w tm d) (stage .clock) z)
+    module _ {path : List ℕ} {q : Process} {b : Part} {i : Info} (leaf : LeafAt L st t path q b i) (space : b .bottom + 5 ≤ i .w)
+        (dozes : Dozer L Out path q) (ts : List ℕ) (first : stage .rest .sleepers .asleep ≡ i .w ∷ ts)
+        (is : s .machine .timer .front ≡ nameOf (i .w)) where
+      abbrev F : First L s st μ t Out ws path q b i ts
+      F = record { real = stage .real; rest = stage .rest; lines = stage .lined; leaf = leaf; space = space; asleep = first }
 
-      -- its time is not past
-      waits-on : after c tm ≡ false → Ahead st t
-      waits-on e x here tm′ k′ d j l o =
-          elim (held-sleeping (S L) (L .sleeps) d j st μ (stage .rest .leaf l o)) [
-            | sleeping a z ↦
-                stays-ahead word (asleep .small) (a .small) (close x (i .w) tm known) (close x (j .w) tm′ z) (ordered l o (a .time-is)) e
-          ]
+      abbrev tm : ℕ
+      tm = μ (timeWord (i .w))
+
+      head-in : List·Memᴰ (i .w) (stage .rest .sleepers .asleep)
+      head-in = subst (List·Memᴰ (i .w)) (sym first) (List·Memᴰ·head refl)
+
+      close : L .times .sure → (v : ℕ) → List·Memᴰ v (stage .rest .sleepers .asleep)
+          → (μ (timeWord v) < 2 ^ 32) × Near c (μ (timeWord v))
+      close o v m =
+          let (a, d) = times-near L (stage .rest) o v m in (a, subst (λ z. Near z (μ (timeWord v))) (stage .clock) d)
+
+      -- its time is not past, so none is
+      waits-on : after c tm ≡ false → Ahead stage
+      waits-on e o v m =
+          let (a, d) = close o (i .w) head-in in
+          let (a′, d′) = close o v m in
+          stays-ahead word a a′ d d′ (far (subst (List·Memᴰ v) first m)) e
         where
           sorted : Sorted c μ (i .w ∷ ts)
-          sorted = subst (λ d. Sorted d μ (i .w ∷ ts)) (stage .clock) (subst (Sorted (now st) μ) first (stage .rest .sleepers .sorted x))
+          sorted = subst (λ d. Sorted d μ (i .w ∷ ts)) (stage .clock) (subst (Sorted (now st) μ) first (stage .rest .sleepers .sorted o))
 
-          far : (v : ℕ) → List·Memᴰ v (i .w ∷ ts) → distance c (μ (timeWord (i .w))) ≤ distance c (μ (timeWord v))
-          far v m =
-              ⊎-elim (λ e. omega (arith, ap (λ z. distance c (μ (timeWord z))) e)) (λ n. sorted .0 v n) (List·Memᴰ·cases-cons m)
-
-          ordered : {here : List ℕ} {tm′ : ℕ} {k′ : List Frame} {d : Part} {j : Info} → LeafAt L st t here (atWait tm′ k′) d j
-              → (Out here → ⊥) → μ (timeWord (j .w)) ≡ tm′ → distance c tm ≤ distance c tm′
-          ordered {j = j} l o e =
-              omega (
-                arith,
-                far (j .w) (subst (List·Memᴰ (j .w)) first (stage .rest .sleepers .all l o)),
-                ap (distance c) (asleep .time-is),
-                ap (distance c) e,
-              )
-
-      w-low : i .w ≤ b .top
-      w-low = sits-at L leaf .placed .low
+          far : List·Memᴰ v (i .w ∷ ts) → distance c tm ≤ distance c (μ (timeWord v))
+          far m = ⊎-elim (λ e. omega (arith, ap (λ z. distance c (μ (timeWord z))) e)) (λ n. sorted .0 v n) (List·Memᴰ·cases-cons m)
 
       small : i .w ≤ wordLimit
-      small = omega (arith, w-low, part-small L leaf, small-size L)
+      small = fits L (stage .rest) (i .w) head-in .small
 
       given : nameOf (i .w) ≢ notProcess
       given = name-given (i .w) small
 
-      new-first : wasAt (nameOf (i .w)) seen ≡ false
-      new-first = new (i .w) (subst (List·Memᴰ (i .w)) (sym first) (List·Memᴰ·head refl))
-
-      link-in : timeLinkWord (i .w) < size L
-      link-in = omega (arith, asleep .space, w-low, part-small L leaf, small-size L)
-
       time-in : timeWord (i .w) < size L
-      time-in = omega (arith, asleep .space, w-low, part-small L leaf, small-size L)
+      time-in = inside L c F (time-low L c F .1)
 
       stops : after c tm ≡ false → Goal
       stops e =
           all-roused s []
-          (wakeFrom-stops n c front seen (i .w) tm (fronted f s) is given new-first (rw (size-is L (stage .real)) time-in)
-          (mirrored L (stage .real) (timeWord (i .w)) time-in (asleep .time-is)) e) refl t-none stage (waits-on e) refl
+          (wakeFrom-stops n c front seen (i .w) tm (fronted f s) is given (new (i .w) head-in) (rw (size-is L (stage .real)) time-in)
+          (mirrored L (stage .real) (timeWord (i .w)) time-in refl) e) refl t-none stage (waits-on e) refl
 
-      -- it wakes
-      abbrev later : State
-      later = then L c (stage .real) (stage .rest) (stage .lined) leaf strange asleep ts first
-
-      abbrev treeLater : Tree (S L) (root L) (later .process)
-      treeLater = tree L c (stage .real) (stage .rest) (stage .lined) leaf strange asleep ts first
-
-      abbrev worldLater : World
-      worldLater = awoken L c (stage .real) (stage .rest) (stage .lined) leaf strange asleep ts first
-
-      abbrev memLater : Mem
-      memLater = linkedThen L c (stage .real) (stage .rest) (stage .lined) leaf strange asleep ts first
-
-      stage-later : Stage worldLater later memLater treeLater (ws ++ i .w ∷ [])
-      stage-later =
-          let joined = woken L c (stage .real) (stage .rest) (stage .lined) leaf strange asleep ts first in
-          let regs = stage .same-regs in
-          record {
-            real = joined .real;
-            rest = joined .rest;
-            lined = joined .lines;
-            same-regs = record { run = regs .run; place = regs .place; operand = regs .operand; regs = regs .regs };
-            keeps = λ here q d j l o.
-                let (l′, e) = stage .keeps here q d j l o in
-                let (l″, g) = keeps-then L c (stage .real) (stage .rest) (stage .lined) leaf strange asleep ts first here q d j l′ o in
-                (l″, intact-trans e g);
-            clock = stage .clock;
-          }
-
-      -- the others were not seen
-      new-later : (v : ℕ) → List·Memᴰ v (stage-later .rest .sleepers .asleep) → wasAt (nameOf v) (nameOf (i .w) ∷ seen) ≡ false
+      -- those behind it were not seen
+      new-later : (v : ℕ) → List·Memᴰ v ts → wasAt (nameOf v) (nameOf (i .w) ∷ seen) ≡ false
       unfolding wasAt
-      new-later v m = elim (stage-later .rest .sleepers .each v m) [
-        | sleeper {path = here} {tm = tm′} {k = k′} {i = j} l e o ↦
-            let off : path ≢ here = λ p.
-            awake-resume k tm′ k′ (some-same
-            (sym (leaf-then L c (stage .real) (stage .rest) (stage .lined) leaf strange asleep ts first .found)
-            ∙ ap (λ z. look z (later .process)) p ∙ l .found)) in
-            let l′ = other-before L leaf _ (leaf-resume k) i (sits-at L leaf) off l in
-            let d = ne-eqb (nameOf v) (nameOf (i .w)) (λ q. other-w L leaf l′ off (sym (e ∙ name-injective v (i .w) q))) in
-            rw d (subst (λ z. wasAt (nameOf z) seen ≡ false) e (new (j .w) (stage .rest .sleepers .all l′ o)))
+      new-later v m =
+          let d = ne-eqb (nameOf v) (nameOf (i .w)) (λ q. once L c F .0 v m (sym (name-injective v (i .w) q))) in
+          rw d (new v (member-of L c F v m))
+
+      -- it wakes, and then others
+      wakes-later : after c tm ≡ true → Rouses n front f → Goal
+      wakes-later late more = elim (first-wakes F (stage .go) (stage .clock) dozes late) [
+        | wakes-on v {st′} {ν} {t = t′} {us} g one behind talk ms same clock real then asleep lines go bytes ↦
+            let regs = stage .same-regs in
+            let later : Stage v st′ ν t′ us = record {
+              real = real;
+              rest = then;
+              lined = lines;
+              same-regs = record {
+                run = same .run ∙ regs .run;
+                place = same .place ∙ regs .place;
+                operand = same .operand ∙ regs .operand;
+                regs = same .regs ∙ regs .regs;
+              };
+              go = go;
+              clock = clock ∙ stage .clock;
+            } in
+            elim (more (nameOf (i .w) ∷ seen) v st′ ν t′ us later
+            (enough-on (i .w) enough small (inside L c F (link-low L c F .1)) (new (i .w) head-in))
+            (λ x m. new-later x (subst (List·Memᴰ x) asleep m))) [
+              | all-roused u h ran talk′ ns last ahead bytes′ ↦
+                  all-roused u (g ++ h)
+                  (wakeFrom-wakes n c front seen (i .w) tm (fronted f s) is given (new (i .w) head-in)
+                  (rw (size-is L (stage .real)) time-in) (mirrored L (stage .real) (timeWord (i .w)) time-in refl) late
+                  (rw (size-is L (stage .real)) (small-size L)) (one f)
+                  ∙ ap (λ p. wakeFrom n c front (nameOf (i .w) ∷ seen) p (fronted f v)) (sym behind) ∙ ran)
+                  (talk′ ∙ talk) (trace-then ms ns) last ahead (bytes′ ∙ bytes)
+            ]
       ]
-
-      wakes-on : after c tm ≡ true → Roused n front (nameOf (i .w) ∷ seen) f worldLater later (bytesLeft (S L) treeLater) → Goal
-      wakes-on e (all-roused u g ran talk ms last ahead bytes) =
-          all-roused u (step [] later ∷ g)
-          (wakeFrom-wakes n c front seen (i .w) tm (fronted f s) is given new-first (rw (size-is L (stage .real)) time-in)
-          (mirrored L (stage .real) (timeWord (i .w)) time-in (asleep .time-is)) e (rw (size-is L (stage .real)) (small-size L))
-          (wakes-one L c (stage .real) (stage .rest) (stage .lined) leaf strange asleep ts first f) ∙ ran) talk
-          (t-step (goesOn path (leaf .found) (ap (λ d. after d tm) (stage .clock) ∙ e)) ms) last ahead
-          (bytes ∙ bytes-then L c (stage .real) (stage .rest) (stage .lined) leaf strange asleep ts first)
-
-  -- what n steps come to from every stage
-  abbrev Rouses : (n front f : ℕ) → Type 0
-  Rouses n front f =
-      (seen : List ℕ) (s : World) (st : State) (μ : Mem) (t : Tree (S L) (root L) (st .process)) (ws : List ℕ) (stage : Stage s st μ t ws)
-      → Enough (size L) n seen → ((v : ℕ) → List·Memᴰ v (stage .rest .sleepers .asleep) → wasAt (nameOf v) seen ≡ false)
-      → Roused n front seen f s st (bytesLeft (S L) t)
 
   one-more : (n front f : ℕ) → Rouses n front f → Rouses (suc n) front f
   one-more n front f more seen s st μ t ws stage enough new = turn (stage .rest .sleepers .asleep) refl (stage .rest .sleepers .chain)
@@ -218,21 +197,11 @@ module _ (L : Loaded) (c : ℕ) (word : c < 2 ^ 32) (near : L .ordered → (w tm
       turn [] e (ends z) = at-end n front seen f stage enough new e (stage .real .front ∙ z)
       turn (w ∷ ts) e (next z chain) =
           elim (stage .rest .sleepers .each w (subst (List·Memᴰ w) (sym e) (List·Memᴰ·head refl))) [
-            | sleeper {tm = tm} {b = b} {i = i} l g o ↦
+            | sleeper {i = i} l g a d ↦
                 let first : stage .rest .sleepers .asleep ≡ i .w ∷ ts = e ∙ ap (λ v. v ∷ ts) (sym g) in
                 let is : s .machine .timer .front ≡ nameOf (i .w) = stage .real .front ∙ z ∙ ap nameOf (sym g) in
-                elim (held-sleeping (S L) (L .sleeps) b i st μ (stage .rest .leaf l o)) [
-                  | sleeping a known ↦
-                      by-bool (after c tm)
-                      (λ y.
-                      wakes-on n front seen f stage enough new l o a known ts first is y
-                      (more (nameOf (i .w) ∷ seen) _ _ _ _ _ (stage-later n front seen f stage enough new l o a known ts first is)
-                      (enough-on (i .w) enough (small n front seen f stage enough new l o a known ts first is)
-                      (link-in n front seen f stage enough new l o a known ts first is)
-                      (new-first n front seen f stage enough new l o a known ts first is))
-                      (new-later n front seen f stage enough new l o a known ts first is)))
-                      (λ y. stops n front seen f stage enough new l o a known ts first is y)
-                ]
+                by-bool (after c (μ (timeWord (i .w)))) (λ y. wakes-later n front seen f stage enough new l a d ts first is y more)
+                (λ y. stops n front seen f stage enough new l a d ts first is y)
           ]
 
   -- from the front on

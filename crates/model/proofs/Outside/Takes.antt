@@ -165,7 +165,7 @@ module _ (L : Loaded) {s : World} {st : State} {μ : Mem} {t : Tree (S L) (root 
     goes : Joins L (j .w) (stored (S L .word c) notProcess s) (putting other (resume f) st) (bytesLeft (S L) t)
     goes =
         waited-goes L G
-        (record { run = refl; place = refl; operand = refl; regs = refl }) real rest lines sender strange keeps waits kept refl
+        (record { run = refl; place = refl; operand = refl; regs = refl }) refl real rest lines sender strange keeps waits kept refl refl
         clean (λ a z l e here p x n y m. unread y (subst (λ q. List·Memᴰ q (x .inputs)) (output-channel (sym e)) m))
 
     pub did-take : Answers L (λ u. taking k s ≡ done (some v) u) s st (takes k (Taken v)) (bytesLeft (S L) t)
@@ -189,7 +189,7 @@ module _ (L : Loaded) {s : World} {st : State} {μ : Mem} {t : Tree (S L) (root 
   by-holder : Holder L st μ t Out ws c → Took
   by-holder (holds-input l n e w x inp free) = absurd (unread l inp)
   by-holder (holds-output l n e w out low v small) = inr (_, did-take l n e w low v)
-  by-holder (holds-wait l n e a r g v all un mk here guarded inp) = absurd (unread l inp)
+  by-holder (holds-wait l n e a r g v all un mk dozes known here guarded inp) = absurd (unread l inp)
   by-holder (holds-woken l n e a r g d here guarded inp) = absurd (unread l inp)
   by-holder (holds-out l o m n) = absurd (unread l (G .marks _ _ _ _ l o c m n))
 

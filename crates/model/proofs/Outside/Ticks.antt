@@ -1,21 +1,23 @@
--- The clock moves at a run's beginning. Processes that wait for it keep their order in the timer queue where their times are near both
--- clock words.
+-- The clock moves at a run's beginning. Processes in the timer queue keep their order, and what is past stays past, where times are near
+-- both clock words.
 use Prim.Native.Nat.{ℕ, _^_, _<_}
-use mathlib.Core.Path.{refl, sym, ap, _∙_, subst}
+use mathlib.Core.Path.{_≡_, refl, subst}
 use mathlib.Core.Logic.{inl}
 use mathlib.Core.List.{List, [], _∷_, List·Memᴰ, List·Memᴰ·head, List·Memᴰ·tail}
 use mathlib.Core.Option.{some}
+use mathlib.Core.Bool.{false}
+use Rattle.model.specs.Word.{after}
 use Rattle.model.specs.Syntax.{Site}
 use Rattle.model.specs.Machine.{World, timeWord}
 use Rattle.model.specs.declared.Timer.{Timer}
 use Rattle.model.specs.Occam.{State, Sender, process, outside, now}
 use Rattle.model.proofs.Quiet.Ways.{Mem}
+use Rattle.model.proofs.Quiet.Timing.{Onto}
 use Rattle.model.proofs.Words.Parts.{Part}
-use Rattle.model.proofs.Words.Times.{Near, order-kept}
+use Rattle.model.proofs.Words.Times.{Near, order-kept, stays-past}
 use Rattle.model.proofs.Effects.Queues.{queue-same}
 use Rattle.model.proofs.Effects.Timers.{Sorted}
 use Rattle.model.proofs.Invariant.Trees.{Info, Tree}
-use Rattle.model.proofs.Invariant.Leaves.{sleeping, held-sleeping}
 use Rattle.model.proofs.Invariant.Stays.{Intact}
 use Rattle.model.proofs.Invariant.Kernel.{Loaded, S, root, Timed, sleeper, Rest, Real, Offer, no-offer, held-offer, sits-at}
 use Rattle.model.proofs.Invariant.Writes.{stateWith, before-leaf, after-leaf, after-lined, rest-changed}
@@ -45,8 +47,11 @@ now-word st t = subst (λ c. c < 2 ^ 32) (t .clock-read) (t .clock-word)
 abbrev pub ticking : (clock : ℕ) → State → State
 ticking c st = stateWith (st .store) (st .offers) (some c) st
 
--- what is known of those that wait says that their times are near the new clock word too
-module _ (L : Loaded) (c : ℕ) (word : c < 2 ^ 32) (st : State) (on : (w t : ℕ) → L .sleeps w t (now st) → L .sleeps w t c) where
+-- what is known of those in the timer queue and of guards says that their times are near the new clock word too, and the clock does not go
+-- back where a guard's time is known
+module _ (L : Loaded) (c : ℕ) (word : c < 2 ^ 32) (st : State) (on : (w t : ℕ) → L .sleeps w t (now st) → L .sleeps w t c)
+    (on-guards : (w t : ℕ) → L .times .guarded w t (now st) → L .times .guarded w t c)
+    (no-back : L .times .sure → (w t : ℕ) → L .times .guarded w t (now st) → after (now st) c ≡ false) where
   more : {d : Site} → Sender st d → Sender (ticking c st) d
   more (process path e) = process path e
   more (outside e) = outside e
@@ -58,30 +63,37 @@ module _ (L : Loaded) (c : ℕ) (word : c < 2 ^ 32) (st : State) (on : (w t : �
   intact : {b : Part} {i : Info} {skip : ℕ} {μ : Mem} → Intact (S L) b i skip st (ticking c st) μ μ
   intact = intact-offers L (st .offers) (λ d m g. more g) (λ d m n o g. fewer g)
 
+  -- what is past stays past
+  onto : now st < 2 ^ 32 → (w : ℕ) → Onto (L .times) (L .times) w (now st) c
+  onto was w =
+      record {
+        less = λ o. o;
+        on = on-guards w;
+        past = λ u small g o a.
+            stays-past was word small (L .guarded-near o w u (now st) g) (L .guarded-near o w u c (on-guards w u g)) (no-back o w u g) a;
+      }
+
   rest-ticks : {μ : Mem} {t : Tree (S L) (root L) (st .process)} {Out : List ℕ → Type 0} {ws : List ℕ} → now st < 2 ^ 32
       → Rest L st μ t Out ws → Rest L (ticking c st) μ t Out ws
   rest-ticks {μ} was h =
-      rest-changed L h (λ path q b i l n. intact) on
+      rest-changed L h (λ path q b i l n. intact) (onto was)
       (record {
         asleep = h .sleepers .asleep;
         chain = h .sleepers .chain;
         sorted = λ o. sorted-on μ was word (h .sleepers .asleep) (near o) (h .sleepers .sorted o);
         once = h .sleepers .once;
-        each = λ w m. elim (h .sleepers .each w m) [ sleeper k e n ↦ sleeper (after-leaf L k) e n ];
-        all = λ k n. h .sleepers .all (before-leaf L k) n;
+        each = λ w m. elim (h .sleepers .each w m) [ sleeper k e a d ↦ sleeper (after-leaf L k) e a d ];
+        known = λ w m. let (a, b) = h .sleepers .known w m in (a, on w (μ (timeWord w)) b);
+        all = λ k a d f. h .sleepers .all (before-leaf L k) a d f;
       })
       (λ path l n x m e k. (e, k)) (λ path l n d m. inl refl) (λ path a vs cs w onward n. (refl, refl))
     where
-      near : L .ordered → (v : ℕ) → List·Memᴰ v (h .sleepers .asleep)
+      near : L .times .sure → (v : ℕ) → List·Memᴰ v (h .sleepers .asleep)
           → (μ (timeWord v) < 2 ^ 32) × Near (now st) (μ (timeWord v)) × Near c (μ (timeWord v))
-      near o v m = elim (h .sleepers .each v m) [
-        | sleeper {tm = tm} {b = b} {i = i} k e n ↦
-            elim (held-sleeping (S L) (L .sleeps) b i st μ (h .leaf k n)) [
-              | sleeping a z ↦
-                  subst (λ u. (u < 2 ^ 32) × Near (now st) u × Near c u) (sym (ap (λ w. μ (timeWord w)) (sym e) ∙ a .time-is))
-                  (a .small, L .sleeps-near o (i .w) tm (now st) z, L .sleeps-near o (i .w) tm c (on (i .w) tm z))
-            ]
-      ]
+      near o v m =
+          let (a, b) = h .sleepers .known v m in
+          let tm = μ (timeWord v) in
+          (a, L .sleeps-near o v tm (now st) b, L .sleeps-near o v tm c (on v tm b))
 
   real-ticks : {s : World} {μ : Mem} {ws : List ℕ} → Real L s st μ ws → Real L (clocked c s) (ticking c st) μ ws
   real-ticks {s} r =
@@ -108,7 +120,7 @@ module _ (L : Loaded) (c : ℕ) (word : c < 2 ^ 32) (st : State) (on : (w t : �
   pub inv-ticks : {s : World} {n : ℕ} → Inv L s st n → Inv L (clocked c s) (ticking c st) n
   inv-ticks (runs real run leaf rest lines now) =
       runs (real-ticks real) run (after-leaf L leaf) (rest-ticks (now-word st (real .timed)) rest) (after-lined L lines)
-      (now-stays L same-regs (part-high L leaf) (sits-at L leaf) intact now)
+      (now-stays L same-regs (part-high L leaf) (sits-at L leaf) (onto (now-word st (real .timed))) intact now)
   inv-ticks (starts B real run leaf rest lines now) =
       starts B (real-ticks real) run (after-leaf L leaf) (rest-ticks (now-word st (real .timed)) rest) (after-lined L lines)
       (starts-stays L same-regs leaf (λ path q b i k o. (after-leaf L k, intact)) now)

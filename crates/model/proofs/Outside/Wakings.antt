@@ -4,7 +4,7 @@ use native.Mathlib.Omega.{arith}
 use native.Mathlib.Decide.{ℕ-discrete}
 use mathlib.Core.Path.{_≡_, refl, sym, ap, _∙_, subst}
 use mathlib.Core.Logic.{_≢_, _⊎_, inl, inr, ⊎-elim}
-use mathlib.Core.Bool.{true}
+use mathlib.Core.Bool.{true, false}
 use mathlib.Core.List.{List, [], _∷_, _++_, map, append-nil, List·Memᴰ, List·Memᴰ·head, Memᴰ·append-left, Memᴰ·append-right}
 use mathlib.Core.Option.{Option, some}
 use lib.ListN.{length}
@@ -15,17 +15,18 @@ use Rattle.model.specs.Usage.{same}
 use Rattle.model.specs.Machine.{Talk, World, done, return, testPlace, join, resumeWord, nameOf, talks}
 use Rattle.model.specs.Run.{land}
 use Rattle.model.specs.Occam.{store, Frame, Process, Branches, atOutput, framesOf, put, resume, State, Sender, process, Communication}
-use Rattle.model.specs.Occam.{over-channel, Event}
+use Rattle.model.specs.Occam.{over-channel, Event, now}
 use Rattle.model.specs.Demand.{Segment, liveIn, talkOf}
 use Rattle.model.proofs.Cases.{never, by-bool}
 use Rattle.model.proofs.Tables.Sites.{same-eq}
 use Rattle.model.proofs.Quiet.Ways.{upd-same, upd-other, upd, Mem}
 use Rattle.model.proofs.Quiet.Setting.{Setting}
 use Rattle.model.proofs.Quiet.CodeParts.{inside, rises-le}
-use Rattle.model.proofs.Occam.Paths.{Leaf, leaf-resume, live-resume, silent-resume}
+use Rattle.model.proofs.Occam.Paths.{Leaf, leaf-resume, live-resume, silent-resume, isAlt, off-resume}
 use Rattle.model.proofs.Words.Parts as Parts
 use Rattle.model.proofs.Words.Parts.{Part, Target}
 use Rattle.model.proofs.Quiet.Marks.{Own}
+use Rattle.model.proofs.Quiet.Timing.{onto-same}
 use Rattle.model.proofs.Invariant.Trees.{some-same, Label, alone, Info, Sits, Tree, t-leaf, t-par, Forest, f-none, f-live, f-over}
 use Rattle.model.proofs.Invariant.Trees.{labelAt, labelIn, part-inside, bytesLeft, leaf-bytes}
 use Rattle.model.proofs.Invariant.Zones.{zoneOf, Distant}
@@ -48,6 +49,7 @@ use Rattle.model.proofs.Invariant.Scheduling.{got, Given, gets, linkedT
 use Rattle.model.proofs.Steps.Meets.{resumed}
 use Rattle.model.proofs.Steps.Advance.{Silent}
 use Rattle.model.specs.declared.Setup.{Setup}
+pub use Rattle.model.proofs.Outside.Bystanders.{intact-refl}
 use Rattle.model.proofs.Outside.Bystanders.{SameRegs, now-stays, starts-stays, Keeps, Free, Ground, part-high}
 
 -- one process more is left out
@@ -85,17 +87,6 @@ module _ (L : Loaded) where
       lands s (λ e. omega (arith, here-inside (now .here), ap (λ (z : Setup). z .code) (real .setup-kept)))
   inv-lands {s} (idle real stop operand rest) = lands s (λ e. never (cc (e, stop)))
 
-  -- nothing happens
-  pub intact-refl : {b : Part} {i : Info} {skip : ℕ} {st : State} {μ : Mem} → Intact (S L) b i skip st st μ μ
-  intact-refl =
-      record {
-        own = λ a lo hi d. refl;
-        reads = λ x m g. refl;
-        chans = λ d m. inl refl;
-        sends = λ d m z. z;
-        none-sends = λ d m g z y. y;
-      }
-
   -- a communication is of no process
   pub inv-talk : {s : World} {st : State} {n : ℕ} (l : List Talk) → Inv L s st n
       → Inv L (record { machine = s .machine; memory = s .memory; talk = l }) st n
@@ -106,9 +97,10 @@ module _ (L : Loaded) where
 
       by : {st : State} {n : ℕ} → Inv L s st n → Inv L (record { machine = s .machine; memory = s .memory; talk = l }) st n
       by (runs real run leaf rest lines now) =
-          runs (real-talk L l real) run leaf rest lines (now-stays L same (part-high L leaf) (sits-at L leaf) intact-refl now)
+          runs (real-talk L l real) run leaf rest lines
+          (now-stays L same (part-high L leaf) (sits-at L leaf) (λ w. onto-same refl) (intact-refl L) now)
       by (starts B real run leaf rest lines now) =
-          starts B (real-talk L l real) run leaf rest lines (starts-stays L same leaf (λ path q b i k o. (k, intact-refl)) now)
+          starts B (real-talk L l real) run leaf rest lines (starts-stays L same leaf (λ path q b i k o. (k, intact-refl L)) now)
       by (idle real stop operand rest) = idle (real-talk L l real) stop operand rest
 
   -- what one process does leaves another alone
@@ -194,17 +186,17 @@ module _ (L : Loaded) where
   -- where it can go on
   module _ {s₀ : World} {st₀ : State} {μ₀ : Mem} {t₀ : Tree (S L) (root L) (st₀ .process)} {Out : List ℕ → Type 0} {ws : List ℕ}
       (G : Ground L s₀ st₀ μ₀ t₀ Out ws) {s : World} {st : State} {μ : Mem} {t : Tree (S L) (root L) (st .process)}
-      (same-regs : SameRegs L s s₀)
+      (same-regs : SameRegs L s s₀) (same-clock : now st ≡ now st₀)
       {other : List ℕ} {r : Process} {d : Part} {j : Info} (real : Real L s st μ ws) (rest : Rest L st μ t (With Out other) ws)
       (lines : Lined L st t (With Out other) ws) (leaf : LeafAt L st t other r d j) (strange : Out other → ⊥)
       (keeps : Keeps L st₀ st μ₀ μ t₀ t Out) where
-    joins-back : cpuOf s₀ .running ≡ true → Held (S L) (L .sleeps) d j st μ true r → Joins (j .w) s st (bytesLeft (S L) t)
+    joins-back : cpuOf s₀ .running ≡ true → Held (S L) (L .times) d j st μ true r → Joins (j .w) s st (bytesLeft (S L) t)
     joins-back run held =
         let woken = wakes L {Out′ = Out} real rest lines leaf (inr refl) held (λ here n o. ⊎-elim (λ x. x) (λ e. absurd (n e)) o)
         (λ here o. inl o) strange in
         joins (joined (j .w) ws s) [] (join-queue (j .w) s (same-regs .run ∙ run) (woken .enqueued)) refl t-none
         (G .stays (joined (j .w) ws s) st (linkedTo L (j .w) ws μ) t (ws ++ j .w ∷ [])
-        (record { run = same-regs .run; place = same-regs .place; operand = same-regs .operand; regs = same-regs .regs })
+        (record { run = same-regs .run; place = same-regs .place; operand = same-regs .operand; regs = same-regs .regs }) same-clock
         (λ path q b i k o. let (k′, intact) = keeps path q b i k o in (k′, intact-trans intact (woken .intact k′ o)))
         (λ e. never (cc (e, run))) (woken .real) (woken .rest) (woken .lines))
 
@@ -231,7 +223,7 @@ module _ (L : Loaded) where
       free-lines = subst (λ l. Lined L st t (Only other) l) (F .unqueued) (lined-in L (λ here e. inr e) lines)
 
       -- it gets the processor
-      joins-free : Held (S L) (L .sleeps) d j st μ true r → Joins (j .w) s st (bytesLeft (S L) t)
+      joins-free : Held (S L) (L .times) d j st μ true r → Joins (j .w) s st (bytesLeft (S L) t)
       joins-free held =
           let given : Given L taken μ (j .w) = record {
             run = refl;
@@ -241,12 +233,13 @@ module _ (L : Loaded) where
           } in
           elim (gets L given free-real free-rest free-lines leaf held) [ got g ms inv ↦ joins taken g join-is refl ms inv ]
 
-    pub goes-on : Held (S L) (L .sleeps) d j st μ true r → Joins (j .w) s st (bytesLeft (S L) t)
+    pub goes-on : Held (S L) (L .times) d j st μ true r → Joins (j .w) s st (bytesLeft (S L) t)
     goes-on held = ⊎-elim (λ run. joins-back run held) (λ F. joins-free F held) (G .free)
 
     -- it waited at a channel, whose word is another now: it goes on behind its input or output
     module _ {st₁ : State} {μ₁ : Mem} {c : Site} {k : List Frame} {at hi m : ℕ} (waits : Waits (S L) d j st₁ μ₁ c k at hi m)
-        (kept : μ (resumeWord (j .w)) ≡ μ₁ (resumeWord (j .w))) (frames : framesOf r ≡ k) (clean : Unmarked (S L) d j st μ)
+        (kept : μ (resumeWord (j .w)) ≡ μ₁ (resumeWord (j .w))) (frames : framesOf r ≡ k) (plain : isAlt r ≡ false)
+        (clean : Unmarked (S L) d j st μ)
         (lost : (a : Site) (v : ℕ) (l : List Frame) → r ≡ atOutput a v l → (here : List ℕ) (p : Process) (e : Part) (n : Info)
         → LeafAt L st t here p e n → List·Memᴰ a (e .inputs) → ⊥) where
       abbrev tree : Tree (S L) (root L) (put other (resume k) (st .process))
@@ -258,6 +251,7 @@ module _ (L : Loaded) where
           (rest .chans (node L leaf))
           (live-resume k (j .vars) (λ x m. rest .live leaf x (subst (λ z. List·Memᴰ x (liveIn z)) (sym frames) m))) (λ a m o. m)
           (λ a v l e here p q n y z m. lost a v l e here p q n y m) (λ a v l e here p q n y z m g o. silent-resume k e)
+          (λ e. never (cc (e, plain))) (λ e. never (cc (e, off-resume k)))
 
       waited-leaf : LeafAt L (putting other (resume k) st) tree other (resume k) d j
       waited-leaf = here-then L leaf (resume k) (leaf-resume k) j (sits-at L leaf)
@@ -283,21 +277,22 @@ module _ (L : Loaded) where
   -- the process that waited, as it goes on
   pub waited-goes : {s₀ : World} {st₀ : State} {μ₀ : Mem} {t₀ : Tree (S L) (root L) (st₀ .process)} {Out : List ℕ → Type 0} {ws : List ℕ}
       (G : Ground L s₀ st₀ μ₀ t₀ Out ws) {s : World} {st : State} {μ : Mem} {t : Tree (S L) (root L) (st .process)} → SameRegs L s s₀
-      → {other : List ℕ} {r : Process} {d : Part} {j : Info} → Real L s st μ ws → Rest L st μ t (With Out other) ws
+      → now st ≡ now st₀ → {other : List ℕ} {r : Process} {d : Part} {j : Info} → Real L s st μ ws → Rest L st μ t (With Out other) ws
       → Lined L st t (With Out other) ws → LeafAt L st t other r d j → (Out other → ⊥) → Keeps L st₀ st μ₀ μ t₀ t Out
       → {st₁ : State} {μ₁ : Mem} {c : Site} {k : List Frame} {at hi m : ℕ} → Waits (S L) d j st₁ μ₁ c k at hi m
-      → μ (resumeWord (j .w)) ≡ μ₁ (resumeWord (j .w)) → framesOf r ≡ k → Unmarked (S L) d j st μ
+      → μ (resumeWord (j .w)) ≡ μ₁ (resumeWord (j .w)) → framesOf r ≡ k → isAlt r ≡ false → Unmarked (S L) d j st μ
       → ((a : Site) (v : ℕ) (l : List Frame) → r ≡ atOutput a v l → (here : List ℕ) (p : Process) (e : Part) (n : Info)
       → LeafAt L st t here p e n → List·Memᴰ a (e .inputs) → ⊥)
       → Joins (j .w) s (putting other (resume k) st) (bytesLeft (S L) t)
-  waited-goes G {s} {st} {μ} same-regs {other} {j = j} real rest lines leaf strange keeps {k = k} waits kept frames clean lost =
-      let rest′ = waited-rest G same-regs real rest lines leaf strange keeps waits kept frames clean lost in
-      let leaf′ = waited-leaf G same-regs real rest lines leaf strange keeps waits kept frames clean lost in
+  waited-goes G {s} {st} {μ} same-regs same-clock {other} {j = j} real rest lines leaf strange keeps {k = k} waits kept frames plain clean
+      lost =
+      let rest′ = waited-rest G same-regs same-clock real rest lines leaf strange keeps waits kept frames plain clean lost in
+      let leaf′ = waited-leaf G same-regs same-clock real rest lines leaf strange keeps waits kept frames plain clean lost in
       subst (λ n. Joins (j .w) s (putting other (resume k) st) n)
-      (waited-bytes G same-regs real rest lines leaf strange keeps waits kept frames clean lost)
-      (goes-on G same-regs (real-state L (put other (resume k) (st .process)) (st .store) real) rest′
+      (waited-bytes G same-regs same-clock real rest lines leaf strange keeps waits kept frames plain clean lost)
+      (goes-on G same-regs same-clock (real-state L (put other (resume k) (st .process)) (st .store) real) rest′
       (lined-then L leaf (resume k) (leaf-resume k) j (sits-at L leaf) (inr refl) lines) leaf′ strange
-      (waited-keeps G same-regs real rest lines leaf strange keeps waits kept frames clean lost)
+      (waited-keeps G same-regs same-clock real rest lines leaf strange keeps waits kept frames plain clean lost)
       (resumed (S L) _ j waits kept clean (sound-at L rest′ leaf′)))
 
   -- with its communication

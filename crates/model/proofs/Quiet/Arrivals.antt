@@ -19,8 +19,8 @@ use Rattle.model.specs.Reader.{names}
 use Rattle.model.specs.Instruction.{ldc, ldlp, cj, ajw, stl, Instruction, plain, distance, operation}
 use Rattle.model.specs.Instruction as I
 use Rattle.model.specs.Scheme.{initialise, howMany, wholeSize, size, sizePairs, sizeEnds, sizeEnable, sizeDisable, sizeBranches}
-use Rattle.model.specs.Scheme.{local, wholeCode, inputCode, code, codeAll, codePairs, codeStarts, codeEnds, codeEnable, codeDisable}
-use Rattle.model.specs.Scheme.{codeBranches}
+use Rattle.model.specs.Scheme.{beginsAlt, waitsAlt, local, wholeCode, inputCode, code, codeAll, codePairs, codeStarts, codeEnds}
+use Rattle.model.specs.Scheme.{codeEnable, codeDisable, codeBranches}
 use Rattle.model.specs.Occam.{Store, eval, Frame, inWhile, Process, before, finished, framesOf, resume, begin, enter, enterAll}
 use Rattle.model.specs.Occam.{firstTrue, toRead}
 use Rattle.model.specs.Demand.{liveIn}
@@ -279,8 +279,8 @@ module _ (S : Setting) (a : Part) where
     -- an ALT's code
     alt-pick : {gs : Guards} {vars chans : List Site} {k : List Frame} {hi i w choice over : ℕ}
         → choice ≡ i + 2 + sizeEnable gs + 1 + sizeDisable gs
-        → Seg (S .xs) i (plain ajw (minus 1) ∷ operation I.alt ∷ codeEnable (S .word) (w - 1) gs) (i + 2 + sizeEnable gs)
-        → Seg (S .xs) (i + 2 + sizeEnable gs) (operation I.altwt ∷ codeDisable (S .word) (w - 1) choice (choice + 1) gs) choice
+        → Seg (S .xs) i (plain ajw (minus 1) ∷ operation (beginsAlt gs) ∷ codeEnable (S .word) (w - 1) gs) (i + 2 + sizeEnable gs)
+        → Seg (S .xs) (i + 2 + sizeEnable gs) (operation (waitsAlt gs) ∷ codeDisable (S .word) (w - 1) choice (choice + 1) gs) choice
         → Seg (S .xs) choice (operation I.altend ∷ codeBranches (S .word) w (choice + 1) over gs) over
         → Fine (S .word) a vars chans w (ALT gs) → Cont S a hi vars chans k over w → hi ≤ whole S + S .off i
         → AltCode S a gs vars chans k hi i w
@@ -292,7 +292,7 @@ module _ (S : Setting) (a : Part) where
         record {
           over = over;
           lowers = x;
-          begins = subst (λ n. At S n (operation I.alt)) one y;
+          begins = subst (λ n. At S n (operation (beginsAlt gs))) one y;
           enables = subst (λ n. Seg (S .xs) n (codeEnable (S .word) (w - 1) gs) (i + 2 + sizeEnable gs)) two g;
           waits = z;
           choice = choice;
@@ -311,8 +311,8 @@ module _ (S : Setting) (a : Part) where
     unfolding code
     alt-parts gs {i} {i′} {w} g f c near =
         let choice = i + 2 + sizeEnable gs + 1 + sizeDisable gs in
-        let front = plain ajw (minus 1) ∷ operation I.alt ∷ codeEnable (S .word) (w - 1) gs in
-        let mid = operation I.altwt ∷ codeDisable (S .word) (w - 1) choice (choice + 1) gs in
+        let front = plain ajw (minus 1) ∷ operation (beginsAlt gs) ∷ codeEnable (S .word) (w - 1) gs in
+        let mid = operation (waitsAlt gs) ∷ codeDisable (S .word) (w - 1) choice (choice + 1) gs in
         let over = choice + 1 + sizeBranches gs in
         let (g₁, g₂) = cut (front ++ mid) choice
         (omega (

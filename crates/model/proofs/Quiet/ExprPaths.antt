@@ -15,10 +15,9 @@ use Rattle.model.specs.declared.kinds.Operator.the-variants.{Plus as PLU
 use Rattle.model.specs.declared.kinds.Operator.the-variants.{And as AND, Or as OR, Xor as XOR}
 use Rattle.model.specs.Instruction.{ajw, eqc, ldl, stl, Instruction, plain, operation, opr}
 use Rattle.model.specs.Instruction as I
-use Rattle.model.specs.Counts.{sidesNeed, registers, orderOf, order, sidesHold}
+use Rattle.model.specs.Counts.{sidesNeed, registers, orderOf, order, sidesHold, temporaries, bothHold}
 use Rattle.model.specs.declared.kinds.Order.{Order}
 use Rattle.model.specs.declared.kinds.Order.the-variants.{LeftFirst, RightFirst, RightStored}
-use Rattle.model.specs.Counts.{temporaries}
 use Rattle.model.specs.Scheme.{operatorCode, sidesCode, wrapped, exprCode}
 use Rattle.model.specs.Execute.{above}
 use Rattle.model.specs.Occam.{Store, operate, deny, eval}
@@ -73,6 +72,15 @@ pushed v =
 -- what a whole expression's code does: words from w - more on stay
 pub record Whole (σ : Store) (w more : ℕ) (e : Expr) (μ μ′ : Mem) (r′ : Regs) : Type 0 where
   pub value : r′ .a ≡ eval σ e
+  pub same-w : r′ .w ≡ w
+  pub kept : (v : ℕ) → w ≤ v + more → μ′ v ≡ μ v
+
+-- what the code of a time guard's time and condition does: the time is in B, the condition in A, and words from w - more on stay
+pub record Both (σ : Store) (w more : ℕ) (t e : Expr) (μ μ′ : Mem) (r′ : Regs) : Type 0 where
+  pub time : r′ .b ≡ eval σ t
+  pub value : r′ .a ≡ eval σ e
+  pub time-word : eval σ t < 2 ^ 32
+  pub value-word : eval σ e < 2 ^ 32
   pub same-w : r′ .w ≡ w
   pub kept : (v : ℕ) → w ≤ v + more → μ′ v ≡ μ v
 
@@ -274,46 +282,77 @@ module _ (xs : List Instruction) (off : ℕ → ℕ) (word : Site → ℕ) (Poin
                 })))
           ]
 
-    -- a whole expression at w, wrapped where it stores values
+    -- code that stores t values at most: where it is at v, it leads through and leaves what is asked of A and B
+    abbrev Leaves : (t : ℕ) (code : ℕ → List Instruction) (Done : (a b : ℕ) → Type 0) → Type 0
+    Leaves t code Done =
+        (v i i′ : ℕ) (μ : Mem) (r : Regs) → v < 2 ^ 32 → Seg xs i (code v) i′ → ((k : ℕ) → k < t → Spare (v + k)) → r .w ≡ v
+        → ((μ′ : Mem) (r′ : Regs) → Done (r′ .a) (r′ .b) → r′ .w ≡ r .w → ((u : ℕ) → u < v → μ′ u ≡ μ u)
+        → ((u : ℕ) → v + t ≤ u → μ′ u ≡ μ u) → Goes hi μ′ i′ r′)
+        → Goes hi μ i r
+
+    -- such code at w, wrapped where it stores values: words from w - more on stay
+    through-wrap : (t more w : ℕ) (code : ℕ → List Instruction) (Done : (a b : ℕ) → Type 0) → Leaves t code Done → w < 2 ^ 32
+        → lowered t more ≤ w → ((v : ℕ) → w ≤ v + lowered t more → v + more < w → Spare v) → {i i′ : ℕ} {μ : Mem} {r : Regs}
+        → Seg xs i (wrapped t more w code) i′ → r .w ≡ w
+        → ((μ′ : Mem) (r′ : Regs) → Done (r′ .a) (r′ .b) → r′ .w ≡ w → ((u : ℕ) → w ≤ u + more → μ′ u ≡ μ u) → Goes hi μ′ i′ r′)
+        → Goes hi μ i r
+    unfolding wrapped lowered functionIn operandIn
+    through-wrap zero more w code Done leaves wide room spare c p next =
+        leaves w _ _ _ _ wide c (λ k b. absurd (omega arith)) p (λ μ′ r′ d q below above.
+        next μ′ r′ d (q ∙ p)
+        (λ u b. by-bool (ltb u w) (λ l. below u (ltb-true u w l)) (λ l. above u (omega (arith, ltb-false u w l)))))
+    through-wrap (suc t) more w code Done leaves wide room spare {μ} {r} c p next =
+        let n = suc t + more in
+        let down : low (r .w + minus n) ≡ w - n = rw p (omega arith) in
+        elim (apart (plain ajw (minus n) ∷ code (w - n)) c) [
+          | split c₃ c₄ ↦ elim (apart (plain ajw (minus n) ∷ []) c₃) [
+            | split c₁ c₂ ↦
+                lowers c₁
+                (leaves (w - n) _ _ _ _ (omega arith) c₂ (λ k b. spare (w - n + k) (omega arith) (omega arith)) down
+                (λ μ′ r′ d q below above.
+                raises c₄ (next μ′ (moving n r′) d (rw (q ∙ down) (omega arith)) (λ u b. above u (omega arith)))))
+          ]
+        ]
+      where
+        lowers : {j j′ : ℕ} → Seg xs j (plain ajw (minus (suc t + more)) ∷ []) j′ → Goes hi μ j′ (moving (minus (suc t + more)) r)
+            → Goes hi μ j r
+        lowers (at x nil) w = quiet (moving (minus (suc t + more))) x (quiet-ajw (minus (suc t + more))) w
+
+        raises : {j j′ : ℕ} {ν : Mem} {q : Regs} → Seg xs j (plain ajw (suc t + more) ∷ []) j′ → Goes hi ν j′ (moving (suc t + more) q)
+            → Goes hi ν j q
+        raises (at x nil) w = quiet (moving (suc t + more)) x (quiet-ajw (suc t + more)) w
+
+    -- a whole expression at w
     pub evaluates-whole : (w more : ℕ) (e : Expr) → w < 2 ^ 32 → FineExpr vars e → FineExpr reads e → lowered (temporaries e) more ≤ w
         → ((v : ℕ) → w ≤ v + lowered (temporaries e) more → v + more < w → Spare v) → {i i′ : ℕ} {μ : Mem} {r : Regs}
         → Seg xs i (wrapped (temporaries e) more w (λ v. exprCode word v 0 e)) i′ → r .w ≡ w
         → ((μ′ : Mem) (r′ : Regs) → Whole σ w more e μ μ′ r′ → Goes hi μ′ i′ r′) → Goes hi μ i r
-    unfolding wrapped lowered functionIn operandIn
-    evaluates-whole w more e wide f g room spare {i} {i′} {μ} {r} c p next = by (temporaries e) refl c room spare
-      where
-        by : (t : ℕ) → temporaries e ≡ t → Seg xs i (wrapped t more w (λ v. exprCode word v 0 e)) i′ → lowered t more ≤ w
-            → ((v : ℕ) → w ≤ v + lowered t more → v + more < w → Spare v) → Goes hi μ i r
-        by zero q c room spare =
-            evaluates w wide e f g 0 _ _ _ _ c (λ k b. absurd (omega arith)) p (λ μ′ r′ d.
-            next μ′ r′ (record {
-              value = d .value;
-              same-w = d .same-w ∙ p;
-              kept = λ v b. by-bool (ltb v w) (λ l. d .below v (omega (arith, ltb-true v w l)))
-                  (λ l. d .above v (omega (arith, ltb-false v w l)));
-            }))
-        by (suc t) q c room spare =
-            let n = suc t + more in
-            let down : low (r .w + minus n) ≡ w - n = rw p (omega arith) in
-            elim (apart (plain ajw (minus n) ∷ exprCode word (w - n) 0 e) c) [
-              | split c₃ c₄ ↦ elim (apart (plain ajw (minus n) ∷ []) c₃) [
-                | split c₁ c₂ ↦
-                    lowers c₁
-                    (evaluates (w - n) (omega arith) e f g 0 _ _ _ _ c₂ (λ k b. spare (w - n + k) (omega arith) (omega arith)) down
-                    (λ μ′ r′ d.
-                    raises c₄
-                    (next μ′ (moving n r′) (record {
-                      value = d .value;
-                      same-w = rw (d .same-w ∙ down) (omega arith);
-                      kept = λ v b. d .above v (omega arith);
-                    }))))
-              ]
-            ]
-          where
-            lowers : {j j′ : ℕ} → Seg xs j (plain ajw (minus (suc t + more)) ∷ []) j′ → Goes hi μ j′ (moving (minus (suc t + more)) r)
-                → Goes hi μ j r
-            lowers (at x nil) w = quiet (moving (minus (suc t + more))) x (quiet-ajw (minus (suc t + more))) w
+    evaluates-whole w more e wide f g room spare c p next =
+        through-wrap (temporaries e) more w (λ v. exprCode word v 0 e) (λ a b. a ≡ eval σ e)
+        (λ v i i′ μ r small c s p next.
+        evaluates v small e f g 0 i i′ μ r c (λ k b. s k (omega arith)) p (λ μ′ r′ d.
+        next μ′ r′ (d .value) (d .same-w) (λ u b. d .below u (omega arith)) (λ u b. d .above u (omega arith))))
+        wide room spare c p (λ μ′ r′ d q kept. next μ′ r′ (record { value = d; same-w = q; kept = kept }))
 
-            raises : {j j′ : ℕ} {ν : Mem} {q : Regs} → Seg xs j (plain ajw (suc t + more) ∷ []) j′ → Goes hi ν j′ (moving (suc t + more) q)
-                → Goes hi ν j q
-            raises (at x nil) w = quiet (moving (suc t + more)) x (quiet-ajw (suc t + more)) w
+    -- a time guard's time and condition at w, brought in as the sides of an operator
+    pub both-path : (w more : ℕ) (t e : Expr) → w < 2 ^ 32 → FineExpr vars t → FineExpr reads t → FineExpr vars e → FineExpr reads e
+        → lowered (bothHold t e) more ≤ w → ((v : ℕ) → w ≤ v + lowered (bothHold t e) more → v + more < w → Spare v)
+        → {i i′ : ℕ} {μ : Mem} {r : Regs}
+        → Seg xs i (wrapped (bothHold t e) more w (λ v. sidesCode (order t e) 0 (λ k. exprCode word v k t) (exprCode word v 0 e))) i′
+        → r .w ≡ w → ((μ′ : Mem) (r′ : Regs) → Both σ w more t e μ μ′ r′ → Goes hi μ′ i′ r′) → Goes hi μ i r
+    both-path w more t e wide ft gt fe ge room spare c p next =
+        through-wrap (bothHold t e) more w (λ v. sidesCode (order t e) 0 (λ k. exprCode word v k t) (exprCode word v 0 e))
+        (λ a b. (a ≡ eval σ e) × (b ≡ eval σ t))
+        (λ v i i′ μ r small c s p next.
+        brings v small t e (evaluates v small t ft gt) (evaluates v small e fe ge) (order t e) (ordered (registers t) (registers e)) 0
+        c (λ k b. s k (omega arith)) p (λ μ′ r′ d.
+        next μ′ r′ (d .right, d .left) (d .same-w) (λ u b. d .below u (omega arith)) (λ u b. d .above u (omega arith))))
+        wide room spare c p (λ μ′ r′ d q kept.
+        next μ′ r′ (record {
+          time = d .1;
+          value = d .0;
+          time-word = eval-word σ values t ft;
+          value-word = eval-word σ values e fe;
+          same-w = q;
+          kept = kept;
+        }))

@@ -4,24 +4,27 @@ use mathlib.Core.Path.{_≡_}
 use mathlib.Core.Logic.{_≢_, _⊎_}
 use mathlib.Core.Bool.{true, false}
 use mathlib.Core.List.{List, _∷_, _++_, List·Memᴰ}
-use Rattle.model.specs.Word.{low, less, notProcess}
+use Rattle.model.specs.Word.{low, less, after, notProcess}
 use Rattle.model.specs.Syntax.{Site, Expr, Stmt, SKIP, STOP, assign, input, output, VAR, CHAN, SEQ, PAR, IF, WHILE, ALT, Stmts}
-use Rattle.model.specs.Syntax.{noStmt, stmt, Pairs, Guard, inputGuard, skipGuard, Guards, noGuard, guard, TIME, WAIT}
+use Rattle.model.specs.Syntax.{noStmt, stmt, Pairs, Guard, inputGuard, skipGuard, timeGuard, Guards, noGuard, guard, timed, TIME}
+use Rattle.model.specs.Syntax.{WAIT}
 use Rattle.model.specs.Reader.{names}
 use Rattle.model.specs.Counts.{need, sumNeed}
 use Rattle.model.specs.Instruction.{ldc, ldlp, cj, ajw, stl, Instruction, plain, distance, operation}
 use Rattle.model.specs.Instruction as I
 use Rattle.model.specs.Scheme.{howMany, size, code, codeStarts, codeEnds, codeEnable, codeDisable, codeBranches, sizeEnable}
-use Rattle.model.specs.Scheme.{sizeDisable, inputSize}
+use Rattle.model.specs.Scheme.{sizeDisable, inputSize, beginsAlt, waitsAlt}
 use Rattle.model.specs.Code.{operandIn}
 use Rattle.model.specs.Alternative.{enabling, ready, noneSelected}
-use Rattle.model.specs.Machine.{stateWord, nameOf, spaceOf}
+use Rattle.model.specs.Machine.{stateWord, timeLinkWord, timeWord, nameOf, spaceOf}
+use Rattle.model.specs.Timer.{timeSet}
 use Rattle.model.specs.Occam.{Store, eval, isTrue, Frame, inWhile, Process, before, atInput, atOutput, atStop, atAlt, inPar, finished}
 use Rattle.model.specs.Occam.{resume, begin, firstTrue, State, Sender, branchOf, Ready, toRead, hasRead, atWait}
 use Rattle.model.proofs.Quiet.Names.{name-back}
 use Rattle.model.proofs.Quiet.Ways.{Regs, Mem}
 use Rattle.model.proofs.Quiet.Stretches.{Seg}
 use Rattle.model.proofs.Quiet.Setting.{Setting, whole, At}
+use Rattle.model.proofs.Quiet.Timing.{Times, Bringing, Passed, Guarding}
 use Rattle.model.proofs.Words.Parts.{Part, joins, Words, FineWhole, Fine, FinePairs, FineBranches, Target}
 use Rattle.model.proofs.Quiet.Continuations.{Placed, Cont}
 
@@ -34,23 +37,44 @@ pub data AnyReady (st : State) : Guards → Type 0 where
 abbrev pub nextBranch : (b : ℕ) → Guard → Stmt → ℕ
 nextBranch b g s = b + 1 + inputSize g + size s + 1
 
--- the guard whose branch has its first instruction at t is ready; p is the process that goes on there. The first guard's branch is at b
-pub data Picks (st : State) (k : List Frame) : Guards → (b t : ℕ) → Process → Type 0 where
-  p-first : {g : Guard} {s : Stmt} {gs : Guards} {b : ℕ} → Ready st g → Picks st k (guard g s gs) b b (begin (branchOf g s) k)
-  p-later : {g : Guard} {s : Stmt} {gs : Guards} {b t : ℕ} {p : Process} → Picks st k gs (nextBranch b g s) t p
-      → Picks st k (guard g s gs) b t p
+-- a guard that is ready whatever the clock is, and such a guard of a list
+pub data Present (st : State) : Guard → Type 0 where
+  is-sent : {e : Expr} {c x : Site} → isTrue (st .store) e ≡ true → Sender st c → Present st (inputGuard e c x)
+  is-skip : {e : Expr} → isTrue (st .store) e ≡ true → Present st (skipGuard e)
+
+pub data AnyPresent (st : State) : Guards → Type 0 where
+  a-first : {g : Guard} {s : Stmt} {gs : Guards} → Present st g → AnyPresent st (guard g s gs)
+  a-later : {g : Guard} {s : Stmt} {gs : Guards} → AnyPresent st gs → AnyPresent st (guard g s gs)
+
+-- a guard that its disabling will find ready: it is present, or the time in the ALT's words is set and after the guard's
+pub data Finds (st : State) (μ : Mem) (w : ℕ) : Guard → Type 0 where
+  finds-present : {g : Guard} → Present st g → Finds st μ w g
+  finds-time : {e t : Expr} → isTrue (st .store) e ≡ true → μ (timeLinkWord w) ≡ timeSet
+      → after (μ (timeWord w)) (eval (st .store) t) ≡ true → Finds st μ w (timeGuard e t)
+
+pub data AnyFound (st : State) (μ : Mem) (w : ℕ) : Guards → Type 0 where
+  f-first : {g : Guard} {s : Stmt} {gs : Guards} → Finds st μ w g → AnyFound st μ w (guard g s gs)
+  f-later : {g : Guard} {s : Stmt} {gs : Guards} → AnyFound st μ w gs → AnyFound st μ w (guard g s gs)
+
+-- the guard whose branch has its first instruction at t is ready, if times are sure; p is the process that goes on there. The first
+-- guard's branch is at b
+pub data Picks (T : Times) (st : State) (k : List Frame) : Guards → (b t : ℕ) → Process → Type 0 where
+  p-first : {g : Guard} {s : Stmt} {gs : Guards} {b : ℕ} → (T .sure → Ready st g) → Picks T st k (guard g s gs) b b (begin (branchOf g s) k)
+  p-later : {g : Guard} {s : Stmt} {gs : Guards} {b t : ℕ} {p : Process} → Picks T st k gs (nextBranch b g s) t p
+      → Picks T st k (guard g s gs) b t p
 
 -- the second list is the rest of the first; their first guards' branches are at b and t
 pub data Rest : Guards → (b : ℕ) → Guards → (t : ℕ) → Type 0 where
   rest-all : {gs : Guards} {b : ℕ} → Rest gs b gs b
   rest-later : {g : Guard} {s : Stmt} {gs hs : Guards} {b t : ℕ} → Rest gs (nextBranch b g s) hs t → Rest (guard g s gs) b hs t
 
--- a guard that is not ready; one that waits for input is marked by the process at w where its condition is true
+-- a guard that is not present; one that waits for input is marked by the process at w where its condition is true
 abbrev pub Unready : State → (Site → ℕ) → Mem → (w : ℕ) → Guard → Type 0
 Unready st word μ w (inputGuard e c x) = isTrue (st .store) e ≡ true → (μ (word c) ≡ nameOf w) × (Sender st c → ⊥)
 Unready st word μ w (skipGuard e) = isTrue (st .store) e ≡ false
+Unready st word μ w (timeGuard e t) = Unit {0}
 
--- of the guards from the first list up to the second, which is the rest of it, none is ready
+-- of the guards from the first list up to the second, which is the rest of it, none is present
 pub data Noticed (st : State) (word : Site → ℕ) (μ : Mem) (w : ℕ) : Guards → Guards → Type 0 where
   n-none : {gs : Guards} → Noticed st word μ w gs gs
   n-later : {g : Guard} {s : Stmt} {gs hs : Guards} → Unready st word μ w g → Noticed st word μ w gs hs
@@ -111,9 +135,9 @@ module _ (S : Setting) (a : Part) where
   pub record AltCode (gs : Guards) (vars chans : List Site) (k : List Frame) (hi i w : ℕ) : Type 0 where
     pub over : ℕ
     pub lowers : At S i (plain ajw (less 0 1))
-    pub begins : At S (i + 1) (operation I.alt)
+    pub begins : At S (i + 1) (operation (beginsAlt gs))
     pub enables : Seg (S .xs) (i + 2) (codeEnable (S .word) (w - 1) gs) (i + 2 + sizeEnable gs)
-    pub waits : At S (i + 2 + sizeEnable gs) (operation I.altwt)
+    pub waits : At S (i + 2 + sizeEnable gs) (operation (waitsAlt gs))
     pub choice : ℕ
     pub choice-is : choice ≡ i + 2 + sizeEnable gs + 1 + sizeDisable gs
     pub disables : Seg (S .xs) (i + 2 + sizeEnable gs + 1) (codeDisable (S .word) (w - 1) choice (choice + 1) gs) choice
@@ -228,27 +252,17 @@ module _ (S : Setting) (a : Part) where
     abbrev pub Marked : (gs : Guards) (μ : Mem) (w : ℕ) → Type 0
     Marked gs μ w = (c : Site) → List·Memᴰ c chans → Own a (μ (S .word c)) → (μ (S .word c) ≡ nameOf w) × Guarded σ c gs
 
-    -- the guards of an ALT before hs are enabled, and the state says whether one is ready
-    pub record Enabling (gs hs : Guards) (μ : Mem) (w : ℕ) : Type 0 where
-      pub rest : (t : ℕ) × Rest gs 0 hs t
-      pub marks : Marked gs μ w
-      pub state : ((μ (stateWord w) ≡ enabling) × Noticed st (S .word) μ w gs hs) ⊎ ((μ (stateWord w) ≡ ready) × AnyReady st gs)
-
-    -- before the ENBC or ENBS of the first guard of a list, with the rest of the enabling behind it
+    -- before the ENBC, ENBS or ENBT of the first guard of a list, with the rest of the enabling behind it
     pub data Enables : Guards → (i : ℕ) → Regs → (i′ : ℕ) → Type 0 where
       e-input : {e : Expr} {c x : Site} {s : Stmt} {gs : Guards} {i i′ : ℕ} {r : Regs} → At S i (operation I.enbc) → r .a ≡ eval σ e
           → r .b ≡ S .word c → Seg (S .xs) (suc i) (codeEnable (S .word) (r .w) gs) i′ → Enables (guard (inputGuard e c x) s gs) i r i′
       e-skip : {e : Expr} {s : Stmt} {gs : Guards} {i i′ : ℕ} {r : Regs} → At S i (operation I.enbs) → r .a ≡ eval σ e
           → Seg (S .xs) (suc i) (codeEnable (S .word) (r .w) gs) i′ → Enables (guard (skipGuard e) s gs) i r i′
+      e-time : {e t : Expr} {s : Stmt} {gs : Guards} {i i′ : ℕ} {r : Regs} → At S i (operation I.enbt) → r .a ≡ eval σ e
+          → r .b ≡ eval σ t → eval σ t < 2 ^ 32 → Seg (S .xs) (suc i) (codeEnable (S .word) (r .w) gs) i′
+          → Enables (guard (timeGuard e t) s gs) i r i′
 
-    -- the guards of an ALT before hs are disabled: no mark of theirs is left; it is Ready; a branch is chosen, or one of the rest is ready
-    pub record Disabling (k : List Frame) (gs hs : Guards) (choice : ℕ) (μ : Mem) (w : ℕ) : Type 0 where
-      pub marks : Marked hs μ w
-      pub state : μ (stateWord w) ≡ ready
-      pub chosen : ((t : ℕ) × (p : Process) × Picks st k gs (choice + 1) t p × (μ w ≡ operandIn (S .off) (distance ldc t choice)))
-          ⊎ ((μ w ≡ noneSelected) × AnyReady st hs)
-
-    -- before the DISC or DISS of the first guard of a list, whose branch is at b, with the rest of the disabling behind it
+    -- before the DISC, DISS or DIST of the first guard of a list, whose branch is at b, with the rest of the disabling behind it
     pub data Disables : Guards → (choice b i : ℕ) → Regs → (i′ : ℕ) → Type 0 where
       d-input : {e : Expr} {c x : Site} {s : Stmt} {gs : Guards} {choice b i i′ : ℕ} {r : Regs} → At S i (operation I.disc)
           → r .a ≡ operandIn (S .off) (distance ldc b choice) → r .b ≡ eval σ e → r .c ≡ S .word c
@@ -258,17 +272,41 @@ module _ (S : Setting) (a : Part) where
           → r .a ≡ operandIn (S .off) (distance ldc b choice) → r .b ≡ eval σ e
           → Seg (S .xs) (suc i) (codeDisable (S .word) (r .w) choice (nextBranch b (skipGuard e) s) gs) i′
           → Disables (guard (skipGuard e) s gs) choice b i r i′
+      d-time : {e t : Expr} {s : Stmt} {gs : Guards} {choice b i i′ : ℕ} {r : Regs} → At S i (operation I.dist)
+          → r .a ≡ operandIn (S .off) (distance ldc b choice) → r .b ≡ eval σ e → r .c ≡ eval σ t
+          → Seg (S .xs) (suc i) (codeDisable (S .word) (r .w) choice (nextBranch b (timeGuard e t) s) gs) i′
+          → Disables (guard (timeGuard e t) s gs) choice b i r i′
+
+  module _ (T : Times) (st : State) (vars chans : List Site) where
+    -- the guards of an ALT before hs are enabled, and the state says whether one is present
+    pub record Enabling (gs hs : Guards) (μ : Mem) (w : ℕ) : Type 0 where
+      pub rest : (t : ℕ) × Rest gs 0 hs t
+      pub marks : Marked st vars chans gs μ w
+      pub state : ((μ (stateWord w) ≡ enabling) × Noticed st (S .word) μ w gs hs) ⊎ ((μ (stateWord w) ≡ ready) × AnyPresent st gs)
+      pub times : timed gs ≡ true → Bringing T st gs hs μ w
+      pub known : Guarding T st gs hs w
+
+    -- the guards of an ALT before hs are disabled: no mark of theirs is left; it is Ready; a branch is chosen, or one of the rest will be
+    -- found
+    pub record Disabling (k : List Frame) (gs hs : Guards) (choice : ℕ) (μ : Mem) (w : ℕ) : Type 0 where
+      pub marks : Marked st vars chans hs μ w
+      pub state : μ (stateWord w) ≡ ready
+      pub chosen : ((t : ℕ) × (p : Process) × Picks T st k gs (choice + 1) t p × (μ w ≡ operandIn (S .off) (distance ldc t choice)))
+          ⊎ ((μ w ≡ noneSelected) × AnyFound st μ w hs)
+      pub times : timed gs ≡ true → Passed T st gs hs μ w
+      pub known : Guarding T st gs noGuard w
 
     -- the significant instructions of an ALT behind its first
     pub data AltPoint : Process → (up : ℕ) → Mem → ℕ → Regs → Type 0 where
       pt-enable : {gs hs : Guards} {k : List Frame} {up : ℕ} {μ : Mem} {i j hi : ℕ} {r : Regs} → AltCode gs vars chans k hi i (r .w + 1)
-          → hi ≤ up → Enabling gs hs μ (r .w) → Enables hs j r (i + 2 + sizeEnable gs) → AltPoint (before (ALT gs) k) up μ j r
+          → hi ≤ up → Enabling gs hs μ (r .w) → Enables st vars chans hs j r (i + 2 + sizeEnable gs) → AltPoint (before (ALT gs) k) up μ j r
       pt-wait : {gs : Guards} {k : List Frame} {up : ℕ} {μ : Mem} {i hi : ℕ} {r : Regs} → AltCode gs vars chans k hi i (r .w + 1)
           → Enabling gs noGuard μ (r .w) → AltPoint (before (ALT gs) k) up μ (i + 2 + sizeEnable gs) r
       -- disabling, and the choice
       pt-disable : {gs hs : Guards} {k : List Frame} {up : ℕ} {μ : Mem} {i j b hi : ℕ} {r : Regs}
           (c : AltCode gs vars chans k hi i (r .w + 1))
-          → hi ≤ up → Rest gs (c .choice + 1) hs b → Disabling k gs hs (c .choice) μ (r .w) → Disables hs (c .choice) b j r (c .choice)
+          → hi ≤ up → Rest gs (c .choice + 1) hs b → Disabling k gs hs (c .choice) μ (r .w)
+          → Disables st vars chans hs (c .choice) b j r (c .choice)
           → AltPoint (atAlt gs k) up μ j r
       pt-choose : {gs : Guards} {k : List Frame} {up : ℕ} {μ : Mem} {i hi : ℕ} {r : Regs} (c : AltCode gs vars chans k hi i (r .w + 1))
           → Disabling k gs noGuard (c .choice) μ (r .w) → AltPoint (atAlt gs k) up μ (c .choice) r

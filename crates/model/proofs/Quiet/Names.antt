@@ -6,6 +6,7 @@ use mathlib.Core.Logic.{_≢_}
 use Rattle.model.specs.Word.{notProcess}
 use Rattle.model.specs.Limits.{wordLimit}
 use Rattle.model.specs.Machine.{nameOf, spaceOf}
+use Rattle.model.specs.Timer.{timeSet, timeNotSet}
 
 -- there and back
 pub name-back : (w : ℕ) → spaceOf (nameOf w) ≡ w
@@ -20,6 +21,11 @@ name-injective v w e = sym (name-back v) ∙ ap spaceOf e ∙ name-back w
 pub name-given : (w : ℕ) → w ≤ wordLimit → nameOf w ≢ notProcess
 unfolding nameOf
 name-given w h e = absurd (omega arith)
+
+-- nor says its name in a link word that a time is set, or not
+pub name-unset : (w : ℕ) → w ≤ wordLimit → (nameOf w ≢ timeSet) × (nameOf w ≢ timeNotSet)
+unfolding nameOf
+name-unset w h = ((λ e. absurd (omega arith)), (λ e. absurd (omega arith)))
 
 -- nor has NotProcess a workspace in memory
 pub none-high : wordLimit < spaceOf notProcess

@@ -3,25 +3,28 @@ use Prim.Native.Nat.{ℕ, zero, suc, _+_, _-_, _^_, _≤_, _<_}
 use native.Mathlib.Omega.{arith}
 use native.Mathlib.Nat.{add-zero}
 use mathlib.Core.Path.{_≡_, refl, sym, ap, _∙_, subst}
-use mathlib.Core.Logic.{inl, inr, ⊎-elim}
+use mathlib.Core.Logic.{_⊎_, inl, inr, ⊎-elim}
+use mathlib.Core.Bool.{true}
 use mathlib.Core.List.{List, [], _∷_, _++_, append-nil, List·Memᴰ}
 use lib.ListN.{length, length-append}
-use Rattle.model.specs.Word.{low, less, minus}
+use Rattle.model.specs.Word.{low, less, minus, after}
 use Rattle.model.specs.Code.{functionIn, operandIn}
-use Rattle.model.specs.Counts.{temporaries, need, sumNeed}
-use Rattle.model.specs.Syntax.{Site, Expr, Stmt, input, ALT, Stmts, noStmt, stmt, Guard, inputGuard, skipGuard, Guards, noGuard}
-use Rattle.model.specs.Syntax.{guard}
+use Rattle.model.specs.Counts.{temporaries, bothHold, need, sumNeed}
+use Rattle.model.specs.Syntax.{Site, Expr, Stmt, input, ALT, Stmts, noStmt, stmt, Guard, inputGuard, skipGuard, timeGuard, Guards}
+use Rattle.model.specs.Syntax.{noGuard, guard, timed}
 use Rattle.model.specs.Instruction.{ldc, ldlp, ajw, Instruction, plain, distance, operation}
 use Rattle.model.specs.Instruction as I
-use Rattle.model.specs.Scheme.{size, sizeEnable, sizeEnds, altWords, local, guardCode, code, codeAll, codeStarts, codeEnds}
+use Rattle.model.specs.Scheme.{size, sizeEnable, sizeEnds, altWords, local, guardCode, bothCode, code, codeAll, codeStarts, codeEnds}
 use Rattle.model.specs.Scheme.{codeEnable, codeDisable, codeBranches, inputSize, enableCode, disableCode, guardInput}
-use Rattle.model.specs.Machine.{stateWord, nameOf}
-use Rattle.model.specs.Occam.{Store, eval, Sender, Frame, Process, before, atAlt, begin, State, branchOf, Ready, by-input, by-skip}
-use Rattle.model.specs.Occam.{Choice, first-guard, later-guard}
+use Rattle.model.specs.Machine.{stateWord, timeLinkWord, timeWord, nameOf}
+use Rattle.model.specs.Timer.{timeSet}
+use Rattle.model.specs.Occam.{Store, eval, Sender, Frame, Process, before, atAlt, begin, State, branchOf, by-input, by-skip, Choice}
+use Rattle.model.specs.Occam.{first-guard, later-guard, by-time, now, atInput, atOutput, atStop, atWait, toRead, hasRead, inPar}
+use Rattle.model.specs.Occam.{finished}
 use Rattle.model.proofs.Quiet.Ways.{Regs, pushing, pointing, reversing, moving, Mem, Way, arrived, quiet, quiet-ldc, quiet-ajw}
 use Rattle.model.proofs.Quiet.Ways.{quiet-ldlp, quiet-rev}
 use Rattle.model.proofs.Quiet.Stretches.{Seg, nil, at, split, apart-first, cut, seg-length, local-word}
-use Rattle.model.proofs.Quiet.ExprPaths.{evaluates-whole}
+use Rattle.model.proofs.Quiet.ExprPaths.{evaluates-whole, both-path}
 use Rattle.model.proofs.Coding.Sizes.{input-length, code-length}
 use Rattle.model.proofs.Quiet.Setting.{Setting, whole, At}
 use Rattle.model.proofs.Quiet.CodeParts.{inside, rises-le}
@@ -32,7 +35,9 @@ use Rattle.model.proofs.Quiet.Continuations.{cont-inside, cont-low, con
 use Rattle.model.proofs.Quiet.Marks.{AnyReady, r-first, r-later, nextBranch, Picks, p-first, p-later, Rest, rest-all, rest-later}
 use Rattle.model.proofs.Quiet.Marks.{Unready, Noticed, n-none, n-later, AltCode, ParCode, Enabling, e-input, e-skip, Disabling}
 use Rattle.model.proofs.Quiet.Marks.{d-input, d-skip, AltPoint, pt-enable, pt-wait, pt-disable, pt-choose, Own, Spare, Marked}
-use Rattle.model.proofs.Quiet.Marks.{StartPoint, Guarded, g-first, g-later}
+use Rattle.model.proofs.Quiet.Marks.{StartPoint, Guarded, g-first, g-later, Present, is-sent, is-skip, AnyPresent, a-first, a-later}
+use Rattle.model.proofs.Quiet.Marks.{finds-present, finds-time, AnyFound, f-first, f-later, e-time, d-time}
+use Rattle.model.proofs.Quiet.Timing.{Times, Timely, t-first, t-later, bringing-same, passed-same}
 use Rattle.model.proofs.Cases.{never}
 use Rattle.model.proofs.Quiet.Arrivals.{spare-below, Sound, Comes, comes, enters, arrives}
 
@@ -41,18 +46,14 @@ seg-tail : {xs ys : List Instruction} {y : Instruction} {i i′ : ℕ} → Seg x
 seg-tail (at e g) = g
 
 -- what is picked is one of Occam's choices
-pub picks-choice : {st : State} {k : List Frame} {gs : Guards} {b t : ℕ} {p : Process} → Picks st k gs b t p → Choice st k gs p
-picks-choice (p-first r) = first-guard r
-picks-choice (p-later h) = later-guard (picks-choice h)
-
--- a ready guard can be picked
-pub ready-picks : {st : State} (k : List Frame) {gs : Guards} (b : ℕ) → AnyReady st gs → (t : ℕ) × (p : Process) × Picks st k gs b t p
-ready-picks k b (r-first r) = (_, _, p-first r)
-ready-picks k b (r-later h) = let (t, p, g) = ready-picks k _ h in (t, p, p-later g)
+pub picks-choice : {T : Times} {st : State} {k : List Frame} {gs : Guards} {b t : ℕ} {p : Process} → T .sure → Picks T st k gs b t p
+    → Choice st k gs p
+picks-choice o (p-first r) = first-guard (r o)
+picks-choice o (p-later h) = later-guard (picks-choice o h)
 
 -- a pick from the rest is one from all
-pub rest-picks : {st : State} {k : List Frame} {gs hs : Guards} {b c t : ℕ} {p : Process} → Rest gs b hs c → Picks st k hs c t p
-    → Picks st k gs b t p
+pub rest-picks : {T : Times} {st : State} {k : List Frame} {gs hs : Guards} {b c t : ℕ} {p : Process} → Rest gs b hs c
+    → Picks T st k hs c t p → Picks T st k gs b t p
 rest-picks rest-all h = h
 rest-picks (rest-later g) h = p-later (rest-picks g h)
 
@@ -67,34 +68,64 @@ pub noticed-past : {st : State} {word : Site → ℕ} {μ : Mem} {w : ℕ} {gs :
 noticed-past g n-none h = n-later h n-none
 noticed-past g (n-later u n) h = n-later u (noticed-past g n h)
 
--- where all are noticed none is ready, and each guarded channel is marked
-unready : {st : State} (word : Site → ℕ) (μ : Mem) (w : ℕ) {g : Guard} → Unready st word μ w g → Ready st g → ⊥
-unready word μ w u (by-input e s) = u e .1 s
-unready word μ w u (by-skip e) = never (cc (u, e))
+-- where all are noticed none is present, and each guarded channel is marked
+unready : {st : State} (word : Site → ℕ) (μ : Mem) (w : ℕ) {g : Guard} → Unready st word μ w g → Present st g → ⊥
+unready word μ w u (is-sent e s) = u e .1 s
+unready word μ w u (is-skip e) = never (cc (u, e))
 
-pub noticed-unready : {st : State} {word : Site → ℕ} {μ : Mem} {w : ℕ} {gs : Guards} → Noticed st word μ w gs noGuard → AnyReady st gs → ⊥
-noticed-unready {word} {μ} {w} (n-later u n) (r-first r) = unready word μ w u r
-noticed-unready (n-later u n) (r-later h) = noticed-unready n h
+pub noticed-unready : {st : State} {word : Site → ℕ} {μ : Mem} {w : ℕ} {gs : Guards} → Noticed st word μ w gs noGuard → AnyPresent st gs → ⊥
+noticed-unready {word} {μ} {w} (n-later u n) (a-first r) = unready word μ w u r
+noticed-unready (n-later u n) (a-later h) = noticed-unready n h
 
 pub noticed-marked : {st : State} {word : Site → ℕ} {μ : Mem} {w : ℕ} {gs : Guards} {c : Site} → Noticed st word μ w gs noGuard
     → Guarded (st .store) c gs → μ (word c) ≡ nameOf w
 noticed-marked (n-later u n) (g-first e) = u e .0
 noticed-marked (n-later u n) (g-later h) = noticed-marked n h
 
--- a ready guard of the rest is one of all
-pub rest-ready : {st : State} {gs hs : Guards} {b c : ℕ} → Rest gs b hs c → AnyReady st hs → AnyReady st gs
-rest-ready rest-all h = h
-rest-ready (rest-later g) h = r-later (rest-ready g h)
+-- a present guard of the rest is one of all, and a time of the rest
+pub rest-present : {st : State} {gs hs : Guards} {b c : ℕ} → Rest gs b hs c → AnyPresent st hs → AnyPresent st gs
+rest-present rest-all h = h
+rest-present (rest-later g) h = a-later (rest-present g h)
+
+pub rest-timely : {σ : Store} {u : ℕ} {gs hs : Guards} {b c : ℕ} → Rest gs b hs c → Timely σ u hs → Timely σ u gs
+rest-timely rest-all h = h
+rest-timely (rest-later g) h = t-later (rest-timely g h)
+
+-- guards with a time guard in their rest have one
+pub rest-timed : {gs hs : Guards} {b c : ℕ} {e t : Expr} {s : Stmt} → Rest gs b (guard (timeGuard e t) s hs) c → timed gs ≡ true
+unfolding timed
+rest-timed rest-all = refl
+rest-timed (rest-later {g = inputGuard e c x} r) = rest-timed r
+rest-timed (rest-later {g = skipGuard e} r) = rest-timed r
+rest-timed (rest-later {g = timeGuard e t} r) = refl
+
+-- a present guard is found, and so is one whose time the word's time is after
+pub present-found : {st : State} (μ : Mem) (w : ℕ) {gs : Guards} → AnyPresent st gs → AnyFound st μ w gs
+present-found μ w (a-first h) = f-first (finds-present h)
+present-found μ w (a-later h) = f-later (present-found μ w h)
+
+pub timely-found : {st : State} (μ : Mem) (w : ℕ) {u : ℕ} {gs : Guards} → μ (timeLinkWord w) ≡ timeSet → after (μ (timeWord w)) u ≡ true
+    → Timely (st .store) u gs → AnyFound st μ w gs
+timely-found μ w e f (t-first z g) = f-first (finds-time z e (ap (after (μ (timeWord w))) g ∙ f))
+timely-found μ w e f (t-later h) = f-later (timely-found μ w e f h)
+
+-- what is ready is present, or its time is past
+pub ready-so : {st : State} {gs : Guards} → AnyReady st gs
+    → AnyPresent st gs ⊎ ((u : ℕ) × Timely (st .store) u gs × (after (now st) u ≡ true))
+ready-so (r-first (by-input e s)) = inl (a-first (is-sent e s))
+ready-so (r-first (by-skip e)) = inl (a-first (is-skip e))
+ready-so (r-first (by-time {t = t} e p)) = inr (_, t-first e refl, p)
+ready-so (r-later h) = ⊎-elim (λ a. inl (a-later a)) (λ (u, m, p). inr (u, t-later m, p)) (ready-so h)
 
 -- a guarded channel of the rest is one of all
 pub rest-guarded : {σ : Store} {d : Site} {gs hs : Guards} {b c : ℕ} → Rest gs b hs c → Guarded σ d hs → Guarded σ d gs
 rest-guarded rest-all h = h
 rest-guarded (rest-later g) h = g-later (rest-guarded g h)
 
--- a guarded channel that has a sender is ready
-pub guarded-ready : {st : State} {c : Site} {gs : Guards} → Guarded (st .store) c gs → Sender st c → AnyReady st gs
-guarded-ready (g-first e) h = r-first (by-input e h)
-guarded-ready (g-later g) h = r-later (guarded-ready g h)
+-- a guarded channel that has a sender is present
+pub guarded-present : {st : State} {c : Site} {gs : Guards} → Guarded (st .store) c gs → Sender st c → AnyPresent st gs
+guarded-present (g-first e) h = a-first (is-sent e h)
+guarded-present (g-later g) h = a-later (guarded-present g h)
 
 -- the next branch of a PAR
 pub ends-next : (s : Stmt) (ss : Stmts) (b : ℕ) {n : ℕ} → b + sizeEnds (stmt s ss) ≤ n → b + size s + 2 + sizeEnds ss ≤ n
@@ -112,6 +143,13 @@ unfolding lowered
 guard-room b w zero h k = omega arith
 guard-room b w (suc t) h k = omega arith
 
+-- what is found stays so where the time words do
+pub found-same : (st : State) {μ ν : Mem} {w : ℕ} {gs : Guards} → ν (timeLinkWord w) ≡ μ (timeLinkWord w)
+    → ν (timeWord w) ≡ μ (timeWord w) → AnyFound st μ w gs → AnyFound st ν w gs
+found-same st e f (f-first (finds-present h)) = f-first (finds-present h)
+found-same st e f (f-first (finds-time {t = t} x y z)) = f-first (finds-time x (e ∙ y) (ap (λ n. after n (eval (st .store) t)) f ∙ z))
+found-same st e f (f-later h) = f-later (found-same st e f h)
+
 -- an ALT's marks stay where the words of the channels in scope do
 pub marked-same : (S : Setting) (a : Part) (st : State) (vars chans : List Site) (hs : Guards) (μ ν : Mem) (w : ℕ)
     → ((d : Site) → List·Memᴰ d chans → ν (S .word d) ≡ μ (S .word d)) → Marked S a st vars chans hs μ w → Marked S a st vars chans hs ν w
@@ -123,16 +161,37 @@ module _ (word : Site → ℕ) (a : Part) (vars chans : List Site) (w : ℕ) whe
   rest-fine rest-all f = f
   rest-fine (rest-later g) f = rest-fine g (f .3)
 
+  -- an ALT with a time guard has room for its two words
+  pub timed-fine : (gs : Guards) → FineGuards word a vars chans w gs → timed gs ≡ true → a .bottom + 6 ≤ w
+  unfolding timed
+  timed-fine noGuard f t = never (cc)
+  timed-fine (guard (inputGuard e c x) s gs) f t = timed-fine gs (f .3) t
+  timed-fine (guard (skipGuard e) s gs) f t = timed-fine gs (f .3) t
+  timed-fine (guard (timeGuard e u) s gs) f t = f .1 .2
+
   -- a guarded channel is in scope, and the part inputs from it
   pub guarded-fine : {σ : Store} {c : Site} {gs : Guards} → Guarded σ c gs → FineGuards word a vars chans w gs
       → List·Memᴰ c chans × List·Memᴰ c (a .inputs)
   guarded-fine (g-first e) f = (f .1 .1, f .1 .2)
   guarded-fine (g-later g) f = guarded-fine g (f .3)
 
-module _ (S : Setting) (a : Part) (st : State) where
+-- once it has come to its ALT, the workspace is the one that is known of the process
+abbrev pub Tied : Process → (w known : ℕ) → Type 0
+Tied (atAlt gs k) w v = w ≡ v
+Tied (before s k) w v = Unit {0}
+Tied (atInput c x k) w v = Unit {0}
+Tied (atOutput c z k) w v = Unit {0}
+Tied (atStop k) w v = Unit {0}
+Tied (atWait t k) w v = Unit {0}
+Tied (toRead x k) w v = Unit {0}
+Tied (hasRead x z k) w v = Unit {0}
+Tied (inPar bs k) w v = Unit {0}
+Tied finished w v = Unit {0}
+
+module _ (S : Setting) (a : Part) (T : Times) (st : State) where
   -- the significant instructions of an ALT whose workspace is w, and the words for stored values, which are below the ALT's own
   abbrev pub AltAt : (vars chans : List Site) (q : Process) (w up : ℕ) (μ : Mem) (i : ℕ) (r : Regs) → Type 0
-  AltAt vars chans q w up μ i r = AltPoint S a st vars chans q up μ i r × (r .w ≡ w)
+  AltAt vars chans q w up μ i r = AltPoint S a T st vars chans q up μ i r × (r .w ≡ w)
 
   abbrev pub AltSpare : (vars chans : List Site) (w v : ℕ) → Type 0
   AltSpare vars chans w v = Spare S a vars chans v × (v + altWords < w)
@@ -143,14 +202,15 @@ module _ (S : Setting) (a : Part) (st : State) where
       Way (S .xs) (S .off) (S .word) (AltAt vars chans q w) ⊥ (st .store) (λ x. List·Memᴰ x vars × List·Memᴰ x (a .reads))
       (AltSpare vars chans w) (λ w. ⊥) hi μ i r
 
-  pub data AltGoes (vars chans : List Site) (q : Process) (hi : ℕ) (μ : Mem) (i : ℕ) (r : Regs) : Type 0 where
-    alt-goes : (w : ℕ) → AltWay vars chans q w hi μ i r → AltGoes vars chans q hi μ i r
+  -- `known` is the workspace that is known of the process
+  pub data AltGoes (vars chans : List Site) (q : Process) (known hi : ℕ) (μ : Mem) (i : ℕ) (r : Regs) : Type 0 where
+    alt-goes : (w : ℕ) → Tied q w known → AltWay vars chans q w hi μ i r → AltGoes vars chans q known hi μ i r
 
   -- at registers whose workspace is known
   at-w : {vars chans : List Site} {q : Process} {up : ℕ} {μ : Mem} {i w : ℕ} (r : Regs) → r .w ≡ w
-      → AltPoint S a st vars chans q up μ i (record { a = r .a; b = r .b; c = r .c; w = w }) → AltAt vars chans q w up μ i r
+      → AltPoint S a T st vars chans q up μ i (record { a = r .a; b = r .b; c = r .c; w = w }) → AltAt vars chans q w up μ i r
   at-w {vars} {chans} {q} {up} {μ} {i} r e pt =
-      (subst (λ z. AltPoint S a st vars chans q up μ i (record { a = r .a; b = r .b; c = r .c; w = z })) (sym e) pt, e)
+      (subst (λ z. AltPoint S a T st vars chans q up μ i (record { a = r .a; b = r .b; c = r .c; w = z })) (sym e) pt, e)
 
   -- memories that are the same at the words of an ALT and above
   abbrev Kept : (w : ℕ) (μ ν : Mem) → Type 0
@@ -182,6 +242,19 @@ module _ (S : Setting) (a : Part) (st : State) where
         (omega arith) (λ u l h. (spare-below S a (cont-placed S a (c .after)) (omega arith) (omega arith), h)) g p
         (λ ν r′ d. next ν r′ (d .kept) (d .value) (d .same-w))
 
+    -- through a time guard's time and condition
+    through-both : (q : Process) (t e : Expr) {hi′ j m : ℕ} {μ : Mem} {r : Regs} → FineWhole a vars (w + 1) guardRoom e
+        → FineInput a vars chans (w + 1) (timeGuard e t) → Seg (S .xs) j (bothCode (S .word) w t e) m → r .w ≡ w
+        → ((ν : Mem) (r′ : Regs) → Kept w μ ν → r′ .a ≡ eval (st .store) e → r′ .b ≡ eval (st .store) t → eval (st .store) t < 2 ^ 32
+        → r′ .w ≡ w → AltWay vars chans q w hi′ ν m r′)
+        → AltWay vars chans q w hi′ μ j r
+    through-both q t e {hi′} f h g p next =
+        let room : a .bottom + lowered (bothHold t e) altWords ≤ w = guard-room (a .bottom) w (bothHold t e) (c .fine .0) (h .3) in
+        both-path (S .xs) (S .off) (S .word) (AltAt vars chans q w) ⊥ (st .store) vars (a .reads) (AltSpare vars chans w)
+        (λ w. ⊥) hi′ (λ u s. omega (arith, s .0 .below, v .high)) (v .vars-word) (v .values) w altWords t e alt-wide (h .0) (h .1) (f .0)
+        (f .1) (omega arith) (λ u l h. (spare-below S a (cont-placed S a (c .after)) (omega arith) (omega arith), h)) g p
+        (λ ν r′ d. next ν r′ (d .kept) (d .value) (d .time) (d .time-word) (d .same-w))
+
     -- what holds while an ALT enables or disables stays
     module _ {μ ν : Mem} (same : Kept w μ ν) where
       chan-kept : (d : Site) → List·Memᴰ d chans → ν (S .word d) ≡ μ (S .word d)
@@ -190,37 +263,49 @@ module _ (S : Setting) (a : Part) (st : State) where
       state-kept : ν (stateWord w) ≡ μ (stateWord w)
       state-kept = same (stateWord w) (omega (arith, c .fine .0, alt-wide))
 
-      unready-kept : (g : Guard) → FineInput a vars chans g → Unready st (S .word) μ w g → Unready st (S .word) ν w g
+      unready-kept : (g : Guard) → FineInput a vars chans (w + 1) g → Unready st (S .word) μ w g → Unready st (S .word) ν w g
       unready-kept (inputGuard e d x) f u = λ z. (chan-kept d (f .1) ∙ u z .0, u z .1)
       unready-kept (skipGuard e) f u = u
+      unready-kept (timeGuard e t) f u = u
 
       noticed-kept : {fs hs : Guards} → FineGuards (S .word) a vars chans (w + 1) fs → Noticed st (S .word) μ w fs hs
           → Noticed st (S .word) ν w fs hs
       noticed-kept f n-none = n-none
       noticed-kept f (n-later {g} u n) = n-later (unready-kept g (f .1) u) (noticed-kept (f .3) n)
 
-      enabling-kept : {hs : Guards} → Enabling S a st vars chans gs hs μ w → Enabling S a st vars chans gs hs ν w
+      link-kept : ν (timeLinkWord w) ≡ μ (timeLinkWord w)
+      link-kept = same (timeLinkWord w) (omega (arith, c .fine .0, alt-wide))
+
+      time-kept : ν (timeWord w) ≡ μ (timeWord w)
+      time-kept = same (timeWord w) (omega (arith, c .fine .0, alt-wide))
+
+      enabling-kept : {hs : Guards} → Enabling S a T st vars chans gs hs μ w → Enabling S a T st vars chans gs hs ν w
       enabling-kept n =
           record {
             rest = n .rest;
             marks = marked-same S a st vars chans gs μ ν w chan-kept (n .marks);
             state = ⊎-elim (λ e. inl (state-kept ∙ e .0, noticed-kept (c .fine .1) (e .1))) (λ e. inr (state-kept ∙ e .0, e .1)) (n .state);
+            times = λ z. bringing-same T st link-kept time-kept (n .times z);
+            known = n .known;
           }
 
-      disabling-kept : {hs : Guards} → Disabling S a st vars chans k gs hs (c .choice) μ w
-          → Disabling S a st vars chans k gs hs (c .choice) ν w
+      disabling-kept : {hs : Guards} → Disabling S a T st vars chans k gs hs (c .choice) μ w
+          → Disabling S a T st vars chans k gs hs (c .choice) ν w
       disabling-kept {hs} d =
           let base : ν w ≡ μ w = same w (omega arith) in
           record {
             marks = marked-same S a st vars chans hs μ ν w chan-kept (d .marks);
             state = state-kept ∙ d .state;
-            chosen = ⊎-elim (λ x. let (t, p, h, z) = x in inl (t, p, h, base ∙ z)) (λ x. inr (base ∙ x .0, x .1)) (d .chosen);
+            chosen = ⊎-elim (λ x. let (t, p, h, z) = x in inl (t, p, h, base ∙ z))
+                (λ x. inr (base ∙ x .0, found-same st link-kept time-kept (x .1))) (d .chosen);
+            times = λ z. passed-same T st link-kept time-kept (d .times z);
+            known = d .known;
           }
 
     -- past a condition, to ENBC
     enable-input : (e : Expr) (d x : Site) (s : Stmt) (hs : Guards) {hi′ j m : ℕ} {μ : Mem} {r : Regs} → hi ≤ hi′
         → FineGuards (S .word) a vars chans (w + 1) (guard (inputGuard e d x) s hs)
-        → Enabling S a st vars chans gs (guard (inputGuard e d x) s hs) μ w
+        → Enabling S a T st vars chans gs (guard (inputGuard e d x) s hs) μ w
         → Seg (S .xs) j (guardCode (S .word) w e) m
         → Seg (S .xs) m (plain ldlp (local (S .word) w d) ∷ operation I.rev ∷ operation I.enbc ∷ codeEnable (S .word) w hs)
         (i + 2 + sizeEnable gs) → r .w ≡ w → AltWay vars chans (before (ALT gs) k) w hi′ μ j r
@@ -239,7 +324,7 @@ module _ (S : Setting) (a : Part) (st : State) where
     -- past a condition, to ENBS
     enable-skip : (e : Expr) (s : Stmt) (hs : Guards) {hi′ j m : ℕ} {μ : Mem} {r : Regs} → hi ≤ hi′
         → FineGuards (S .word) a vars chans (w + 1) (guard (skipGuard e) s hs)
-        → Enabling S a st vars chans gs (guard (skipGuard e) s hs) μ w
+        → Enabling S a T st vars chans gs (guard (skipGuard e) s hs) μ w
         → Seg (S .xs) j (guardCode (S .word) w e) m → Seg (S .xs) m (operation I.enbs ∷ codeEnable (S .word) w hs) (i + 2 + sizeEnable gs)
         → r .w ≡ w → AltWay vars chans (before (ALT gs) k) w hi′ μ j r
     enable-skip e s hs {hi′} {m} {μ} l f n g₁ (at p₁ g₂) q =
@@ -247,9 +332,20 @@ module _ (S : Setting) (a : Part) (st : State) where
         through-guard (before (ALT gs) k) e (f .0) g₁ q (λ ν r′ same val q′.
         arrived (at-w r′ q′ (pt-enable c l (enabling-kept same n) (e-skip p₁ val g₂))) bound)
 
-    -- the enabling of the rest of the guards leads to the next ENBC or ENBS, or to ALTWT
+    -- past time and condition, to ENBT
+    enable-time : (e t : Expr) (s : Stmt) (hs : Guards) {hi′ j m : ℕ} {μ : Mem} {r : Regs} → hi ≤ hi′
+        → FineGuards (S .word) a vars chans (w + 1) (guard (timeGuard e t) s hs)
+        → Enabling S a T st vars chans gs (guard (timeGuard e t) s hs) μ w
+        → Seg (S .xs) j (bothCode (S .word) w t e) m → Seg (S .xs) m (operation I.enbt ∷ codeEnable (S .word) w hs) (i + 2 + sizeEnable gs)
+        → r .w ≡ w → AltWay vars chans (before (ALT gs) k) w hi′ μ j r
+    enable-time e t s hs {hi′} {m} {μ} l f n g₁ (at p₁ g₂) q =
+        let bound : S .off (suc m) ≤ hi′ = alt-bound m l (omega (arith, c .choice-is, seg-length g₂)) in
+        through-both (before (ALT gs) k) t e (f .0) (f .1) g₁ q (λ ν r′ same val time small q′.
+        arrived (at-w r′ q′ (pt-enable c l (enabling-kept same n) (e-time p₁ val time small g₂))) bound)
+
+    -- the enabling of the rest of the guards leads to the next ENBC, ENBS or ENBT, or to ALTWT
     pub enable-way : (hs : Guards) {hi′ j : ℕ} {μ : Mem} {r : Regs} → hi ≤ hi′ → FineGuards (S .word) a vars chans (w + 1) hs
-        → Enabling S a st vars chans gs hs μ w → Seg (S .xs) j (codeEnable (S .word) w hs) (i + 2 + sizeEnable gs) → r .w ≡ w
+        → Enabling S a T st vars chans gs hs μ w → Seg (S .xs) j (codeEnable (S .word) w hs) (i + 2 + sizeEnable gs) → r .w ≡ w
         → AltWay vars chans (before (ALT gs) k) w hi′ μ j r
     unfolding codeEnable enableCode
     enable-way noGuard {hi′} {μ} {r} l f n nil q =
@@ -261,12 +357,15 @@ module _ (S : Setting) (a : Part) (st : State) where
     enable-way (guard (skipGuard e) s hs) l f n g q = elim (apart-first (guardCode (S .word) w e) _ _ g) [
       | split g₁ g₂ ↦ enable-skip e s hs l f n g₁ g₂ q
     ]
+    enable-way (guard (timeGuard e t) s hs) l f n g q = elim (apart-first (bothCode (S .word) w t e) _ _ g) [
+      | split g₁ g₂ ↦ enable-time e t s hs l f n g₁ g₂ q
+    ]
 
     -- past a condition, to DISC
     disable-input : (e : Expr) (d x : Site) (s : Stmt) (hs : Guards) {hi′ j b m : ℕ} {μ : Mem} {r : Regs} → hi ≤ hi′
         → FineGuards (S .word) a vars chans (w + 1) (guard (inputGuard e d x) s hs)
         → Rest gs (c .choice + 1) (guard (inputGuard e d x) s hs) b
-        → Disabling S a st vars chans k gs (guard (inputGuard e d x) s hs) (c .choice) μ w → Seg (S .xs) j (guardCode (S .word) w e) m
+        → Disabling S a T st vars chans k gs (guard (inputGuard e d x) s hs) (c .choice) μ w → Seg (S .xs) j (guardCode (S .word) w e) m
         → Seg (S .xs) m
         (plain ldlp (local (S .word) w d)
         ∷ operation I.rev
@@ -291,7 +390,7 @@ module _ (S : Setting) (a : Part) (st : State) where
     -- past a condition, to DISS
     disable-skip : (e : Expr) (s : Stmt) (hs : Guards) {hi′ j b m : ℕ} {μ : Mem} {r : Regs} → hi ≤ hi′
         → FineGuards (S .word) a vars chans (w + 1) (guard (skipGuard e) s hs) → Rest gs (c .choice + 1) (guard (skipGuard e) s hs) b
-        → Disabling S a st vars chans k gs (guard (skipGuard e) s hs) (c .choice) μ w → Seg (S .xs) j (guardCode (S .word) w e) m
+        → Disabling S a T st vars chans k gs (guard (skipGuard e) s hs) (c .choice) μ w → Seg (S .xs) j (guardCode (S .word) w e) m
         → Seg (S .xs) m
         (distance ldc b (c .choice) ∷ operation I.diss ∷ codeDisable (S .word) w (c .choice) (nextBranch b (skipGuard e) s) hs) (c .choice)
         → r .w ≡ w → AltWay vars chans (atAlt gs k) w hi′ μ j r
@@ -304,9 +403,26 @@ module _ (S : Setting) (a : Part) (st : State) where
         (arrived (at-w (pushing z r′) q′ (pt-disable c l t (disabling-kept same n) (d-skip p₂ refl val g₂)))
         bound))
 
-    -- the disabling of the rest of the guards leads to the next DISC or DISS, or to ALTEND
+    -- past time and condition, to DIST
+    disable-time : (e t : Expr) (s : Stmt) (hs : Guards) {hi′ j b m : ℕ} {μ : Mem} {r : Regs} → hi ≤ hi′
+        → FineGuards (S .word) a vars chans (w + 1) (guard (timeGuard e t) s hs) → Rest gs (c .choice + 1) (guard (timeGuard e t) s hs) b
+        → Disabling S a T st vars chans k gs (guard (timeGuard e t) s hs) (c .choice) μ w → Seg (S .xs) j (bothCode (S .word) w t e) m
+        → Seg (S .xs) m
+        (distance ldc b (c .choice) ∷ operation I.dist ∷ codeDisable (S .word) w (c .choice) (nextBranch b (timeGuard e t) s) hs)
+        (c .choice)
+        → r .w ≡ w → AltWay vars chans (atAlt gs k) w hi′ μ j r
+    unfolding functionIn operandIn
+    disable-time e t s hs {hi′} {b} {m} {μ} l f rest n g₁ (at p₁ (at p₂ g₂)) q =
+        let z = less (S .off b) (S .off (suc (c .choice))) in
+        let bound : S .off (suc (suc m)) ≤ hi′ = alt-bound (suc m) l (omega (arith, seg-length g₂)) in
+        through-both (atAlt gs k) t e (f .0) (f .1) g₁ q (λ ν r′ same val time small q′.
+        quiet (pushing z) p₁ (quiet-ldc z)
+        (arrived (at-w (pushing z r′) q′ (pt-disable c l rest (disabling-kept same n) (d-time p₂ refl val time g₂)))
+        bound))
+
+    -- the disabling of the rest of the guards leads to the next DISC, DISS or DIST, or to ALTEND
     pub disable-way : (hs : Guards) {hi′ j b : ℕ} {μ : Mem} {r : Regs} → hi ≤ hi′ → FineGuards (S .word) a vars chans (w + 1) hs
-        → Rest gs (c .choice + 1) hs b → Disabling S a st vars chans k gs hs (c .choice) μ w
+        → Rest gs (c .choice + 1) hs b → Disabling S a T st vars chans k gs hs (c .choice) μ w
         → Seg (S .xs) j (codeDisable (S .word) w (c .choice) b hs) (c .choice) → r .w ≡ w
         → AltWay vars chans (atAlt gs k) w hi′ μ j r
     unfolding codeDisable disableCode
@@ -318,21 +434,24 @@ module _ (S : Setting) (a : Part) (st : State) where
     disable-way (guard (skipGuard e) s hs) l f t n g q = elim (apart-first (guardCode (S .word) w e) _ _ g) [
       | split g₁ g₂ ↦ disable-skip e s hs l f t n g₁ g₂ q
     ]
+    disable-way (guard (timeGuard e u) s hs) l f t n g q = elim (apart-first (bothCode (S .word) w u e) _ _ g) [
+      | split g₁ g₂ ↦ disable-time e u s hs l f t n g₁ g₂ q
+    ]
 
     -- from behind ALT, and from behind ALTWT
-    pub enable-first : {hi′ : ℕ} {μ : Mem} {r : Regs} → hi ≤ hi′ → Enabling S a st vars chans gs gs μ w → r .w ≡ w
-        → AltGoes vars chans (before (ALT gs) k) hi′ μ (i + 2) r
+    pub enable-first : {known hi′ : ℕ} {μ : Mem} {r : Regs} → hi ≤ hi′ → Enabling S a T st vars chans gs gs μ w → r .w ≡ w
+        → AltGoes vars chans (before (ALT gs) k) known hi′ μ (i + 2) r
     enable-first l n q =
         let e : w + 1 - 1 ≡ w = omega arith in
-        alt-goes w
+        alt-goes w tt
         (enable-way gs l (c .fine .1) n
         (subst (λ z. Seg (S .xs) (i + 2) (codeEnable (S .word) z gs) (i + 2 + sizeEnable gs)) e (c .enables)) q)
 
-    pub disable-first : {hi′ : ℕ} {μ : Mem} {r : Regs} → hi ≤ hi′ → Disabling S a st vars chans k gs gs (c .choice) μ w → r .w ≡ w
-        → AltGoes vars chans (atAlt gs k) hi′ μ (i + 2 + sizeEnable gs + 1) r
+    pub disable-first : {hi′ : ℕ} {μ : Mem} {r : Regs} → hi ≤ hi′ → Disabling S a T st vars chans k gs gs (c .choice) μ w → r .w ≡ w
+        → AltGoes vars chans (atAlt gs k) w hi′ μ (i + 2 + sizeEnable gs + 1) r
     disable-first l n q =
         let e : w + 1 - 1 ≡ w = omega arith in
-        alt-goes w
+        alt-goes w refl
         (disable-way gs l (c .fine .1) rest-all n
         (subst (λ z. Seg (S .xs) (i + 2 + sizeEnable gs + 1) (codeDisable (S .word) z (c .choice) (c .choice + 1) gs) (c .choice)) e
         (c .disables)) q)
@@ -369,11 +488,13 @@ module _ (S : Setting) (a : Part) (st : State) where
     unfolding guardInput inputSize code codeAll size
     branch-code (inputGuard e d x) s t = rw (append-nil (code (S .word) (w + 1) (t + 4) s)) refl
     branch-code (skipGuard e) s t = ap (λ n. code (S .word) (w + 1) n s) (add-zero t)
+    branch-code (timeGuard e u) s t = ap (λ n. code (S .word) (w + 1) n s) (add-zero t)
 
-    branch-fine : (g : Guard) (s : Stmt) → FineInput a vars chans g → Fine (S .word) a vars chans (w + 1) s
+    branch-fine : (g : Guard) (s : Stmt) → FineInput a vars chans (w + 1) g → Fine (S .word) a vars chans (w + 1) s
         → Fine (S .word) a vars chans (w + 1) (branchOf g s)
     branch-fine (inputGuard e d x) s f h = ((omega (arith, c .fine .0), f .0, f .1, f .2), (h, tt))
     branch-fine (skipGuard e) s f h = h
+    branch-fine (timeGuard e u) s f h = h
 
     -- a branch: AJW 1, its code, J over, and what is behind it
     branch-parts : (g : Guard) (s : Stmt) (zs : List Instruction) {t : ℕ}
@@ -396,7 +517,7 @@ module _ (S : Setting) (a : Part) (st : State) where
         let e : t + 1 ≡ suc t = omega arith in
         (y, subst (λ l. Seg (S .xs) (suc t) l leave) (branch-code g s (t + 1) ∙ ap (λ n. code (S .word) (w + 1) n (branchOf g s)) e) g₁, g₂)
 
-    picked : {hs : Guards} {b t : ℕ} {p : Process} → Picks st k hs b t p
+    picked : {hs : Guards} {b t : ℕ} {p : Process} → Picks T st k hs b t p
         → Seg (S .xs) b (codeBranches (S .word) (w + 1) b (c .over) hs) (c .over)
         → c .choice ≤ b → FineGuards (S .word) a vars chans (w + 1) hs → Led p t
     unfolding codeBranches
@@ -422,7 +543,7 @@ module _ (S : Setting) (a : Part) (st : State) where
         picked p (subst (λ n. Seg (S .xs) n zs (c .over)) e (seg-tail z)) (omega arith) (f .3)
 
     -- the picked branch's code leads its process on
-    pub branch-comes : {t : ℕ} {p : Process} → Picks st k gs (c .choice + 1) t p → Led p t
+    pub branch-comes : {t : ℕ} {p : Process} → Picks T st k gs (c .choice + 1) t p → Led p t
     branch-comes h = picked h (c .branches) (omega arith) (c .fine .1)
 
 module _ (S : Setting) (a : Part) (σ : Store) where

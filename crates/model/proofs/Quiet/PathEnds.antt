@@ -12,8 +12,10 @@ use Rattle.model.proofs.Quiet.CodeParts.{inside, up}
 use Rattle.model.proofs.Words.Parts.{Part}
 use Rattle.model.proofs.Quiet.Onwards.{AltAt, AltGoes, alt-goes}
 use Rattle.model.proofs.Quiet.Marks.{Enables, e-input, e-skip, Disables, d-input, d-skip, AltPoint, pt-enable, pt-wait, pt-disable}
-use Rattle.model.proofs.Quiet.Marks.{pt-choose, Point, pt-stop, pt-assign, pt-var, pt-chan, pt-taken, pt-none, pt-while, pt-in}
-use Rattle.model.proofs.Quiet.Marks.{pt-out, pt-par-place, pt-par-count, pt-end, pt-alt, StartPoint, pt-read, pt-store, pt-wait-for}
+use Rattle.model.proofs.Quiet.Marks.{e-time, d-time, pt-choose, Point, pt-stop, pt-assign, pt-var, pt-chan, pt-taken, pt-none}
+use Rattle.model.proofs.Quiet.Marks.{pt-while, pt-in, pt-out, pt-par-place, pt-par-count, pt-end, pt-alt, StartPoint, pt-read}
+use Rattle.model.proofs.Quiet.Marks.{pt-store, pt-wait-for}
+use Rattle.model.proofs.Quiet.Timing.{Times}
 
 -- a process that begins a statement, is at an ALT, or has finished
 pub data Moving : Process → Type 0 where
@@ -95,40 +97,42 @@ module _ (S : Setting) where
         → i < length (S .xs)
     enables-in (e-input x v c g) = inside S x
     enables-in (e-skip x v g) = inside S x
+    enables-in (e-time x v u z g) = inside S x
 
     disables-in : {st : State} {vars chans : List Site} {gs : Guards} {c b i j : ℕ} {r : Regs} → Disables S a st vars chans gs c b i r j
         → i < length (S .xs)
     disables-in (d-input x u v c g) = inside S x
     disables-in (d-skip x u v g) = inside S x
+    disables-in (d-time x u v t g) = inside S x
 
-    alt-point-in : {st : State} {vars chans : List Site} {q : Process} {h : ℕ} {μ : Mem} {i : ℕ} {r : Regs}
-        → AltPoint S a st vars chans q h μ i r → i < length (S .xs)
+    alt-point-in : {T : Times} {st : State} {vars chans : List Site} {q : Process} {h : ℕ} {μ : Mem} {i : ℕ} {r : Regs}
+        → AltPoint S a T st vars chans q h μ i r → i < length (S .xs)
     alt-point-in (pt-enable c l n e) = enables-in e
     alt-point-in (pt-wait c n) = inside S (c .waits)
     alt-point-in (pt-disable c l t n d) = disables-in d
     alt-point-in (pt-choose c n) = inside S (c .ends)
 
-    alt-in : {st : State} {vars chans : List Site} {q : Process} {w : ℕ} (h : ℕ) (μ : Mem) (i : ℕ) (r : Regs)
-        → AltAt S a st vars chans q w h μ i r → i < length (S .xs)
+    alt-in : {T : Times} {st : State} {vars chans : List Site} {q : Process} {w : ℕ} (h : ℕ) (μ : Mem) (i : ℕ) (r : Regs)
+        → AltAt S a T st vars chans q w h μ i r → i < length (S .xs)
     alt-in h μ i r p = alt-point-in (p .0)
 
     -- the same for a path inside an ALT
-    module _ {st : State} {vars chans : List Site} {q : Process} {hi : ℕ} {μ : Mem} {i : ℕ} {r : Regs} where
-      pub alt-bound : AltGoes S a st vars chans q hi μ i r → S .off i ≤ hi
-      alt-bound (alt-goes w way) = way-bound alt-in way
+    module _ {T : Times} {st : State} {vars chans : List Site} {q : Process} {known hi : ℕ} {μ : Mem} {i : ℕ} {r : Regs} where
+      pub alt-bound : AltGoes S a T st vars chans q known hi μ i r → S .off i ≤ hi
+      alt-bound (alt-goes w tied way) = way-bound alt-in way
 
-      pub alt-far : i < length (S .xs) → AltGoes S a st vars chans q hi μ i r → S .off (suc i) ≤ hi
-      alt-far z (alt-goes w way) = way-far alt-in z way
+      pub alt-far : i < length (S .xs) → AltGoes S a T st vars chans q known hi μ i r → S .off (suc i) ≤ hi
+      alt-far z (alt-goes w tied way) = way-far alt-in z way
 
-      pub alt-end : i ≡ length (S .xs) → AltGoes S a st vars chans q hi μ i r → ⊥
-      alt-end z (alt-goes w way) = way-end alt-in z way
+      pub alt-end : i ≡ length (S .xs) → AltGoes S a T st vars chans q known hi μ i r → ⊥
+      alt-end z (alt-goes w tied way) = way-end alt-in z way
 
-      pub alt-kind : (K : Type 0) → ((h : ℕ) (μ : Mem) (i : ℕ) (r : Regs) → AltPoint S a st vars chans q h μ i r → K)
-          → AltGoes S a st vars chans q hi μ i r → K
-      alt-kind K f (alt-goes w way) = way-kind alt-in K (λ h μ i r p. f h μ i r (p .0)) (λ z. absurd z) way
+      pub alt-kind : (K : Type 0) → ((h : ℕ) (μ : Mem) (i : ℕ) (r : Regs) → AltPoint S a T st vars chans q h μ i r → K)
+          → AltGoes S a T st vars chans q known hi μ i r → K
+      alt-kind K f (alt-goes w tied way) = way-kind alt-in K (λ h μ i r p. f h μ i r (p .0)) (λ z. absurd z) way
 
-    pub alt-moving : {st : State} {vars chans : List Site} {q : Process} (h : ℕ) (μ : Mem) (i : ℕ) (r : Regs)
-        → AltPoint S a st vars chans q h μ i r → Moving q
+    pub alt-moving : {T : Times} {st : State} {vars chans : List Site} {q : Process} (h : ℕ) (μ : Mem) (i : ℕ) (r : Regs)
+        → AltPoint S a T st vars chans q h μ i r → Moving q
     alt-moving h μ i r (pt-enable c l n e) = begins
     alt-moving h μ i r (pt-wait c n) = begins
     alt-moving h μ i r (pt-disable c l t n d) = alters

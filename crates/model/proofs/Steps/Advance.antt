@@ -10,16 +10,17 @@ use mathlib.Core.Bool.{false}
 use Rattle.model.specs.Machine.{World, done, release}
 use Rattle.model.specs.Occam.{Frame, Process, atOutput, framesOf, put, State, Step}
 use Rattle.model.specs.Demand.{liveIn, talkOf}
+use Rattle.model.proofs.Cases.{never}
 use Rattle.model.proofs.Quiet.Ways.{Mem}
 use Rattle.model.proofs.Quiet.Setting.{whole}
-use Rattle.model.proofs.Occam.Paths.{Leaf, Awake}
+use Rattle.model.proofs.Occam.Paths.{Leaf, Awake, isAlt}
 use Rattle.model.proofs.Words.Parts.{Part, Within}
 use Rattle.model.proofs.Quiet.Continuations.{Placed}
 use Rattle.model.proofs.Quiet.Arrivals.{Comes}
 use Rattle.model.proofs.Invariant.Trees.{Info, Sits, Tree}
 use Rattle.model.proofs.Invariant.Leaves.{Unmarked, Held}
 use Rattle.model.proofs.Effects.OneWord.{cpuOf}
-use Rattle.model.proofs.Invariant.Kernel.{Loaded, S, root, setup, LeafAt, Owned, Rest, Lined, Real}
+use Rattle.model.proofs.Invariant.Kernel.{Loaded, S, root, setup, LeafAt, Owned, Rest, Lined, Real, Unlinked}
 use Rattle.model.proofs.Invariant.Puts.{putting, treeThen, here-then, lined-then, rest-then}
 use Rattle.model.proofs.Invariant.Running.{Only, Nobody, Did}
 use Rattle.model.proofs.Invariant.Reals.{real-state}
@@ -33,12 +34,13 @@ Silent q = (c : Site) (v : ℕ) (k : List Frame) → q ≡ atOutput c v k → �
 
 module _ (L : Loaded) {u : World} {st : State} {ν : Mem} {t : Tree (S L) (root L) (st .process)} {path : List ℕ} {q : Process} {b : Part}
     {i : Info} {ws : List ℕ} (real : Real L u st ν ws) (leaf : LeafAt L st t path q b i) (rest : Rest L st ν t (Only path) ws)
-    (lines : Lined L st t (Only path) ws) (clean : Unmarked (S L) b i st ν) (no-sender : Silent q) where
+    (lines : Lined L st t (Only path) ws) (clean : Unmarked (S L) b i st ν) (no-sender : Silent q)
+    (gone : Unlinked L q ν (i .w)) where
   -- it goes on as p, with these names in scope
   module _ (p : Process) (l : Leaf p) (j : Info) (placed : Placed (S L) b (j .w) (j .vars) (j .chans)) (few : j .left ≤ whole (S L))
       (vars-ok : (x : Site) → List·Memᴰ x (j .vars) → (st .store x ≡ ν (S L .word x)) × (st .store x < 2 ^ 32))
       (chans-ok : (c : Site) → List·Memᴰ c (j .chans) → (ν (S L .word c) ≡ notProcess) ⊎ Owned L st t c (ν (S L .word c)))
-      (live-ok : Within (liveIn (framesOf p)) (j .vars)) (silent : Silent p) where
+      (live-ok : Within (liveIn (framesOf p)) (j .vars)) (silent : Silent p) (off : isAlt p ≡ false) where
     pub sits : Sits (S L) b j
     sits = record { placed = placed; few = few }
 
@@ -46,6 +48,7 @@ module _ (L : Loaded) {u : World} {st : State} {ν : Mem} {t : Tree (S L) (root 
     goes-as =
         rest-then L leaf p l j sits rest refl vars-ok chans-ok live-ok (λ c m o. absurd (clean c m o))
         (λ c v k e other r d z y n m. no-sender c v k e) (λ c v k e other r d z y n m h o. silent c v k e)
+        gone (λ e. never (cc (e, off)))
 
     -- by a step, to where its code leads it
     pub advances : {did : World → Type 0} {s : World} {st₀ : State} {nx hi n₀ : ℕ}
@@ -63,7 +66,7 @@ module _ (L : Loaded) {u : World} {st : State} {ν : Mem} {t : Tree (S L) (root 
     (p : Process) (l : Leaf p) (j : Info) (sits : Sits (S L) b j)
     (rest : Rest L (putting path p st) ν (treeThen L leaf p l j sits) (Only path) ws) where
   pub leaves-as : {did : World → Type 0} {s : World} {st₀ : State} {n₀ : ℕ} → Awake p
-      → Held (S L) (L .sleeps) b j (putting path p st) ν false p → cpuOf u .operand ≡ 0 → Step st₀ [] (putting path p st)
+      → Held (S L) (L .times) b j (putting path p st) ν false p → cpuOf u .operand ≡ 0 → Step st₀ [] (putting path p st)
       → ((v : World) → release u ≡ done tt v → v .machine .setup ≡ setup L → did v) → u .talk ≡ s .talk ++ map (talkOf (L .prog)) []
       → Did L did s st₀ n₀
   leaves-as awake held operand one ran talk =
@@ -72,6 +75,6 @@ module _ (L : Loaded) {u : World} {st : State} {ν : Mem} {t : Tree (S L) (root 
       let unheld = unqueued L {Out = Only path} here refl lined in
       step-lets-go L one ran talk
       (lets-go L operand (real-state L (put path p (st .process)) (st .store) real)
-      (rest-in L {Out′ = Nobody} here (subst (λ f. Held (S L) (L .sleeps) b j (putting path p st) ν f p) (sym unheld) held)
+      (rest-in L {Out′ = Nobody} here (subst (λ f. Held (S L) (L .times) b j (putting path p st) ν f p) (sym unheld) held)
       (λ other d e. absurd (d e)) (λ other o. absurd o) awake rest)
       (lined-in L (λ other o. absurd o) lined))

@@ -3,7 +3,7 @@ use Prim.Native.Nat.{ℕ, suc, _+_, _^_, _≤_, _<_}
 use native.Mathlib.Omega.{arith}
 use mathlib.Core.Path.{_≡_, refl, sym, ap, _∙_, subst}
 use mathlib.Core.Logic.{_≢_}
-use mathlib.Core.Bool.{true}
+use mathlib.Core.Bool.{true, false}
 use mathlib.Core.List.{List, _∷_, List·Memᴰ, []}
 use lib.ListN.{length}
 use lib.Dec.{eqb}
@@ -24,6 +24,7 @@ use Rattle.model.proofs.Quiet.Stretches.{Seg, seg-length}
 use Rattle.model.proofs.Quiet.Setting.{whole}
 use Rattle.model.proofs.Quiet.CodeParts.{inside, rises-le}
 use Rattle.model.proofs.Occam.Paths.{Leaf, l-stop, leaf-resume, leaf-begin, live-resume, live-begin, silent-resume, silent-begin}
+use Rattle.model.proofs.Occam.Paths.{isAlt, off-resume, off-begin}
 use Rattle.model.proofs.Words.Parts.{Part, Fine, Target, Within}
 use Rattle.model.proofs.Quiet.Continuations.{Placed, Cont, cont-inside, cont-placed}
 use Rattle.model.proofs.Quiet.Marks.{Own}
@@ -84,16 +85,16 @@ module _ (L : Loaded) where
         clean d m (subst (Own b) (upd-other μ (S L .word y) z (S L .word d)
         (λ w. cont-placed (S L) b c .scoped .apart y d (target .0) m (sym w))) q)
 
-    pub did-store : Silent q → Within (liveIn k) (i .vars) → Step st [] (putting path (resume k) st₀)
+    pub did-store : Silent q → isAlt q ≡ false → Within (liveIn k) (i .vars) → Step st [] (putting path (resume k) st₀)
         → Did L (Executes L (plain I.stl o) s) s st (bytesLeft (S L) t)
-    did-store quiet live one =
+    did-store quiet off live one =
         let leaf₀ : LeafAt L st₀ t path q b i = after-leaf L (A .leaf) in
         let p = cont-placed (S L) b c in
         let near-on : h ≤ whole (S L) + L .off (suc at) = omega (arith, S L .rises at (suc at) (omega arith) (A .inside)) in
-        advances L real₀ leaf₀ rest₀ (after-lined L (A .lined)) clean₀ quiet (resume k) (leaf-resume k)
+        advances L real₀ leaf₀ rest₀ (after-lined L (A .lined)) clean₀ quiet (λ e. never (cc (e, off))) (resume k) (leaf-resume k)
         (record { vars = i .vars; chans = i .chans; w = cpuOf s .workspace; left = whole (S L) }) p (omega arith)
         (rest₀ .vars (node L leaf₀)) (rest₀ .chans (node L leaf₀)) (live-resume k (i .vars) live)
-        (λ c v f e. silent-resume k e) one assigned (silent L s u refl)
+        (λ c v f e. silent-resume k e) (off-resume k) one assigned (silent L s u refl)
         (record { run = A .run; operand = A .operand; place = A .placed; work = refl; inside = A .inside })
         (arrives (S L) b (st₀ .store) c near-on (sound-at L rest₀ leaf₀)) clean₀ near-on
 
@@ -105,41 +106,41 @@ module _ (L : Loaded) where
     steps-on : {x : Instruction} {nx h : ℕ} (u : World) (p : Process) → Executes L x s u → u .talk ≡ s .talk → Real L u st μ ws
         → cpuOf u .running ≡ true → cpuOf u .operand ≡ 0 → cpuOf u .place ≡ L .off nx → cpuOf u .workspace ≡ cpuOf s .workspace
         → nx ≤ length (S L .xs) → go d k (st .store) ≡ moved p (st .store) → Leaf p
-        → ((x : Site) → List·Memᴰ x (liveIn (framesOf p)) → List·Memᴰ x (i .vars)) → Silent p
+        → ((x : Site) → List·Memᴰ x (liveIn (framesOf p)) → List·Memᴰ x (i .vars)) → Silent p → isAlt p ≡ false
         → Comes (S L) b (st .store) (i .vars) (i .chans) h p nx (cpuOf s .workspace)
         → Placed (S L) b (cpuOf s .workspace) (i .vars) (i .chans) → h ≤ whole (S L) + L .off nx
         → Did L (Executes L x s) s st (bytesLeft (S L) t)
-    steps-on u p ran talk real run operand place work inner e l live quiet c placed near =
-        advances L real (A .leaf) (A .rest) (A .lined) clean (before-silent d k) p l
+    steps-on u p ran talk real run operand place work inner e l live quiet off c placed near =
+        advances L real (A .leaf) (A .rest) (A .lined) clean (before-silent d k) (λ e. never (cc)) p l
         (record { vars = i .vars; chans = i .chans; w = cpuOf s .workspace; left = whole (S L) }) placed (omega arith)
-        (A .rest .vars (node L (A .leaf))) (A .rest .chans (node L (A .leaf))) live quiet (begins-as path (A .leaf .found) e) ran
+        (A .rest .vars (node L (A .leaf))) (A .rest .chans (node L (A .leaf))) live quiet off (begins-as path (A .leaf .found) e) ran
         (silent L s u talk)
         (record { run = run; operand = operand; place = place; work = work; inside = inner }) c clean near
 
     -- CJ with a true condition: on to what stands behind it
     goes-on : {g h : ℕ} {p : Process} → cpuOf s .a ≢ 0 → go d k (st .store) ≡ moved p (st .store) → Leaf p
-        → ((x : Site) → List·Memᴰ x (liveIn (framesOf p)) → List·Memᴰ x (i .vars)) → Silent p
+        → ((x : Site) → List·Memᴰ x (liveIn (framesOf p)) → List·Memᴰ x (i .vars)) → Silent p → isAlt p ≡ false
         → Comes (S L) b (st .store) (i .vars) (i .chans) h p (suc at) (cpuOf s .workspace)
         → Placed (S L) b (cpuOf s .workspace) (i .vars) (i .chans) → h ≤ whole (S L) + L .off (suc at)
         → Did L (Executes L (distance I.cj g at) s) s st (bytesLeft (S L) t)
     unfolding functionIn operandIn
-    goes-on v e l live quiet c placed near =
+    goes-on v e l live quiet off c placed near =
         let r = pop (cpuOf s) in
         steps-on (withCpu r s) _ (executes (exec-cj-goes-on _ s v)) refl (real-cpu L r refl refl refl (A .real))
         (A .run) (A .operand) (A .placed)
-        refl (A .inside) e l live quiet c placed near
+        refl (A .inside) e l live quiet off c placed near
 
     -- CJ with a false condition: a jump
     goes-to : {g h : ℕ} {p : Process} → g ≤ length (S L .xs) → cpuOf s .a ≡ 0 → go d k (st .store) ≡ moved p (st .store) → Leaf p
-        → ((x : Site) → List·Memᴰ x (liveIn (framesOf p)) → List·Memᴰ x (i .vars)) → Silent p
+        → ((x : Site) → List·Memᴰ x (liveIn (framesOf p)) → List·Memᴰ x (i .vars)) → Silent p → isAlt p ≡ false
         → Comes (S L) b (st .store) (i .vars) (i .chans) h p g (cpuOf s .workspace)
         → Placed (S L) b (cpuOf s .workspace) (i .vars) (i .chans) → h ≤ whole (S L) + L .off g
         → Did L (Executes L (distance I.cj g at) s) s st (bytesLeft (S L) t)
     unfolding functionIn operandIn
-    goes-to {g} inner v e l live quiet c placed near =
+    goes-to {g} inner v e l live quiet off c placed near =
         let r = goto (low (cpuOf s .place + less (L .off g) (L .off (suc at)))) (cpuOf s) in
         steps-on (withCpu r s) _ (executes (exec-cj-jumps _ s v)) refl (real-cpu L r refl refl refl (A .real)) (A .run) (A .operand)
-        (target L A g inner) refl inner e l live quiet c placed near
+        (target L A g inner) refl inner e l live quiet off c placed near
 
     live-here : (x : Site) → List·Memᴰ x (liveIn k) → List·Memᴰ x (i .vars)
     live-here = A .rest .live (A .leaf)
@@ -159,7 +160,7 @@ module _ (L : Loaded) where
         let near-end : h ≤ whole (S L) + L .off m =
         omega (arith, rises-le (S L) (suc at) m (omega (arith, seg-length g)) (cont-inside (S L) b c)) in
         goes-on A clean v (ap (λ p. moved p (st .store)) e) (leaf-begin d k) (live-begin d k (i .vars) (live-here A clean))
-        (λ c v f e. silent-begin d k e)
+        (λ c v f e. silent-begin d k e) (off-begin d k)
         (enters (S L) b (st .store) d g f c near-on sound (arrives (S L) b (st .store) c near-end sound)) (cont-placed (S L) b c) near-on
 
     -- a WHILE's test
@@ -179,9 +180,10 @@ module _ (L : Loaded) where
         omega (arith, rises-le (S L) (suc at) m (omega (arith, seg-length seg)) (cont-inside (S L) b c′)) in
         by-bool (eqb (eval (st .store) e) 0)
         (λ z. goes-to A clean inner (v ∙ eqb-true _ _ z) (rw z) (leaf-resume k) (live-resume k (i .vars) (live-here A clean))
-        (λ c v f e. silent-resume k e) (arrives (S L) b (st .store) c near-on sound) (cont-placed (S L) b c) near-on)
+        (λ c v f e. silent-resume k e) (off-resume k) (arrives (S L) b (st .store) c near-on sound) (cont-placed (S L) b c) near-on)
         (λ z. goes-on A clean (λ q. eqb-false _ _ z (sym v ∙ q)) (rw z) (leaf-begin d (inWhile e d ∷ k))
         (live-begin d (inWhile e d ∷ k) (i .vars) (live-here A clean)) (λ c v f y. silent-begin d (inWhile e d ∷ k) y)
+        (off-begin d (inWhile e d ∷ k))
         (enters (S L) b (st .store) d seg f c′ near′ sound (arrives (S L) b (st .store) c′ near-end sound)) (cont-placed (S L) b c′) near′)
 
   -- STOPP: coming to a wait for ever
@@ -211,7 +213,7 @@ module _ (L : Loaded) where
     stop-rest =
         write-own L (A .leaf) (A .rest) v (cpuOf s .place) v-low v-high
         (λ x m e. absurd (omega (arith, placed .scoped .vars-above x m, below, e)))
-        (λ x m e. absurd (omega (arith, placed .scoped .chans-above x m, below, e))) (left-out refl)
+        (λ x m e. absurd (omega (arith, placed .scoped .chans-above x m, below, e))) (left-out refl (λ e. never (cc)))
 
     stop-clean : Unmarked (S L) b i st stopped
     stop-clean c m o =
@@ -228,7 +230,7 @@ module _ (L : Loaded) where
         leaves-as L real (A .leaf) (A .lined) (atStop k) l-stop j sits
         (rest-then L (A .leaf) (atStop k) l-stop j sits stop-rest refl (stop-rest .vars (node L (A .leaf)))
         (stop-rest .chans (node L (A .leaf))) (A .rest .live (A .leaf)) (λ c m o. m) (λ c v f e other r d z y n m. never (cc))
-        (λ c v f e other r d z y n m g o. never (cc)))
+        (λ c v f e other r d z y n m g o. never (cc)) (λ e. never (cc)) (λ e. never (cc)))
         (λ t f e. never (cc)) (h-stop stop-clean) (A .operand) (begins-as path (A .leaf .found) stops)
         (λ x f g. executes (exec-stopp-general (cpuOf s .workspace) (cpuOf s .place) s refl refl
         (rw (size-is L (A .real)) (omega (arith, v-high, high))) ∙ f))

@@ -16,11 +16,12 @@ use Rattle.model.specs.Demand.{liveIn}
 use Rattle.model.proofs.Cases.{never}
 use Rattle.model.proofs.Quiet.Ways.{upd-same, upd-other, upd, Mem, frontWord}
 use Rattle.model.proofs.Quiet.Setting.{Setting}
+use Rattle.model.proofs.Quiet.Timing.{onto-same}
 use Rattle.model.proofs.Occam.Paths.{l-output, leaf-par, leaf-resume, leaf-below, leaf-found, look-append, look-prefix, prefixed}
 use Rattle.model.proofs.Occam.Paths.{look-under, under, par-whole, look-put-same, look-put-other, look-after, into, aside}
 use Rattle.model.proofs.Occam.Paths.{look-end-same, look-end-other, Compared, equal, below, above, apart, compare, Apart, here}
 use Rattle.model.proofs.Occam.Paths.{apart-append, apart-under, apart-differ, left, only-left, same-path, same-par, par-above}
-use Rattle.model.proofs.Occam.Paths.{live-resume, silent-resume, stmtAt}
+use Rattle.model.proofs.Occam.Paths.{live-resume, silent-resume, stmtAt, isAlt, off-resume}
 use Rattle.model.proofs.Words.Parts.{sum-first, Part, joins}
 use Rattle.model.proofs.Quiet.Marks.{Own, ParCode}
 use Rattle.model.proofs.Quiet.Arrivals.{cont-live}
@@ -29,10 +30,10 @@ use Rattle.model.proofs.Invariant.Trees.{t-leaf, t-par, Forest, labelAt
 use Rattle.model.proofs.Invariant.Trees.{labelled, owner-of, owner, par-part, rebuild, Rebuilt, EndedAt, ended-at}
 use Rattle.model.proofs.Invariant.Zones.{zoneOf, zone-under}
 use Rattle.model.proofs.Invariant.Leaves.{Unmarked}
-use Rattle.model.proofs.Invariant.Stays.{Intact, held-stays}
+use Rattle.model.proofs.Invariant.Stays.{Intact, held-stays, time-words-same}
 use Rattle.model.proofs.Invariant.Kernel.{Loaded, S, root, LeafAt, NodeAt, Owned, owned, Rest, whose, Lined, node, part-small}
-use Rattle.model.proofs.Invariant.Kernel.{sits-at}
-use Rattle.model.proofs.Invariant.Writes.{own-one, apart-zones, sleepers-by, time-same}
+use Rattle.model.proofs.Invariant.Kernel.{sits-at, Dozer, at-wait, in-alt, dozer-out}
+use Rattle.model.proofs.Invariant.Writes.{own-one, apart-zones, sleepers-by}
 use Rattle.model.proofs.Invariant.Puts.{putting}
 use Rattle.model.proofs.Invariant.Running.{Only, Nobody}
 use Rattle.model.proofs.Invariant.Moving.{same-leaf}
@@ -125,6 +126,11 @@ module _ (L : Loaded) {st : State} {t : Tree (S L) (root L) (st .process)} {path
   branch-alone {other} (l ∷ rest) h e =
       let below-path : other ≡ path ++ l ∷ rest = e ∙ sym (append-assoc ρ (n ∷ []) (l ∷ rest)) ∙ ap (λ z. z ++ l ∷ rest) (sym is) in
       never (cc (leaf-below path l rest (st .process) (at .found) (at .leaf), ap (λ z. look z (st .process)) below-path, h .found))
+
+  -- one that may be in the timer queue is another
+  dozer-off : {other : List ℕ} {q : Process} {d : Part} {j : Info} → LeafAt L st t other q d j → Dozer L (Only path) other q → path ≢ other
+  dozer-off h (at-wait z) e = z e
+  dozer-off h (in-alt z) e = never (cc (some-same (sym (at .found) ∙ ap (λ y. look y (st .process)) e ∙ h .found)))
 
   -- the last branch: the PAR goes on
   module _ (one : left bs ≡ 1) (few : ℕ) (sits : Sits (S L) a (record { vars = vars; chans = chans; w = w; left = few })) where
@@ -265,12 +271,21 @@ module _ (L : Loaded) {st : State} {t : Tree (S L) (root L) (st .process)} {path
             live = last-live;
             leaf = λ h out. ⊎-elim (λ e. absurd (out e))
                 (λ y. held-stays (S L) _ _ (omega (arith, part-small L (y .1), S L .top-small)) (sits-at L (y .1)) (last-intact (y .1))
-                (λ t s. s) (rest .leaf (y .1) (λ e. beside n (y .0) (sym e ∙ is)))) (last-back h);
+                (onto-same refl) (rest .leaf (y .1) (λ e. beside n (y .0) (sym e ∙ is)))) (last-back h);
             par = last-par;
-            sleepers = sleepers-by L (rest .sleepers) refl refl (λ v z. (refl, refl))
-                (λ other tm f d j h y. (last-on y h, λ x. leaf-off h x))
-                (λ other tm f d j h y. ⊎-elim (λ e. absurd (y e)) (λ z. (z .1, λ e. beside n (z .0) (sym e ∙ is))) (last-back h));
+            sleepers = sleepers-by L (rest .sleepers) refl refl (λ other q d j h space z. (refl, refl))
+                (λ other q d j h z. (last-on (dozer-off h z) h, dozer-out L (λ tm f e y x. leaf-off h x) z))
+                (λ other q d j h z. ⊎-elim (λ e. absurd (not-last e h z))
+                (λ y. (y .1, dozer-out L (λ tm f e o x. beside n (y .0) (sym x ∙ is)) z)) (last-back h));
           }
+        where
+          -- the one that goes on is not in the timer queue
+          not-last : {other : List ℕ} {q : Process} {d : Part} {j : Info} → ρ ≡ other → LeafAt L lastState lastTree other q d j
+              → Dozer L (Only ρ) other q → ⊥
+          not-last e h (at-wait z) = z e
+          not-last e h (in-alt z) =
+              let it = some-same (sym (last-leaf .found) ∙ ap (λ y. look y (lastState .process)) e ∙ h .found) in
+              never (cc (z, ap isAlt it, off-resume k))
 
       pub last-lined : Lined L st t (Only path) ws → Lined L lastState lastTree (Only ρ) ws
       last-lined lines =
@@ -498,14 +513,16 @@ module _ (L : Loaded) {st : State} {t : Tree (S L) (root L) (st .process)} {path
             live = λ h x z. rest .live (more-back h .1) x z;
             leaf = λ h out.
                 let (d, y) = more-back h in
-                held-stays (S L) _ _ (omega (arith, part-small L y, S L .top-small)) (sits-at L y) (more-intact y) (λ t s. s)
+                held-stays (S L) _ _ (omega (arith, part-small L y, S L .top-small)) (sits-at L y) (more-intact y) (onto-same refl)
                 (rest .leaf y d);
             par = more-par;
             sleepers = sleepers-by L (rest .sleepers) refl
                 (upd-other μ (w + 1) (left (endBranch n bs)) frontWord
                 (λ e. absurd (omega (arith, zone-under (S L) t ρ (par-node .label) .below, S L .top-small))))
-                (time-same L ν rest (λ other q d j h y. more-intact h .own)) (λ other tm f d j h y. (more-on y h, λ x. x))
-                (λ other tm f d j h y. let (d, z) = more-back h in (z, d));
+                (λ other q d j h space z.
+                time-words-same (S L) d j (omega (arith, part-small L h, S L .top-small)) (sits-at L h) (more-intact h) space)
+                (λ other q d j h z. (more-on (dozer-off h z) h, dozer-out L (λ tm f e y x. x) z))
+                (λ other q d j h z. let (y, l) = more-back h in (l, dozer-out L (λ tm f e o. y) z));
           }
 
       pub more-lined : Lined L st t (Only path) ws → Lined L moreState moreTree Nobody ws

@@ -8,7 +8,7 @@ use mathlib.Core.List.{List, List·Memᴰ}
 use mathlib.Core.Option.{none, some}
 use lib.ListN.{getD}
 use borrow.Author.Tests.{lt-ltb, le-ltb, le-leb, lt-leb}
-use Rattle.model.specs.Syntax.{Site, inputOf, outputOf, Guards}
+use Rattle.model.specs.Syntax.{Site, inputOf, outputOf, Guards, noGuard, timed}
 use Rattle.model.specs.Scheme.{sizeEnable}
 use Rattle.model.specs.Layout.{base, wordOf}
 use Rattle.model.specs.Machine.{World, isHeld, stateWord, nameOf}
@@ -17,9 +17,10 @@ use Rattle.model.specs.Occam.{Frame, Process, atInput, atOutput, atAlt, 
 use Rattle.model.specs.declared.Setup.{Setup}
 use Rattle.model.proofs.Cases.{never}
 use Rattle.model.proofs.Quiet.Ways.{Mem}
+use Rattle.model.proofs.Quiet.Timing.{Dozing, Guarding}
 use Rattle.model.proofs.Occam.Paths.{l-output}
 use Rattle.model.proofs.Words.Parts.{Part, Target}
-use Rattle.model.proofs.Quiet.Marks.{Own, AnyReady, Guarded, AltCode, Marked, Disabling}
+use Rattle.model.proofs.Quiet.Marks.{Own, AnyPresent, Guarded, AltCode, Marked, Disabling}
 use Rattle.model.proofs.Quiet.Arrivals.{comes}
 use Rattle.model.proofs.Quiet.Onwards.{guarded-fine}
 use Rattle.model.proofs.Invariant.Trees.{Label, Info, Tree, labelled, label-alone}
@@ -43,13 +44,14 @@ module _ (L : Loaded) where
     holds-wait : {path : List ℕ} {gs : Guards} {k : List Frame} {b : Part} {i : Info} {hi at : ℕ} → LeafAt L st t path (atAlt gs k) b i
         → (Out path → ⊥) → member (i .w) ws ≡ false → (a : AltCode (S L) b gs (i .vars) (i .chans) k hi at (i .w + 1))
         → Resumes (S L) b i st μ (at + 2 + sizeEnable gs + 1) hi → μ (stateWord (i .w)) ≡ waiting → μ (i .w) ≡ noneSelected
-        → ((d : Site) → Guarded (st .store) d gs → μ (S L .word d) ≡ nameOf (i .w)) → (AnyReady st gs → ⊥)
-        → Marked (S L) b st (i .vars) (i .chans) gs μ (i .w) → μ (S L .word c) ≡ nameOf (i .w) → Guarded (st .store) c gs
+        → ((d : Site) → Guarded (st .store) d gs → μ (S L .word d) ≡ nameOf (i .w)) → (AnyPresent st gs → ⊥)
+        → Marked (S L) b st (i .vars) (i .chans) gs μ (i .w) → (timed gs ≡ true → Dozing (L .times) st gs μ (i .w))
+        → Guarding (L .times) st gs noGuard (i .w) → μ (S L .word c) ≡ nameOf (i .w) → Guarded (st .store) c gs
         → List·Memᴰ c (b .inputs) → Holder st μ t Out ws c
     holds-woken : {path : List ℕ} {gs : Guards} {k : List Frame} {b : Part} {i : Info} {hi at : ℕ} → LeafAt L st t path (atAlt gs k) b i
         → (Out path → ⊥) → member (i .w) ws ≡ true → (a : AltCode (S L) b gs (i .vars) (i .chans) k hi at (i .w + 1))
         → Resumes (S L) b i st μ (at + 2 + sizeEnable gs + 1) hi → μ (stateWord (i .w)) ≡ ready
-        → Disabling (S L) b st (i .vars) (i .chans) k gs gs (a .choice) μ (i .w) → μ (S L .word c) ≡ nameOf (i .w)
+        → Disabling (S L) b (L .times) st (i .vars) (i .chans) k gs gs (a .choice) μ (i .w) → μ (S L .word c) ≡ nameOf (i .w)
         → Guarded (st .store) c gs → List·Memᴰ c (b .inputs) → Holder st μ t Out ws c
     -- one that is left out
     holds-out : {path : List ℕ} {q : Process} {b : Part} {i : Info} → LeafAt L st t path q b i → Out path → List·Memᴰ c (i .chans)
@@ -60,7 +62,7 @@ module _ (L : Loaded) where
     where
       -- by what a process waits for
       by-held : {path : List ℕ} {q : Process} {b : Part} {i : Info} {f : Bool} (c : Site) → LeafAt L st t path q b i → (Out path → ⊥)
-          → member (i .w) ws ≡ f → List·Memᴰ c (i .chans) → Own b (μ (S L .word c)) → Held (S L) (L .sleeps) b i st μ f q
+          → member (i .w) ws ≡ f → List·Memᴰ c (i .chans) → Own b (μ (S L .word c)) → Held (S L) (L .times) b i st μ f q
           → Holder st μ t Out ws c
       by-held c k n e m o (h-queued z r h u) = absurd (u c m o)
       by-held {b = b} {i} c k n e m o (h-woken a r s d) =
@@ -71,10 +73,10 @@ module _ (L : Loaded) where
       by-held c k n e m o (h-output w out l v z) = subst (λ z. Holder st μ t Out ws z) (sym (w .only c m o))
           (holds-output k n e w out l v z)
       by-held c k n e m o (h-stop u) = absurd (u c m o)
-      by-held c k n e m o (h-asleep a s) = absurd (a .unmarked c m o)
-      by-held {b = b} {i} c k n e m o (h-wait a r s v all free d) =
+      by-held c k n e m o (h-asleep a) = absurd (a .unmarked c m o)
+      by-held {b = b} {i} c k n e m o (h-wait a r s v all free d dozes known) =
           let g = d c m o in
-          holds-wait k n e a r s v all free d (g .0) (g .1)
+          holds-wait k n e a r s v all free d dozes known (g .0) (g .1)
           (guarded-fine (S L .word) b (i .vars) (i .chans) (i .w + 1) (g .1) (a .fine .1) .1)
 
       -- the process whose name a channel's word holds
@@ -90,7 +92,7 @@ module _ (L : Loaded) where
             → μ (S L .word c) ≡ nameOf (i .w) → List·Memᴰ c (b .outputs) → List·Memᴰ c (i .chans) → Sends c
 
       sends-held : {path : List ℕ} {c : Site} {v : ℕ} {k : List Frame} {b : Part} {i : Info} {f : Bool}
-          → LeafAt L st t path (atOutput c v k) b i → (Out path → ⊥) → Held (S L) (L .sleeps) b i st μ f (atOutput c v k) → Sends c
+          → LeafAt L st t path (atOutput c v k) b i → (Out path → ⊥) → Held (S L) (L .times) b i st μ f (atOutput c v k) → Sends c
       sends-held l n (h-queued (comes sk settled sub way) r h u) = absurd (skips-silent sk settled refl)
       sends-held l n (h-output w out z v s) = sends l n (w .here) out (w .scope)
 

@@ -11,15 +11,16 @@ use lib.ListN.{getD, set}
 use borrow.Author.Tests.{eq-eqb, ne-eqb}
 use Rattle.model.specs.Word.{notProcess}
 use Rattle.model.specs.Limits.{wordLimit}
-use Rattle.model.specs.Syntax.{Site, inputOf, Expr, Stmt, ALT, Guard, inputGuard, skipGuard, Guards, noGuard, guard}
+use Rattle.model.specs.Syntax.{Site, inputOf, Expr, Stmt, ALT, Guard, inputGuard, skipGuard, Guards, noGuard, guard, timeGuard, timed}
 use Rattle.model.specs.Instruction.{Instruction, operation}
 use Rattle.model.specs.Instruction as I
 use Rattle.model.specs.Code.{functionIn, operandIn}
 use Rattle.model.specs.Scheme.{sizeEnable, codeEnable}
-use Rattle.model.specs.Machine.{World, withCpu, withMemory, stack, resumeWord, stateWord, isHeld, nameOf}
+use Rattle.model.specs.Machine.{World, withCpu, withMemory, stack, resumeWord, stateWord, isHeld, nameOf, timeLinkWord, timeWord}
+use Rattle.model.specs.Machine.{done, release}
 use Rattle.model.specs.Alternative.{enabling, waiting, ready, noneSelected}
-use Rattle.model.specs.Occam.{Store, eval, isTrue, Frame, Process, before, atAlt, look, State, Sender, process, outside, by-input}
-use Rattle.model.specs.Occam.{by-skip, Step, begins, go}
+use Rattle.model.specs.Occam.{Store, eval, isTrue, Frame, Process, before, atAlt, look, State, Sender, process, outside, Step, begins}
+use Rattle.model.specs.Occam.{go}
 use Rattle.model.specs.Demand.{step}
 use Rattle.model.proofs.Cases.{never}
 use Rattle.model.proofs.Quiet.Names.{name-given}
@@ -30,18 +31,20 @@ use Rattle.model.proofs.Quiet.CodeParts.{rises-le}
 use Rattle.model.proofs.Occam.Paths.{l-alt, same-path}
 use Rattle.model.proofs.Words.Parts.{Part, FineGuards}
 use Rattle.model.proofs.Quiet.Continuations.{Placed, placed-down, cont-placed, cont-low}
-use Rattle.model.proofs.Quiet.Marks.{Own, AnyReady, r-first, Rest as RestOf, rest-all, Unready, Noticed, n-none, n-later, own-name}
-use Rattle.model.proofs.Quiet.Marks.{Guarded, g-first, AltCode, Marked, Enabling, Disabling}
-use Rattle.model.proofs.Quiet.Onwards.{AltGoes, alt-goes, rest-past, rest-ready, rest-guarded, rest-fine, noticed-past}
-use Rattle.model.proofs.Quiet.Onwards.{noticed-unready, noticed-marked, enable-way, enable-first, disable-first}
+use Rattle.model.proofs.Quiet.Marks.{Own, Rest as RestOf, rest-all, Unready, Noticed, n-none, n-later, own-name, Guarded, g-first}
+use Rattle.model.proofs.Quiet.Marks.{AltCode, Marked, Enabling, Disabling, AnyPresent, a-first, is-skip, is-sent as is-here}
+use Rattle.model.proofs.Quiet.Marks.{AnyFound}
+use Rattle.model.proofs.Quiet.Onwards.{AltGoes, alt-goes, rest-past, rest-guarded, rest-fine, noticed-past, noticed-unready}
+use Rattle.model.proofs.Quiet.Onwards.{noticed-marked, enable-way, enable-first, disable-first, timed-fine, rest-present}
+use Rattle.model.proofs.Quiet.Onwards.{present-found, guarded-fine, marked-same}
 use Rattle.model.proofs.Invariant.Trees.{Info, Sits, Tree, bytesLeft, part-inside}
 use Rattle.model.proofs.Invariant.Leaves.{Unmarked, Held, h-wait}
-use Rattle.model.proofs.Invariant.Stays.{Intact, noticed-stays, marked-stays, ready-stays}
+use Rattle.model.proofs.Invariant.Stays.{Intact, noticed-stays, marked-stays, guarding-stays, found-stays}
 use Rattle.model.proofs.Effects.OneWord.{cpuOf, sizeOf, stored}
 use Rattle.model.proofs.Effects.Acts.{exec-alt, enabled, exec-enbc-off, exec-enbc-held, exec-enbc-empty, exec-enbc-marked}
 use Rattle.model.proofs.Effects.Acts.{exec-enbc-sender, exec-enbs-off, exec-enbs, exec-altwt-ready, exec-altwt-wait}
-use Rattle.model.proofs.Invariant.Kernel.{Loaded, S, root, size, LeafAt, owned, Rest, Real, node, part-small, sits-at}
-use Rattle.model.proofs.Invariant.Writes.{apart-parts, own-one, write-own, write-chan, left-out}
+use Rattle.model.proofs.Invariant.Kernel.{Loaded, S, root, size, LeafAt, owned, Rest, Real, node, part-small, sits-at, Lined}
+use Rattle.model.proofs.Invariant.Writes.{apart-parts, own-one, write-own, write-chan, left-out, Calm}
 use Rattle.model.proofs.Invariant.Puts.{putting, treeThen, here-then, lined-then, rest-then, sender-then, sender-before}
 use Rattle.model.proofs.Invariant.Grounds.{chan-in, sound-at}
 use Rattle.model.proofs.Invariant.Traces.{t-none, t-step}
@@ -53,6 +56,7 @@ use Rattle.model.proofs.Steps.Meets.{not-own}
 use Rattle.model.proofs.Steps.Advance.{Silent, leaves-as}
 use Rattle.model.proofs.Steps.Channels.{Holder, holds-input, holds-output, holds-wait, holds-woken, holds-out, holder, Sends, sends}
 use Rattle.model.proofs.Steps.Channels.{sender-at, HeldAt, held-at, not-held, held-here}
+use Rattle.model.proofs.Quiet.Timing.{Bringing, bringing-same, bringing-past, each-past, e-none, Guarding, Linked, Dozing, onto-same}
 
 -- a condition's register says whether it is true
 pub true-when : (σ : Store) (e : Expr) (v : ℕ) → v ≡ eval σ e → v ≢ 0 → isTrue σ e ≡ true
@@ -78,6 +82,7 @@ unready-more : (st : State) (word : Site → ℕ) (μ ν : Mem) (w : ℕ) → ((
     → Unready st word μ w g → Unready st word ν w g
 unready-more st word μ ν w f (inputGuard e c x) u = λ z. (f c (u z .0), u z .1)
 unready-more st word μ ν w f (skipGuard e) u = u
+unready-more st word μ ν w f (timeGuard e t) u = u
 
 noticed-more : {st : State} (word : Site → ℕ) (μ ν : Mem) (w : ℕ) {gs hs : Guards}
     → ((d : Site) → μ (word d) ≡ nameOf w → ν (word d) ≡ nameOf w)
@@ -100,7 +105,7 @@ module _ (L : Loaded) {s : World} {st : State} {μ : Mem} {t : Tree (S L) (root 
   w-room : b .bottom + 3 ≤ w
   w-room = omega (arith, c .fine .0)
 
-  w-under : w < b .top
+  pub w-under : w < b .top
   w-under = omega (arith, cont-low (S L) b (c .after))
 
   pub top-small : b .top ≤ wordLimit
@@ -124,6 +129,26 @@ module _ (L : Loaded) {s : World} {st : State} {μ : Mem} {t : Tree (S L) (root 
 
   pub resume-mine : Mine (resumeWord w)
   resume-mine = (omega (arith, w-room, w-under, top-small), omega (arith, w-room, w-under, top-small))
+
+  -- those for times, where there is room for them
+  pub link-mine : b .bottom + 5 ≤ w → Mine (timeLinkWord w)
+  link-mine room = (omega (arith, room, w-under, top-small), omega (arith, room, w-under, top-small))
+
+  pub time-mine : b .bottom + 5 ≤ w → Mine (timeWord w)
+  time-mine room = (omega (arith, room, w-under, top-small), omega (arith, room, w-under, top-small))
+
+  pub times-room : timed gs ≡ true → b .bottom + 5 ≤ w
+  times-room t = omega (arith, timed-fine (S L .word) b (i .vars) (i .chans) (w + 1) gs (c .fine .1) t)
+
+  -- the other own words are none of these
+  pub base-other : (timeLinkWord w ≢ w) × (timeWord w ≢ w)
+  base-other = ((λ e. absurd (omega (arith, e, w-under, top-small))), (λ e. absurd (omega (arith, e, w-under, top-small))))
+
+  pub state-other : (timeLinkWord w ≢ stateWord w) × (timeWord w ≢ stateWord w)
+  state-other = ((λ e. absurd (omega (arith, e, w-under, top-small))), (λ e. absurd (omega (arith, e, w-under, top-small))))
+
+  pub resume-other : (timeLinkWord w ≢ resumeWord w) × (timeWord w ≢ resumeWord w)
+  resume-other = ((λ e. absurd (omega (arith, e, w-under, top-small))), (λ e. absurd (omega (arith, e, w-under, top-small))))
 
   -- they are different
   pub base-state : w ≢ stateWord w
@@ -197,12 +222,12 @@ module _ (L : Loaded) {s : World} {st : State} {μ : Mem} {t : Tree (S L) (root 
   shown = record { real = A .real; rest = A .rest }
 
   -- an own word is written
-  pub own-write : {l : List ℕ} {ν : Mem} (v z : ℕ) → Mine v → Shows l ν → Shows (set l v z) (upd ν v z)
-  own-write v z h m =
+  pub own-write : {l : List ℕ} {ν : Mem} (v z : ℕ) → Mine v → Calm L q i v → Shows l ν → Shows (set l v z) (upd ν v z)
+  own-write v z h calm m =
       let high : v < b .top = omega (arith, h .1, w-under) in
       record {
         real = real-stored L v z (mine-in h) (link-own L (A .lined) (A .leaf) refl v (h .0) high) (m .real);
-        rest = write-own L (A .leaf) (m .rest) v z (h .0) high (var-off h) (chan-off h) (left-out refl);
+        rest = write-own L (A .leaf) (m .rest) v z (h .0) high (var-off h) (chan-off h) (left-out refl calm);
       }
 
   -- a channel's word is written: it gets the mark, or is empty
@@ -235,12 +260,18 @@ module _ (L : Loaded) {s : World} {st : State} {μ : Mem} {t : Tree (S L) (root 
     pub own-noticed : {hs : Guards} → Noticed st (S L .word) ν w gs hs → Noticed st (S L .word) (upd ν v z) w gs hs
     own-noticed n = noticed-stays (S L) b i (omega (arith, top-small)) (sits-at L (A .leaf)) own-intact (w + 1) w-own (c .fine .1) n
 
+    -- its times, where the word is none of theirs
+    module _ (link : timeLinkWord w ≢ v) (time : timeWord w ≢ v) where
+      pub own-bringing : {hs : Guards} → Bringing (L .times) st gs hs ν w → Bringing (L .times) st gs hs (upd ν v z) w
+      own-bringing n =
+          bringing-same (L .times) st (upd-other ν v z (timeLinkWord w) link) (upd-other ν v z (timeWord w) time) n
+
     pub own-marked : Marked (S L) b st (i .vars) (i .chans) gs ν w → Marked (S L) b st (i .vars) (i .chans) gs (upd ν v z) w
     own-marked n = marked-stays (S L) b i (omega (arith, top-small)) (sits-at L (A .leaf)) own-intact (w + 1) w (c .fine .1) n
 
   -- the process goes on inside the ALT, with another stack and another memory
   pub onward : {x : Instruction} (f g h : ℕ) {l : List ℕ} {ν : Mem} → Executes L x s (withCpu (stack f g h (cpuOf s)) (withMemory l s))
-      → Shows l ν → AltGoes (S L) b st (i .vars) (i .chans) q hi ν (suc at) (record { a = f; b = g; c = h; w = w })
+      → Shows l ν → AltGoes (S L) b (L .times) st (i .vars) (i .chans) q (i .w) hi ν (suc at) (record { a = f; b = g; c = h; w = w })
       → Did L (Executes L x s) s st (bytesLeft (S L) t)
   onward f g h {l} ran m way =
       let r = stack f g h (cpuOf s) in
@@ -265,7 +296,7 @@ module _ (L : Loaded) {s : World} {st : State} {μ : Mem} {t : Tree (S L) (root 
         let theirs = named-own l (wt .here) in
         is-sent (λ f. strange-none l f theirs) (λ f. strange-w l n f theirs) (λ o. own-one L (apart-parts L (A .leaf) l n) o theirs)
         (process _ (l .found)) (part-inside (S L) t other {b = d} (rw (l .label)) .outputs y out)
-    by-holder marks (holds-wait l n e a r f v all free m g gd inp) = absurd (apart-parts L (A .leaf) l n .inputs y inputs inp)
+    by-holder marks (holds-wait l n e a r f v all free m dz kn g gd inp) = absurd (apart-parts L (A .leaf) l n .inputs y inputs inp)
     by-holder marks (holds-woken l n e a r f d g gd inp) = absurd (apart-parts L (A .leaf) l n .inputs y inputs inp)
     by-holder marks (holds-out l o m own) =
         is-ours (marks (same-leaf L (λ r d (j : Info). Own d (μ (S L .word y))) (sym o) l (A .leaf) own))
@@ -295,34 +326,36 @@ module _ (L : Loaded) {s : World} {st : State} {μ : Mem} {t : Tree (S L) (root 
     {ws : List ℕ} {at hi : ℕ} {gs : Guards} {k : List Frame} (A : Acting L s st μ t path (before (ALT gs) k) b i (Only path) ws at hi)
     {hi₀ i₀ : ℕ} (c : AltCode (S L) b gs (i .vars) (i .chans) k hi₀ i₀ (cpuOf s .workspace + 1)) where
   -- the guards before hs are enabled, in a memory
-  abbrev Enabled : Guards → Mem → Type 0
-  Enabled hs ν = Enabling (S L) b st (i .vars) (i .chans) gs hs ν (space s)
+  abbrev pub Enabled : Guards → Mem → Type 0
+  Enabled hs ν = Enabling (S L) b (L .times) st (i .vars) (i .chans) gs hs ν (space s)
 
-  abbrev Marks : Mem → Type 0
+  abbrev pub Marks : Mem → Type 0
   Marks ν = Marked (S L) b st (i .vars) (i .chans) gs ν (space s)
 
   -- what is to be shown of an instruction
-  abbrev Goal : Instruction → Type 0
+  abbrev pub Goal : Instruction → Type 0
   Goal x = Did L (Executes L x s) s st (bytesLeft (S L) t)
 
-  abbrev state-word : ℕ
+  abbrev pub state-word : ℕ
   state-word = stateWord (space s)
 
-  state-size : state-word < sizeOf s
+  pub state-size : state-word < sizeOf s
   state-size = mine-size L A c (state-mine L A c)
 
   -- the state is written
-  state-write : (z : ℕ) → Shows L A c (set (s .memory) state-word z) (upd μ state-word z)
-  state-write z = own-write L A c state-word z (state-mine L A c) (shown L A c)
+  pub state-write : (z : ℕ) → Shows L A c (set (s .memory) state-word z) (upd μ state-word z)
+  state-write z = own-write L A c state-word z (state-mine L A c) (λ e. never (cc)) (shown L A c)
 
   -- ALT
-  module _ (here : at ≡ i₀ + 1) (near : hi₀ ≤ hi) (clean : Unmarked (S L) b i st μ) where
+  module _ (here : at ≡ i₀ + 1) (near : hi₀ ≤ hi) (clean : Unmarked (S L) b i st μ) (untimed : timed gs ≡ false) where
     begun : Enabled gs (upd μ state-word enabling)
     begun =
         record {
           rest = (0, rest-all);
           marks = λ d m o. absurd (clean d m (subst (Own b) (own-chan L A c μ state-word enabling (state-mine L A c) d m) o));
           state = inl (upd-same μ state-word enabling, n-none);
+          times = λ z. never (cc (z, untimed));
+          known = e-none;
         }
 
     pub alt-begins : Goal (operation I.alt)
@@ -331,28 +364,32 @@ module _ (L : Loaded) {s : World} {st : State} {μ : Mem} {t : Tree (S L) (root 
         let e : i₀ + 2 ≡ suc at = omega arith in
         let m = state-write enabling in
         onward L A c (cpuOf s .a) (cpuOf s .b) (cpuOf s .c) (executes (exec-alt (space s) s refl state-size)) m
-        (subst (λ z. AltGoes (S L) b st (i .vars) (i .chans) (before (ALT gs) k) hi (upd μ state-word enabling) z (regsOf (cpuOf s))) e
-        (enable-first (S L) b st (space s) c (sound-at L (m .rest) (A .leaf)) near begun refl))
+        (subst (λ z. AltGoes (S L) b (L .times) st (i .vars) (i .chans) (before (ALT gs) k) (i .w) hi (upd μ state-word enabling) z
+        (regsOf (cpuOf s))) e
+        (enable-first (S L) b (L .times) st (space s) c (sound-at L (m .rest) (A .leaf)) near begun refl))
 
   -- the enabling goes on with the rest of the guards
   module _ {x : Instruction} (hs : Guards) (near : hi₀ ≤ hi)
       (code : Seg (S L .xs) (suc at) (codeEnable (S L .word) (space s) hs) (i₀ + 2 + sizeEnable gs)) (f g h : ℕ) where
-    enables-on : {l : List ℕ} {ν : Mem} → Executes L x s (withCpu (stack f g h (cpuOf s)) (withMemory l s)) → Shows L A c l ν → Enabled hs ν
+    pub enables-on : {l : List ℕ} {ν : Mem} → Executes L x s (withCpu (stack f g h (cpuOf s)) (withMemory l s)) → Shows L A c l ν
+        → Enabled hs ν
         → Goal x
     enables-on ran m n =
         onward L A c f g h ran m
-        (alt-goes (space s)
-        (enable-way (S L) b st (space s) c (sound-at L (m .rest) (A .leaf)) hs near (fine-rest L A c (n .rest .1)) n code refl))
+        (alt-goes (space s) tt
+        (enable-way (S L) b (L .times) st (space s) c (sound-at L (m .rest) (A .leaf)) hs near (fine-rest L A c (n .rest .1)) n code refl))
 
     -- the state becomes Ready
     turns-ready : Executes L x s (withCpu (stack f g h (cpuOf s)) (stored state-word ready s)) → (m : ℕ) × RestOf gs 0 hs m → Marks μ
-        → AnyReady st gs → Goal x
-    turns-ready ran rest marks now =
+        → AnyPresent st gs → (timed gs ≡ true → Bringing (L .times) st gs hs μ (space s)) → Guarding (L .times) st gs hs (space s) → Goal x
+    turns-ready ran rest marks now times known =
         enables-on ran (state-write ready)
         (record {
           rest = rest;
           marks = own-marked L A c μ state-word ready (state-mine L A c) marks;
           state = inr (upd-same μ state-word ready, now);
+          times = λ z. own-bringing L A c μ state-word ready (state-mine L A c) (state-other L A c .0) (state-other L A c .1) (times z);
+          known = known;
         })
 
   -- ENBC of a guard
@@ -368,6 +405,12 @@ module _ (L : Loaded) {s : World} {st : State} {μ : Mem} {t : Tree (S L) (root 
     past : (m : ℕ) × RestOf gs 0 hs m
     past = (_, rest-past (n .rest .1))
 
+    times-past : timed gs ≡ true → Bringing (L .times) st gs hs μ (space s)
+    times-past t = bringing-past (L .times) st (inputGuard e y z) refl (n .times t)
+
+    known-past : Guarding (L .times) st gs hs (space s)
+    known-past = each-past (st .store) (inputGuard e y z) (n .known) tt
+
     -- nothing changes
     passes : Executes L (operation I.enbc) s (enabled s)
         → (isTrue (st .store) e ≡ true → (μ (S L .word y) ≡ nameOf (space s)) × (Sender st y → ⊥)) → Goal (operation I.enbc)
@@ -377,6 +420,8 @@ module _ (L : Loaded) {s : World} {st : State} {μ : Mem} {t : Tree (S L) (root 
           rest = past;
           marks = n .marks;
           state = ⊎-elim (λ m. inl (m .0, noticed-past (inputGuard e y z) (m .1) f)) (λ m. inr m) (n .state);
+          times = times-past;
+          known = known-past;
         })
 
     enbc-off : cpuOf s .a ≡ 0 → Goal (operation I.enbc)
@@ -388,7 +433,7 @@ module _ (L : Loaded) {s : World} {st : State} {μ : Mem} {t : Tree (S L) (root 
         → Goal (operation I.enbc)
     enbc-ready a sd ran =
         turns-ready hs near code (cpuOf s .a) (cpuOf s .c) (cpuOf s .c) ran past (n .marks)
-        (rest-ready (n .rest .1) (r-first (by-input (true-when (st .store) e (cpuOf s .a) val a) sd)))
+        (rest-present (n .rest .1) (a-first (is-here (true-when (st .store) e (cpuOf s .a) val a) sd))) times-past known-past
 
     -- no offer is held
     module _ (a : cpuOf s .a ≢ 0) (free : isHeld (S L .word y) (s .machine) ≡ false)
@@ -434,6 +479,14 @@ module _ (L : Loaded) {s : World} {st : State} {μ : Mem} {t : Tree (S L) (root 
                   noticed-past (inputGuard e y z) (noticed-more (S L .word) μ marked (space s) mark-stays (m .1)) (λ h. it),
                 ))
                 (λ m. inr (off ∙ m .0, m .1)) (n .state);
+            times = λ t.
+                let room = times-room L A c t in
+                bringing-same (L .times) st
+                (upd-other μ (S L .word y) (nameOf (space s)) (timeLinkWord (space s))
+                (λ h. chan-off L A c (link-mine L A c room) y mine (sym h)))
+                (upd-other μ (S L .word y) (nameOf (space s)) (timeWord (space s))
+                (λ h. chan-off L A c (time-mine L A c room) y mine (sym h))) (times-past t);
+            known = known-past;
           }
 
       -- an empty channel gets the mark, one that has it keeps it; a sender makes the ALT ready
@@ -484,13 +537,16 @@ module _ (L : Loaded) {s : World} {st : State} {μ : Mem} {t : Tree (S L) (root 
           marks = n .marks;
           state = ⊎-elim (λ m. inl (m .0, noticed-past (skipGuard e) (m .1) (false-when (st .store) e (cpuOf s .a) val a)))
               (λ m. inr m) (n .state);
+          times = λ t. bringing-past (L .times) st (skipGuard e) refl (n .times t);
+          known = each-past (st .store) (skipGuard e) (n .known) tt;
         })
 
     enbs-on : cpuOf s .a ≢ 0 → Goal (operation I.enbs)
     unfolding functionIn operandIn
     enbs-on a =
         turns-ready hs near code (cpuOf s .a) (cpuOf s .b) (cpuOf s .c) (executes (exec-enbs (space s) s a refl state-size)) past-skip
-        (n .marks) (rest-ready (n .rest .1) (r-first (by-skip (true-when (st .store) e (cpuOf s .a) val a))))
+        (n .marks) (rest-present (n .rest .1) (a-first (is-skip (true-when (st .store) e (cpuOf s .a) val a))))
+        (λ t. bringing-past (L .times) st (skipGuard e) refl (n .times t)) (each-past (st .store) (skipGuard e) (n .known) tt)
 
     pub does-enbs : Goal (operation I.enbs)
     does-enbs = by (ℕ-discrete (cpuOf s .a) 0)
@@ -499,31 +555,39 @@ module _ (L : Loaded) {s : World} {st : State} {μ : Mem} {t : Tree (S L) (root 
         by (yes a) = enbs-off a
         by (no a) = enbs-on a
 
-  -- ALTWT: the process comes to the ALT
-  abbrev waits-as : Info
+  -- ALTWT or TALTWT: the process comes to the ALT
+  abbrev pub waits-as : Info
   waits-as = relaid (space s) (whole (S L)) i
 
-  abbrev then-at : State
+  abbrev pub then-at : State
   then-at = putting path (atAlt gs k) st
 
-  sits-there : Sits (S L) b waits-as
+  pub sits-there : Sits (S L) b waits-as
   sits-there = record { placed = placed L A c; few = omega arith }
 
-  abbrev tree-there : Tree (S L) (root L) (then-at .process)
+  abbrev pub tree-there : Tree (S L) (root L) (then-at .process)
   tree-there = treeThen L (A .leaf) (atAlt gs k) l-alt waits-as sits-there
 
-  comes-to : Step st [] then-at
+  pub leaf-there : LeafAt L then-at tree-there path (atAlt gs k) b waits-as
+  leaf-there = here-then L (A .leaf) (atAlt gs k) l-alt waits-as sits-there
+
+  pub lined-there : Lined L then-at tree-there (Only path) ws
+  lined-there = lined-then L (A .leaf) (atAlt gs k) l-alt waits-as sits-there refl (A .lined)
+
+  pub comes-to : Step st [] then-at
   unfolding go
   comes-to = begins path (A .leaf .found)
 
-  rest-there : {ν : Mem} → Rest L st ν t (Only path) ws → Rest L then-at ν tree-there (Only path) ws
-  rest-there r =
+  -- it is not in the timer queue then
+  pub rest-there : {ν : Mem} → (timed gs ≡ true → Linked ν (space s) → ⊥) → Rest L st ν t (Only path) ws
+      → Rest L then-at ν tree-there (Only path) ws
+  rest-there free r =
       rest-then L (A .leaf) (atAlt gs k) l-alt waits-as sits-there r refl (r .vars (node L (A .leaf))) (r .chans (node L (A .leaf)))
       (A .rest .live (A .leaf)) (λ d m o. m) (λ d v l e other p a j f g h. before-silent d v l e)
-      (λ d v l e other p a j f g h m o. alt-silent d v l e)
+      (λ d v l e other p a j f g h m o. alt-silent d v l e) (λ e. never (cc)) free
 
   -- that changes no word, and no sender
-  intact-there : (ν : Mem) → Intact (S L) b i 0 st then-at ν ν
+  pub intact-there : (ν : Mem) → Intact (S L) b i 0 st then-at ν ν
   intact-there ν =
       record {
         own = λ v a z y. refl;
@@ -533,127 +597,161 @@ module _ (L : Loaded) {s : World} {st : State} {μ : Mem} {t : Tree (S L) (root 
         none-sends = λ d m g o f. sender-before L (A .leaf) (atAlt gs k) l-alt waits-as sits-there d (alt-silent d) f;
       }
 
-  high : b .top < 2 ^ 32
+  pub high : b .top < 2 ^ 32
   high = omega (arith, top-small L A c)
 
-  marks-there : (ν : Mem) → Marks ν → Marked (S L) b then-at (i .vars) (i .chans) gs ν (space s)
+  pub marks-there : (ν : Mem) → Marks ν → Marked (S L) b then-at (i .vars) (i .chans) gs ν (space s)
   marks-there ν m = marked-stays (S L) b i high (sits-at L (A .leaf)) (intact-there ν) (space s + 1) (space s) (c .fine .1) m
+
+  pub known-there : (ν : Mem) → Guarding (L .times) st gs noGuard (space s) → Guarding (L .times) then-at gs noGuard (space s)
+  known-there ν n =
+      guarding-stays (S L) b i high (sits-at L (A .leaf)) (intact-there ν) (space s + 1) {T = L .times} {T′ = L .times} {w = space s}
+      (onto-same refl) (c .fine .1) n
+
+  pub found-there : (ν : Mem) → AnyFound st ν (space s) gs → AnyFound then-at ν (space s) gs
+  found-there ν f =
+      found-stays (S L) b i high (sits-at L (A .leaf)) (intact-there ν) (space s + 1) refl (λ room. (refl, refl)) (c .fine .1) f
+
+  pub noticed-there : (ν : Mem) → Noticed st (S L .word) ν (space s) gs noGuard → Noticed then-at (S L .word) ν (space s) gs noGuard
+  noticed-there ν n =
+      noticed-stays (S L) b i high (sits-at L (A .leaf)) (intact-there ν) (space s + 1) (w-own L A c) (c .fine .1) n
+
+  -- its own words are written while it has not come
+  pub base-write : {l : List ℕ} {ν : Mem} (v z : ℕ) → Mine L A c v → Shows L A c l ν → Shows L A c (set l v z) (upd ν v z)
+  base-write v z h m = own-write L A c v z h (λ e. never (cc)) m
 
   module _ (here : at ≡ i₀ + 2 + sizeEnable gs) (marks : Marks μ) where
     -- the bytes that are left reach as far as is needed
-    soon-there : hi₀ ≤ whole (S L) + L .off (suc at)
+    pub soon-there : hi₀ ≤ whole (S L) + L .off (suc at)
     soon-there = omega (arith, c .near, rises-le (S L) i₀ (suc at) (omega arith) (A .inside))
 
     -- no branch is chosen yet
-    abbrev μ₁ : Mem
+    abbrev pub μ₁ : Mem
     μ₁ = upd μ (space s) noneSelected
 
-    none-yet : Shows L A c (set (s .memory) (space s) noneSelected) μ₁
-    none-yet = own-write L A c (space s) noneSelected (base-mine L A c) (shown L A c)
+    pub none-yet : Shows L A c (set (s .memory) (space s) noneSelected) μ₁
+    none-yet = base-write (space s) noneSelected (base-mine L A c) (shown L A c)
 
-    marks₁ : Marks μ₁
+    pub marks₁ : Marks μ₁
     marks₁ = own-marked L A c μ (space s) noneSelected (base-mine L A c) marks
 
-    -- it is Ready: the disabling begins
-    module _ (set-ready : μ state-word ≡ ready) (now : AnyReady st gs) where
-      disabling : Disabling (S L) b then-at (i .vars) (i .chans) k gs gs (c .choice) μ₁ (space s)
-      disabling =
-          record {
-            marks = marks-there μ₁ marks₁;
-            state = upd-other μ (space s) noneSelected state-word (λ e. base-state L A c (sym e)) ∙ set-ready;
-            chosen = inr (
-              upd-same μ (space s) noneSelected,
-              ready-stays (S L) b i high (sits-at L (A .leaf)) (intact-there μ₁) (space s + 1) (c .fine .1) now,
-            );
-          }
+    -- the disabling begins, in a memory
+    pub goes-there : {x : Instruction} {l : List ℕ} (ν : Mem) → Executes L x s (withMemory l s) → Shows L A c l ν
+        → (timed gs ≡ true → Linked ν (space s) → ⊥)
+        → Disabling (S L) b (L .times) then-at (i .vars) (i .chans) k gs gs (c .choice) ν (space s) → Goal x
+    goes-there {l = l} ν ran m free disabling =
+        let e : i₀ + 2 + sizeEnable gs + 1 ≡ suc at = omega arith in
+        let near : hi₀ ≤ hi₀ = omega arith in
+        let there = rest-there free (m .rest) in
+        let sound = sound-at L there leaf-there in
+        let way = subst
+        (λ z. AltGoes (S L) b (L .times) then-at (i .vars) (i .chans) (atAlt gs k) (space s) hi₀ ν z (regsOf (cpuOf s))) e
+        (disable-first (S L) b (L .times) then-at (space s) c sound near disabling refl) in
+        came (withMemory l s) (step [] then-at ∷ []) ran (t-step comes-to t-none) (silent L s s refl)
+        (runs (real-state L (then-at .process) (st .store) (m .real)) (A .run) leaf-there there lined-there
+        (now-alt (fresh L (suc at) (cpuOf s .place) (cpuOf s .operand) (A .inside) (A .placed) (A .operand)) way
+        (omega (arith, soon-there, A .placed))))
+        (inr (omega arith))
 
-      -- on its way to the first DISC or DISS
-      way-there : AltGoes (S L) b then-at (i .vars) (i .chans) (atAlt gs k) hi₀ μ₁ (suc at) (regsOf (cpuOf s))
-      way-there =
-          let e : i₀ + 2 + sizeEnable gs + 1 ≡ suc at = omega arith in
-          let near : hi₀ ≤ hi₀ = omega arith in
-          let sound = sound-at L (rest-there (none-yet .rest)) (here-then L (A .leaf) (atAlt gs k) l-alt waits-as sits-there) in
-          subst (λ z. AltGoes (S L) b then-at (i .vars) (i .chans) (atAlt gs k) hi₀ μ₁ z (regsOf (cpuOf s))) e
-          (disable-first (S L) b then-at (space s) c sound near disabling refl)
+    -- it waits, in a memory
+    abbrev pub resume-word : ℕ
+    resume-word = resumeWord (space s)
 
-      did-altwt : Executes L (operation I.altwt) s (stored (space s) noneSelected s)
-      unfolding functionIn operandIn
-      did-altwt =
-          executes
-          (exec-altwt-ready (space s) s refl (mine-size L A c (base-mine L A c)) state-size (mine-holds L A c (state-mine L A c) set-ready))
+    abbrev pub μ₂ : Mem
+    μ₂ = upd μ₁ state-word waiting
 
-      altwt-ready : Goal (operation I.altwt)
-      altwt-ready =
-          came (stored (space s) noneSelected s) (step [] then-at ∷ []) did-altwt (t-step comes-to t-none) (silent L s s refl)
-          (runs (real-state L (then-at .process) (st .store) (none-yet .real)) (A .run)
-          (here-then L (A .leaf) (atAlt gs k) l-alt waits-as sits-there) (rest-there (none-yet .rest))
-          (lined-then L (A .leaf) (atAlt gs k) l-alt waits-as sits-there refl (A .lined))
-          (now-alt (fresh L (suc at) (cpuOf s .place) (cpuOf s .operand) (A .inside) (A .placed) (A .operand)) way-there
-          (omega (arith, soon-there, A .placed))))
-          (inr (omega arith))
+    abbrev pub μ₃ : Mem
+    μ₃ = upd μ₂ resume-word (L .off (suc at))
 
-    -- it waits
-    module _ (set-enabling : μ state-word ≡ enabling) (seen : Noticed st (S L .word) μ (space s) gs noGuard) where
-      abbrev resume-word : ℕ
-      resume-word = resumeWord (space s)
+    abbrev pub asleep : World
+    asleep = stored resume-word (L .off (suc at)) (stored state-word waiting (stored (space s) noneSelected s))
 
-      abbrev μ₂ : Mem
-      μ₂ = upd μ₁ state-word waiting
+    pub asleep-shows : Shows L A c (asleep .memory) μ₃
+    asleep-shows =
+        base-write resume-word (L .off (suc at)) (resume-mine L A c) (base-write state-word waiting (state-mine L A c) none-yet)
 
-      abbrev μ₃ : Mem
-      μ₃ = upd μ₂ resume-word (L .off (suc at))
+    pub asleep-state : μ₃ state-word ≡ waiting
+    asleep-state = upd-other μ₂ resume-word (L .off (suc at)) state-word (state-resume L A c) ∙ upd-same μ₁ state-word waiting
 
-      abbrev asleep : World
-      asleep = stored resume-word (L .off (suc at)) (stored state-word waiting (stored (space s) noneSelected s))
+    pub asleep-none : μ₃ (space s) ≡ noneSelected
+    asleep-none =
+        upd-other μ₂ resume-word (L .off (suc at)) (space s) (base-resume L A c)
+        ∙ upd-other μ₁ state-word waiting (space s) (base-state L A c)
+        ∙ upd-same μ (space s) noneSelected
 
-      asleep-shows : Shows L A c (asleep .memory) μ₃
-      asleep-shows =
-          own-write L A c resume-word (L .off (suc at)) (resume-mine L A c) (own-write L A c state-word waiting (state-mine L A c) none-yet)
+    pub asleep-seen : Noticed st (S L .word) μ (space s) gs noGuard → Noticed then-at (S L .word) μ₃ (space s) gs noGuard
+    asleep-seen seen =
+        noticed-there μ₃
+        (own-noticed L A c μ₂ resume-word (L .off (suc at)) (resume-mine L A c)
+        (own-noticed L A c μ₁ state-word waiting (state-mine L A c)
+        (own-noticed L A c μ (space s) noneSelected (base-mine L A c) seen)))
 
-      asleep-state : μ₃ state-word ≡ waiting
-      asleep-state = upd-other μ₂ resume-word (L .off (suc at)) state-word (state-resume L A c) ∙ upd-same μ₁ state-word waiting
+    pub asleep-marks : Marked (S L) b then-at (i .vars) (i .chans) gs μ₃ (space s)
+    asleep-marks =
+        marks-there μ₃
+        (own-marked L A c μ₂ resume-word (L .off (suc at)) (resume-mine L A c)
+        (own-marked L A c μ₁ state-word waiting (state-mine L A c) marks₁))
 
-      asleep-none : μ₃ (space s) ≡ noneSelected
-      asleep-none =
-          upd-other μ₂ resume-word (L .off (suc at)) (space s) (base-resume L A c)
-          ∙ upd-other μ₁ state-word waiting (space s) (base-state L A c)
-          ∙ upd-same μ (space s) noneSelected
+    -- also where its time link is another
+    pub asleep-held : (η : Mem) → ((v : ℕ) → Mine L A c v → v ≢ timeLinkWord (space s) → η v ≡ μ₃ v)
+        → ((d : Site) → List·Memᴰ d (i .chans) → η (S L .word d) ≡ μ₃ (S L .word d)) → Noticed st (S L .word) μ (space s) gs noGuard
+        → (timed gs ≡ true → Dozing (L .times) then-at gs η (space s)) → Guarding (L .times) st gs noGuard (space s)
+        → Held (S L) (L .times) b waits-as then-at η false (atAlt gs k)
+    asleep-held η own chans seen dozes known =
+        let e : suc at ≡ i₀ + 2 + sizeEnable gs + 1 = omega arith in
+        h-wait c
+        (record {
+          place = own resume-word (resume-mine L A c) (λ z. resume-other L A c .0 (sym z)) ∙ upd-same μ₂ resume-word (L .off (suc at))
+              ∙ ap (L .off) e;
+          soon = omega (arith, soon-there, ap (L .off) e);
+        })
+        (own state-word (state-mine L A c) (λ z. state-other L A c .0 (sym z)) ∙ asleep-state)
+        (own (space s) (base-mine L A c) (λ z. base-other L A c .0 (sym z)) ∙ asleep-none)
+        (λ d g. chans d (guarded-fine (S L .word) b (i .vars) (i .chans) (space s + 1) g (c .fine .1) .0) ∙ noticed-marked
+        (asleep-seen seen) g)
+        (noticed-unready (asleep-seen seen)) (marked-same (S L) b then-at (i .vars) (i .chans) gs μ₃ η (space s) chans asleep-marks) dozes
+        (known-there μ₃ known)
 
-      asleep-seen : Noticed then-at (S L .word) μ₃ (space s) gs noGuard
-      asleep-seen =
-          noticed-stays (S L) b i high (sits-at L (A .leaf)) (intact-there μ₃) (space s + 1) (w-own L A c) (c .fine .1)
-          (own-noticed L A c μ₂ resume-word (L .off (suc at)) (resume-mine L A c)
-          (own-noticed L A c μ₁ state-word waiting (state-mine L A c)
-          (own-noticed L A c μ (space s) noneSelected (base-mine L A c) seen)))
+    -- without a time it leaves the processor
+    pub waits-there : {x : Instruction} → (timed gs ≡ true → Linked μ₃ (space s) → ⊥)
+        → Held (S L) (L .times) b waits-as then-at μ₃ false (atAlt gs k)
+        → ((v : World) → release asleep ≡ done tt v → Executes L x s v) → Goal x
+    waits-there free held ran =
+        leaves-as L (asleep-shows .real) (A .leaf) (A .lined) (atAlt gs k) l-alt waits-as sits-there
+        (rest-there free (asleep-shows .rest)) (λ t f e. never (cc)) held (A .operand) comes-to (λ v e f. ran v e)
+        (silent L s asleep refl)
 
-      asleep-marks : Marked (S L) b then-at (i .vars) (i .chans) gs μ₃ (space s)
-      asleep-marks =
-          marks-there μ₃
-          (own-marked L A c μ₂ resume-word (L .off (suc at)) (resume-mine L A c)
-          (own-marked L A c μ₁ state-word waiting (state-mine L A c) marks₁))
+  -- ALTWT
+  module _ (untimed : timed gs ≡ false) (here : at ≡ i₀ + 2 + sizeEnable gs) (n : Enabled noGuard μ) where
+    no-link : (ν : Mem) → timed gs ≡ true → Linked ν (space s) → ⊥
+    no-link ν t l = never (cc (t, untimed))
 
-      asleep-held : Held (S L) (L .sleeps) b waits-as then-at μ₃ false (atAlt gs k)
-      asleep-held =
-          let e : suc at ≡ i₀ + 2 + sizeEnable gs + 1 = omega arith in
-          h-wait c
-          (record {
-            place = upd-same μ₂ resume-word (L .off (suc at)) ∙ ap (L .off) e;
-            soon = omega (arith, soon-there, ap (L .off) e);
-          })
-          asleep-state asleep-none (λ d g. noticed-marked asleep-seen g) (noticed-unready asleep-seen) asleep-marks
+    altwt-ready : μ state-word ≡ ready → AnyPresent st gs → Goal (operation I.altwt)
+    unfolding functionIn operandIn
+    altwt-ready set-ready now =
+        let ν = μ₁ here (n .marks) in
+        goes-there here (n .marks) ν
+        (executes
+        (exec-altwt-ready (space s) s refl (mine-size L A c (base-mine L A c)) state-size (mine-holds L A c (state-mine L A c) set-ready)))
+        (none-yet here (n .marks)) (no-link ν)
+        (record {
+          marks = marks-there ν (marks₁ here (n .marks));
+          state = upd-other μ (space s) noneSelected state-word (λ e. base-state L A c (sym e)) ∙ set-ready;
+          chosen = inr (upd-same μ (space s) noneSelected, found-there ν (present-found ν (space s) now));
+          times = λ t. never (cc (t, untimed));
+          known = known-there ν (n .known);
+        })
 
-      altwt-waits : Goal (operation I.altwt)
-      unfolding functionIn operandIn
-      altwt-waits =
-          let no-ready : enabling ≢ ready = λ e. omega arith in
-          leaves-as L (asleep-shows .real) (A .leaf) (A .lined) (atAlt gs k) l-alt waits-as sits-there (rest-there (asleep-shows .rest))
-          (λ t f e. never (cc)) asleep-held (A .operand) comes-to
-          (λ v e f. executes
-          (exec-altwt-wait (space s) (L .off (suc at)) enabling s refl (A .placed) (mine-size L A c (base-mine L A c)) state-size
-          (mine-holds L A c (state-mine L A c) set-enabling) no-ready (mine-size L A c (resume-mine L A c))
-          ∙ e))
-          (silent L s asleep refl)
+    altwt-waits : μ state-word ≡ enabling → Noticed st (S L .word) μ (space s) gs noGuard → Goal (operation I.altwt)
+    unfolding functionIn operandIn
+    altwt-waits set-enabling seen =
+        let no-ready : enabling ≢ ready = λ e. omega arith in
+        waits-there here (n .marks) (no-link (μ₃ here (n .marks))) (asleep-held here (n .marks) (μ₃ here (n .marks)) (λ v m d. refl)
+        (λ d m. refl) seen (λ t. never (cc (t, untimed))) (n .known))
+        (λ v e. executes
+        (exec-altwt-wait (space s) (L .off (suc at)) enabling s refl (A .placed) (mine-size L A c (base-mine L A c)) state-size
+        (mine-holds L A c (state-mine L A c) set-enabling) no-ready (mine-size L A c (resume-mine L A c))
+        ∙ e))
 
-  pub does-altwt : at ≡ i₀ + 2 + sizeEnable gs → Enabled noGuard μ → Goal (operation I.altwt)
-  does-altwt here n =
-      ⊎-elim (λ m. altwt-waits here (n .marks) (m .0) (m .1)) (λ m. altwt-ready here (n .marks) (m .0) (m .1)) (n .state)
+    pub does-altwt : Goal (operation I.altwt)
+    does-altwt = ⊎-elim (λ m. altwt-waits (m .0) (m .1)) (λ m. altwt-ready (m .0) (m .1)) (n .state)

@@ -15,10 +15,11 @@ use Rattle.model.specs.Demand.{liveIn}
 use Rattle.model.proofs.Cases.{never}
 use Rattle.model.proofs.Quiet.Ways.{Mem}
 use Rattle.model.proofs.Quiet.Setting.{Setting}
+use Rattle.model.proofs.Quiet.Timing.{onto-same}
 use Rattle.model.proofs.Occam.Paths.{l-output, leaf-par, leaf-begin, live-begin, silent-begin, left, left-branches, same-path}
 use Rattle.model.proofs.Occam.Paths.{stmtAt, begun, started-found, look-started, look-put-same, look-put-other, look-put-below}
 use Rattle.model.proofs.Occam.Paths.{look-after, into, aside, Compared, equal, below, above, apart, compare, leaves-apart, Apart}
-use Rattle.model.proofs.Occam.Paths.{apart-differ, same-par, par-above, leaf-below}
+use Rattle.model.proofs.Occam.Paths.{apart-differ, same-par, par-above, leaf-below, isAlt, off-begin}
 use Rattle.model.proofs.Words.Parts.{Part, joins, partOf}
 use Rattle.model.proofs.Quiet.Marks.{Own, ParCode}
 use Rattle.model.proofs.Invariant.Trees.{some-same, distanceOf, Label, alone, parted, Info, newInfo, Tree, labelAt, rebuild, Rebuilt}
@@ -27,7 +28,7 @@ use Rattle.model.proofs.Invariant.Zones.{Zone, zoneOf}
 use Rattle.model.proofs.Invariant.Leaves.{Unmarked}
 use Rattle.model.proofs.Invariant.Stays.{Intact, held-stays}
 use Rattle.model.proofs.Invariant.Kernel.{Loaded, S, root, LeafAt, NodeAt, Owned, owned, Rest, whose, Lined, node, part-small}
-use Rattle.model.proofs.Invariant.Kernel.{sits-at}
+use Rattle.model.proofs.Invariant.Kernel.{sits-at, Dozer, at-wait, in-alt, dozer-out}
 use Rattle.model.proofs.Invariant.Puts.{putting}
 use Rattle.model.proofs.Invariant.Running.{Only}
 use Rattle.model.proofs.Invariant.Moving.{same-leaf}
@@ -215,6 +216,18 @@ module _ (L : Loaded) {st : State} {t : Tree (S L) (root L) (st .process)} {path
     not-branch h (branch-of l x) =
         never (cc (leaf-below path l [] (st .process) (at .found) (at .leaf), ap (λ y. look y (st .process)) x, h .found))
 
+    -- nor is one that may be in the timer queue the process that is parted
+    dozer-off : {other : List ℕ} {q : Process} {d : Part} {j : Info} → LeafAt L st t other q d j → Dozer L (Only path) other q
+        → path ≢ other
+    dozer-off h (at-wait n) e = n e
+    dozer-off h (in-alt x) e = never (cc (some-same (sym (at .found) ∙ ap (λ y. look y (st .process)) e ∙ h .found)))
+
+    dozer-back : {other : List ℕ} {q : Process} {d : Part} {j : Info} → Forked other q d j → Dozer L (Branch path) other q
+        → LeafAt L st t other q d j × Dozer L (Only path) other q
+    dozer-back (a-branch m r e f g) (at-wait n) = absurd (n (branch-of m f))
+    dozer-back (a-branch m r e f g) (in-alt x) = never (cc (x, ap isAlt g, off-begin r []))
+    dozer-back (aside-one a y) d = (y, dozer-out L (λ tm f e n. apart-differ a) d)
+
     pub fork-rest : Rest L forkState μ forkTree (Branch path) ws
     fork-rest =
         record {
@@ -232,15 +245,13 @@ module _ (L : Loaded) {st : State} {t : Tree (S L) (root L) (st .process)} {path
           leaf = λ h n. elim (which h) [
             | a-branch m r e f g ↦ absurd (n (branch-of m f))
             | aside-one a y ↦
-                held-stays (S L) _ _ (omega (arith, part-small L y, S L .top-small)) (sits-at L y) (fork-intact y) (λ t s. s)
+                held-stays (S L) _ _ (omega (arith, part-small L y, S L .top-small)) (sits-at L y) (fork-intact y) (onto-same refl)
                 (rest .leaf y (apart-differ a))
           ];
           par = fork-par;
-          sleepers = sleepers-by L (rest .sleepers) refl refl (λ v m. (refl, refl)) (λ other tm f d j h n. (fork-other n h, not-branch h))
-              (λ other tm f d j h n. elim (which h) [
-                | a-branch m r e x g ↦ absurd (n (branch-of m x))
-                | aside-one a y ↦ (y, apart-differ a)
-              ]);
+          sleepers = sleepers-by L (rest .sleepers) refl refl (λ other q d j h space z. (refl, refl))
+              (λ other q d j h z. (fork-other (dozer-off h z) h, dozer-out L (λ tm f e n. not-branch h) z))
+              (λ other q d j h z. dozer-back (which h) z);
         }
 
     pub fork-lined : Lined L st t (Only path) ws → Lined L forkState forkTree (Branch path) ws

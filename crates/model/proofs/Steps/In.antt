@@ -29,6 +29,7 @@ use Rattle.model.proofs.Quiet.Setting.{whole}
 use Rattle.model.proofs.Quiet.CodeParts.{inside}
 use Rattle.model.proofs.Occam.Paths.{l-input, l-output, leaf-resume, live-resume, silent-resume, same-path, look-put-same}
 use Rattle.model.proofs.Occam.Paths.{put-put-same, Apart, apart-sym as path-apart-sym, leaves-apart, look-put-other, put-put-apart}
+use Rattle.model.proofs.Occam.Paths.{off-resume}
 use Rattle.model.proofs.Words.Parts.{Part, Fine}
 use Rattle.model.proofs.Quiet.Continuations.{Placed, Cont, cont-placed}
 use Rattle.model.proofs.Quiet.Marks.{Own, own-name}
@@ -180,8 +181,9 @@ module _ (L : Loaded) {s : World} {st : State} {μ : Mem} {t : Tree (S L) (root 
         let few : whole (S L) ≤ whole (S L) = omega arith in
         let live = live-resume k (i .vars) (A .rest .live (A .leaf)) in
         let quiet : Silent (resume k) = λ c v f e. silent-resume k e in
-        let now = goes-as L real₀ leaf₀ rest₀ lines₀ clean₀ (before-silent (input c x) k) (resume k) (leaf-resume k) j placed few
-        (rest₀ .vars (node L leaf₀)) (rest₀ .chans (node L leaf₀)) live quiet in
+        let now = goes-as L real₀ leaf₀ rest₀ lines₀ clean₀ (before-silent (input c x) k) (λ e. never (cc)) (resume k) (leaf-resume k) j
+        placed few
+        (rest₀ .vars (node L leaf₀)) (rest₀ .chans (node L leaf₀)) live quiet (off-resume k) in
         then-settles L took (omega arith) executed (talk-is)
         (settle L (real-state L (put path (resume k) (st .process)) (store x v (st .store)) real₀)
         (here-then L leaf₀ (resume k) (leaf-resume k) j _) now (lined-then L leaf₀ (resume k) (leaf-resume k) j _ refl lines₀)
@@ -218,8 +220,8 @@ module _ (L : Loaded) {s : World} {st : State} {μ : Mem} {t : Tree (S L) (root 
 
     rest₃ : Rest L st ν₃ t (Only path) ws
     rest₃ =
-        rest-below L (A .leaf) refl placed (stateWord w) (S L .word x) (s-low .0) (s-low .1)
-        (rest-below L (A .leaf) refl placed (resumeWord w) (cpuOf s .place) (r-low .0) (r-low .1)
+        rest-below L (A .leaf) refl placed (stateWord w) (S L .word x) (s-low .0) (s-low .1) (λ e. never (cc))
+        (rest-below L (A .leaf) refl placed (resumeWord w) (cpuOf s .place) (r-low .0) (r-low .1) (λ e. never (cc))
         (mark-chan L (A .leaf) refl (A .rest) c (f .2) (nameOf w) own-w empty))
 
     real₃ : Real L (parked (S L .word c) w (cpuOf s .place) (S L .word x) s) st ν₃ ws
@@ -259,7 +261,7 @@ module _ (L : Loaded) {s : World} {st : State} {μ : Mem} {t : Tree (S L) (root 
         leaves-as L real₃ (A .leaf) (A .lined) (atInput c x k) l-input j sits-j
         (rest-then L (A .leaf) (atInput c x k) l-input j sits-j rest₃ refl (rest₃ .vars (node L (A .leaf)))
         (rest₃ .chans (node L (A .leaf))) (A .rest .live (A .leaf)) (λ d m o. m) (λ d v g e other r p z y n m. never (cc))
-        (λ d v g e other r p z y n m q o. never (cc)))
+        (λ d v g e other r p z y n m q o. never (cc)) (λ e. never (cc)) (λ e. never (cc)))
         (λ t f e. never (cc)) (h-input (record {
           scope = f .2;
           onward = cont;
@@ -350,7 +352,7 @@ module _ (L : Loaded) {s : World} {st : State} {μ : Mem} {t : Tree (S L) (root 
     woken : Woken L s₂ (putting other (resume l) st₂) η
         (treeThen L sender₂ (resume l) (leaf-resume l) j (sits-at L sender₂)) (Only path) (j .w) ws
     woken =
-        partner-goes L real₂ rest₂ lines₂ sender₂ apart waits sender-same refl sender-clean
+        partner-goes L real₂ rest₂ lines₂ sender₂ apart waits sender-same refl refl sender-clean
         (λ a y q e here p z n k o i. apart-parts L (after-leaf L (A .leaf)) k (λ w. o (inl w)) .inputs c (f .3)
         (subst (λ g. List·Memᴰ g (z .inputs)) (output-channel (sym e)) i))
 
@@ -416,9 +418,9 @@ module _ (L : Loaded) {s : World} {st : State} {μ : Mem} {t : Tree (S L) (root 
         let live = live-resume k (i .vars) (A .rest .live (A .leaf)) in
         let quiet : Silent (resume k) = λ c v f e. silent-resume k e in
         let real₃ = real-talk L (u₃ .talk) (woken .real) in
-        let now = goes-as L real₃ leaf₃ (woken .rest) (woken .lines) clean₃ (before-silent (input c x) k) (resume k)
+        let now = goes-as L real₃ leaf₃ (woken .rest) (woken .lines) clean₃ (before-silent (input c x) k) (λ e. never (cc)) (resume k)
         (leaf-resume k) i′ placed few
-        (woken .rest .vars (node L leaf₃)) (woken .rest .chans (node L leaf₃)) live quiet in
+        (woken .rest .vars (node L leaf₃)) (woken .rest .chans (node L leaf₃)) live quiet (off-resume k) in
         then-settles L meets (omega arith) executed₃ refl
         (settle L (real-state L (put path (resume k) (st₃ .process)) (st₃ .store) real₃)
         (here-then L leaf₃ (resume k) (leaf-resume k) i′ _) now (lined-then L leaf₃ (resume k) (leaf-resume k) i′ _ refl (woken .lines))
@@ -429,7 +431,8 @@ module _ (L : Loaded) {s : World} {st : State} {μ : Mem} {t : Tree (S L) (root 
       → Did L (Executes L (operation I.«in») s) s st (bytesLeft (S L) t)
   by-holder free (holds-input y n e z tg inp none-sends) = absurd (apart-parts L (A .leaf) y n .inputs c (f .3) inp)
   by-holder free (holds-output y n e z out low v small) = did-receive y n e z low v small free
-  by-holder free (holds-wait y n e a r g v all un mk here guarded inp) = absurd (apart-parts L (A .leaf) y n .inputs c (f .3) inp)
+  by-holder free (holds-wait y n e a r g v all un mk dozes known here guarded inp) =
+      absurd (apart-parts L (A .leaf) y n .inputs c (f .3) inp)
   by-holder free (holds-woken y n e a r g d here guarded inp) = absurd (apart-parts L (A .leaf) y n .inputs c (f .3) inp)
   by-holder free (holds-out y e m o) =
       absurd (clean c (f .2) (same-leaf L (λ q d (j : Info). Own d (μ (S L .word c))) (sym e) y (A .leaf) o))

@@ -15,15 +15,15 @@ use Rattle.model.specs.Instruction as I
 use Rattle.model.specs.Code.{functionIn, operandIn}
 use Rattle.model.specs.Scheme.{code}
 use Rattle.model.specs.Machine.{World, withCpu, pop}
-use Rattle.model.specs.Occam.{Store, zeros, Frame, inVar, Process, before, begin, go, State, process, Step, begins}
-use Rattle.model.proofs.Cases.{by-bool}
+use Rattle.model.specs.Occam.{Store, zeros, Frame, inVar, before, begin, go, State, process, Step, begins}
+use Rattle.model.proofs.Cases.{by-bool, never}
 use Rattle.model.proofs.Tables.Sites.{isIn-mem, mem-isIn}
 use Rattle.model.proofs.Quiet.Ways.{upd-same, upd-other, upd, Regs, regsOf, Quiet, pushing, Mem, arrived, quiet, quiet-ldc}
 use Rattle.model.proofs.Quiet.Ways.{quiet-mint}
 use Rattle.model.proofs.Quiet.Stretches.{Seg, seg-length}
 use Rattle.model.proofs.Quiet.Setting.{whole, At}
 use Rattle.model.proofs.Quiet.CodeParts.{inside, rises-le, named, named-in}
-use Rattle.model.proofs.Occam.Paths.{leaf-begin, live-begin, silent-begin, same-path}
+use Rattle.model.proofs.Occam.Paths.{leaf-begin, live-begin, silent-begin, same-path, off-begin}
 use Rattle.model.proofs.Words.Parts.{Part, Fine}
 use Rattle.model.proofs.Quiet.Continuations.{Placed, placed-vars, placed-chans, Cont, c-var, c-chan, cont-inside, cont-bound}
 use Rattle.model.proofs.Quiet.Continuations.{cont-placed}
@@ -57,13 +57,13 @@ module _ (L : Loaded) where
         chans = λ c m. inl refl;
         sends = λ c m s. sender-stored L s;
         none-sends = λ c m g o s. sender-kept L s;
-      }) refl
+      }) refl (λ path q b i k space d. (refl, refl))
       (λ path l n x m e k. (same path l n x m ∙ e, subst (λ v. v < 2 ^ 32) (sym (same path l n x m)) k)) (λ path l n c m. inl refl)
       (λ path a vs cs w onward n. (refl, refl))
 
-  module _ {s : World} {st : State} {μ : Mem} {t : Tree (S L) (root L) (st .process)} {path : List ℕ} {q : Process} {b : Part} {i : Info}
-      {ws : List ℕ} {at hi : ℕ} (A : Acting L s st μ t path q b i (Only path) ws at hi) (clean : Unmarked (S L) b i st μ)
-      {f : Instruction} {p n : ℕ}
+  module _ {s : World} {st : State} {μ : Mem} {t : Tree (S L) (root L) (st .process)} {path : List ℕ} {y : Stmt} {g : List Frame} {b : Part}
+      {i : Info} {ws : List ℕ} {at hi : ℕ} (A : Acting L s st μ t path (before y g) b i (Only path) ws at hi)
+      (clean : Unmarked (S L) b i st μ) {f : Instruction} {p n : ℕ}
       {d : Stmt} {k : List Frame} {h c j : ℕ} (op : Opening (S L) b f p n d (i .vars) (i .chans) k h c (cpuOf s .workspace)) (l : j < n)
       (e : at ≡ suc (c + (j + j))) (v : ℕ) (val : cpuOf s .a ≡ v)
       (filled : (m : ℕ) → m < j → μ (cpuOf s .workspace + m) ≡ v) where
@@ -89,7 +89,7 @@ module _ (L : Loaded) where
     below-j = omega arith
 
     rest₀ : Rest L st ν t (Only path) ws
-    rest₀ = rest-below L (A .leaf) refl outer (w + j) v low-j below-j (A .rest)
+    rest₀ = rest-below L (A .leaf) refl outer (w + j) v low-j below-j (λ e. never (cc)) (A .rest)
 
     real₀ : Real L u st ν ws
     real₀ = real-cpu L (pop (cpuOf s)) refl refl refl (real-below L (A .leaf) refl outer (w + j) v low-j below-j (A .lined) (A .real))
@@ -113,8 +113,8 @@ module _ (L : Loaded) where
         by (no g) = upd-other μ (w + j) v (w + m) (λ z. g (omega arith)) ∙ filled m (omega arith)
 
     -- a store but the last
-    pub init-next : suc j < n → h ≤ hi → ((p : ℕ) → Quiet p (functionIn f) (operandIn (L .off) f) (pushing v)) → Settled q
-        → ((r : Regs) → r .w ≡ w → r .a ≡ v → Point (S L) b (st .store) (i .vars) (i .chans) q hi ν (suc (suc at)) r)
+    pub init-next : suc j < n → h ≤ hi → ((p : ℕ) → Quiet p (functionIn f) (operandIn (L .off) f) (pushing v)) → Settled (before y g)
+        → ((r : Regs) → r .w ≡ w → r .a ≡ v → Point (S L) b (st .store) (i .vars) (i .chans) (before y g) hi ν (suc (suc at)) r)
         → Did L (Executes L (plain I.stl j) s) s st (bytesLeft (S L) t)
     init-next more le intact settled pt =
         let again : c + (suc j + suc j) ≡ suc at = omega arith in
@@ -227,13 +227,14 @@ module _ (L : Loaded) where
         (List·Memᴰ·append-cases xs m)) in
         let quiet : Silent process = λ c v f e. silent-begin d (inVar xs ∷ k) e in
         let lines = after-lined L (A .lined) in
-        let now = goes-as L real leaf-var rest-var lines clean-var (before-silent (VAR p n d) k) process
+        let now = goes-as L real leaf-var rest-var lines clean-var (before-silent (VAR p n d) k) (λ e. never (cc)) process
         (leaf-begin d (inVar xs ∷ k)) inside-info
-        placed few (vars-ok last) (rest-var .chans (node L leaf-var)) live quiet in
+        placed few (vars-ok last) (rest-var .chans (node L leaf-var)) live quiet (off-begin d (inVar xs ∷ k)) in
         let sound = sound-at L now (here-then L leaf-var process (leaf-begin d (inVar xs ∷ k)) inside-info _) in
-        advances L real leaf-var rest-var lines clean-var (before-silent (VAR p n d) k) process
+        advances L real leaf-var rest-var lines clean-var (before-silent (VAR p n d) k) (λ e. never (cc)) process
         (leaf-begin d (inVar xs ∷ k)) inside-info placed few
-        (vars-ok last) (rest-var .chans (node L leaf-var)) live quiet entered (executed A clean op l e 0 val filled)
+        (vars-ok last) (rest-var .chans (node L leaf-var)) live quiet (off-begin d (inVar xs ∷ k)) entered
+        (executed A clean op l e 0 val filled)
         (silent L s (u A clean op l e 0 val filled) refl)
         (record { run = A .run; operand = A .operand; place = A .placed; work = refl; inside = A .inside })
         (enters (S L) b σ₀ d (body-at A clean op l e 0 val filled last) fine after near-on sound
@@ -285,11 +286,14 @@ module _ (L : Loaded) where
         λ a m. ⊎-elim (λ g. inl (filled-name A clean op l e notProcess val filled last a g)) (λ g. rest-chan .chans (node L (A .leaf)) a g)
         (List·Memᴰ·append-cases cs m) in
         let quit = clean₀ A clean op l e notProcess val filled in
-        let now = goes-as L real (A .leaf) rest-chan (A .lined) quit (before-silent (CHAN p n d) k) (begin d k) (leaf-begin d k) chan-info
-        placed few (rest-chan .vars (node L (A .leaf))) chans-ok live quiet in
+        let now = goes-as L real (A .leaf) rest-chan (A .lined) quit (before-silent (CHAN p n d) k) (λ e. never (cc)) (begin d k)
+        (leaf-begin d k) chan-info
+        placed few (rest-chan .vars (node L (A .leaf))) chans-ok live quiet (off-begin d k) in
         let sound = sound-at L now (here-then L (A .leaf) (begin d k) (leaf-begin d k) chan-info _) in
-        advances L real (A .leaf) rest-chan (A .lined) quit (before-silent (CHAN p n d) k) (begin d k) (leaf-begin d k) chan-info placed few
-        (rest-chan .vars (node L (A .leaf))) chans-ok live quiet entered-chan (executed A clean op l e notProcess val filled)
+        advances L real (A .leaf) rest-chan (A .lined) quit (before-silent (CHAN p n d) k) (λ e. never (cc)) (begin d k) (leaf-begin d k)
+        chan-info placed few
+        (rest-chan .vars (node L (A .leaf))) chans-ok live quiet (off-begin d k) entered-chan
+        (executed A clean op l e notProcess val filled)
         (silent L s (u A clean op l e notProcess val filled) refl)
         (record { run = A .run; operand = A .operand; place = A .placed; work = refl; inside = A .inside })
         (enters (S L) b (st .store) d (body-at A clean op l e notProcess val filled last) fine after near-on sound

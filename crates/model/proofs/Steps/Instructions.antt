@@ -3,14 +3,14 @@ use Prim.Native.Nat.{ℕ, suc, _+_, _-_, _≤_}
 use native.Mathlib.Omega.{arith}
 use mathlib.Core.Path.{_≡_, refl, sym, _∙_, subst}
 use mathlib.Core.Logic.{_≢_, inl}
-use mathlib.Core.Bool.{true, false}
+use mathlib.Core.Bool.{true}
 use mathlib.Core.List.{List, [], _∷_, _++_, List·Memᴰ}
 use lib.ListN.{length}
 use Rattle.model.specs.Syntax.{Site, Stmt, noStmt, stmt, assign}
-use Rattle.model.specs.Instruction.{Instruction, plain, distance, operation}
+use Rattle.model.specs.Instruction.{Instruction, plain, distance}
 use Rattle.model.specs.Instruction as I
 use Rattle.model.specs.Code.{functionIn, operandIn}
-use Rattle.model.specs.Word.{low, less, after}
+use Rattle.model.specs.Word.{low, less}
 use Rattle.model.specs.Machine.{World, withCpu, goto}
 use Rattle.model.specs.declared.Cpu.{Cpu}
 use Rattle.model.specs.Occam.{Process, State, now, eval, begins, stores, go}
@@ -22,7 +22,7 @@ use Rattle.model.proofs.Words.Parts.{Part}
 use Rattle.model.proofs.Quiet.Marks.{Point, pt-stop, pt-assign, pt-var, pt-chan, pt-taken, pt-none, pt-while, pt-in, pt-out}
 use Rattle.model.proofs.Quiet.Marks.{pt-par-place, pt-par-count, pt-end, pt-alt, Spare, Settled, pt-read, pt-store, pt-wait-for}
 use Rattle.model.proofs.Quiet.Arrivals.{Goes, Comes}
-use Rattle.model.proofs.Quiet.Onwards.{AltGoes, alt-goes, Starts}
+use Rattle.model.proofs.Quiet.Onwards.{AltGoes, alt-goes, Starts, Tied}
 use Rattle.model.proofs.Invariant.Trees.{some-same, Info, Tree, bytesLeft}
 use Rattle.model.proofs.Invariant.Leaves.{Unmarked}
 use Rattle.model.proofs.Effects.OneWord.{cpuOf, exec-cj-jumps}
@@ -35,24 +35,18 @@ use Rattle.model.proofs.Invariant.Reals.{real-cpu}
 use Rattle.model.proofs.Quiet.PathEnds.{way-bound, start-in}
 use Rattle.model.proofs.Invariant.Finish.{silent}
 use Rattle.model.proofs.Steps.Quiets.{reached, Carries, carries-goes, carries-alt, pass-quiet, pass-loads, pass-stores, pass-reloads}
-use Rattle.model.proofs.Steps.Quiets.{pass-falls, pass-jumps}
+use Rattle.model.proofs.Steps.Quiets.{pass-falls, pass-jumps, calm-settled, calm-alt}
 use Rattle.model.proofs.Steps.Basics.{before-silent, did-store, did-taken, did-none, did-while, did-stop}
 use Rattle.model.proofs.Steps.Times.{did-read}
 use Rattle.model.proofs.Steps.Tin.{did-tin}
 use Rattle.model.proofs.Steps.In.{did-in}
 use Rattle.model.proofs.Steps.Outword.{did-out}
 use Rattle.model.proofs.Steps.Initialise.{did-var-store, did-chan-store}
-use Rattle.model.proofs.Steps.Enabling.{alt-begins}
-use Rattle.model.proofs.Steps.Disabling.{same-does, alt-point}
+use Rattle.model.proofs.Steps.AltPoints.{Told, same-does, alt-begins-at, alt-point}
 use Rattle.model.proofs.Steps.ParStarts.{did-place, count-one, count-more}
 use Rattle.model.proofs.Steps.Startp.{branch-differ, did-start}
 use Rattle.model.proofs.Steps.Endp.{did-end}
-
--- at a TIN what is known of a process that waits for the clock is known of the one at work, where its time is still to come
-abbrev pub Told : Loaded → Instruction → World → Type 0
-Told L x s =
-    let c = s .machine .timer .clock in
-    x ≡ operation I.tin → after c (cpuOf s .a) ≡ false → L .sleeps (cpuOf s .workspace) (cpuOf s .a) c
+use Rattle.model.proofs.Invariant.Writes.{Calm}
 
 module _ (L : Loaded) {s : World} {st : State} {μ : Mem} {t : Tree (S L) (root L) (st .process)} {path : List ℕ} {b : Part} {i : Info}
     {ws : List ℕ} {x : Instruction} where
@@ -64,12 +58,12 @@ module _ (L : Loaded) {s : World} {st : State} {μ : Mem} {t : Tree (S L) (root 
   point-acts here A told clean (pt-stop a c) = same-does L _ here a (did-stop L A clean c)
   point-acts here A told clean (pt-assign {x = y} {e} {k} {o} a w f v small c n) =
       same-does L _ here a
-      (did-store L y (eval (st .store) e) k A o w (f .0) v small c n clean (before-silent (assign y e) k) (A .rest .live (A .leaf))
+      (did-store L y (eval (st .store) e) k A o w (f .0) v small c n clean (before-silent (assign y e) k) refl (A .rest .live (A .leaf))
       (begins path (A .leaf .found)))
   point-acts here A told clean (pt-read a y w f c l n) = same-does L _ here a (did-read L A y w f c l n clean)
   point-acts here A told clean (pt-store {x = y} {v} {k} {o} a w f e small c n) =
       same-does L _ here a
-      (did-store L y v k A o w f e small c n clean (λ d z f g. never (cc)) (A .rest .live (A .leaf)) (stores path (A .leaf .found)))
+      (did-store L y v k A o w f e small c n clean (λ d z f g. never (cc)) refl (A .rest .live (A .leaf)) (stores path (A .leaf .found)))
   point-acts here A told clean (pt-var {j = m′} op f l j e z m) =
       same-does L _ here (subst (λ n. At (S L) n (plain I.stl m′)) (sym e) (op .inits _ j .1)) (did-var-store L A clean op f l j e z m)
   point-acts here A told clean (pt-chan {j = m′} op f l j e z m) =
@@ -88,15 +82,16 @@ module _ (L : Loaded) {s : World} {st : State} {μ : Mem} {t : Tree (S L) (root 
       (did-tin L A v small f c n clean
       (λ ahead.
       let k : s .machine .timer .clock ≡ now st = A .real .timed .clock-read in
-      let known = told (some-same (sym here ∙ a)) (rw (k, v) ahead) in
+      let known = told .waits (some-same (sym here ∙ a)) (rw (k, v) ahead) in
       subst (λ y. L .sleeps (cpuOf s .workspace) y (now st)) v (subst (λ y. L .sleeps (cpuOf s .workspace) (cpuOf s .a) y) k known)))
-  point-acts here A told clean (pt-alt c l) = same-does L _ here (c .begins) (alt-begins L A c refl l clean)
+  point-acts here A told clean (pt-alt c l) = alt-begins-at L A c here l clean
 
   -- on a path of some kind, where it is known what its significant instructions and its jumps do
   module _ {at hi : ℕ} {q : Process} (here : At (S L) at x) (A : Acting L s st μ t path q b i (Only path) ws at hi)
       {P : ℕ → Mem → ℕ → Regs → Type 0} {E : Type 0} {R : Site → Type 0} {Free C : ℕ → Type 0}
       (carry : Carries L A (Way (S L .xs) (S L .off) (S L .word) P E (st .store) R Free C))
       (mine : (y : Site) → R y → List·Memᴰ y (i .vars)) (own : (v : ℕ) → Free v → Spare (S L) b (i .vars) (i .chans) v)
+      (calm : (v : ℕ) → Free v → Calm L q i v)
       (point : P hi μ at (regsOf (cpuOf s)) → Did L (Executes L x s) s st (bytesLeft (S L) t))
       (jump : (k hi′ : ℕ) → At (S L) at (distance I.j k at) → k ≤ length (S L .xs) → C (cpuOf s .workspace)
       → hi′ + L .off (suc at) ≤ hi + L .off k
@@ -110,7 +105,7 @@ module _ (L : Loaded) {s : World} {st : State} {μ : Mem} {t : Tree (S L) (root 
     acts (through e h f) = absurd (omega (arith, inside (S L) here))
     acts (quiet g a c v) = same-does L _ here a (pass-quiet L A Path carry g c v)
     acts (loads {o} y a e l v) = same-does L _ here a (pass-loads L A Path carry o y e (mine y l) v)
-    acts (stores {o} v a e m w) = same-does L _ here a (pass-stores L A Path carry o v e (own v m) w)
+    acts (stores {o} v a e m w) = same-does L _ here a (pass-stores L A Path carry o v e (own v m) (calm v m) w)
     acts (reloads {o} v a e m w) = same-does L _ here a (pass-reloads L A Path carry o v e (own v m) w)
     acts (jumps a k c reach v) = jump _ _ a k c reach v
     acts (falls a k z f v) = same-does L _ here a (pass-falls L A Path carry k z f v)
@@ -120,14 +115,17 @@ module _ (L : Loaded) {s : World} {st : State} {μ : Mem} {t : Tree (S L) (root 
       → Unmarked (S L) b i st μ
       → Goes (S L) b (st .store) (i .vars) (i .chans) q hi μ at (regsOf (cpuOf s)) → Did L (Executes L x s) s st (bytesLeft (S L) t)
   way-acts here A told settled clean way =
-      acts here A (carries-goes L A settled clean) (λ y l. l .0) (λ v m. m) (point-acts here A told clean)
+      acts here A (carries-goes L A settled clean) (λ y l. l .0) (λ v m. m) (λ v m. calm-settled L A settled v)
+      (point-acts here A told clean)
       (λ k hi a h c reach v. same-does L _ here a (pass-jumps L A h c reach v settled clean)) way
 
   -- in an ALT
-  pub alt-acts : {at hi : ℕ} {q : Process} → At (S L) at x → Acting L s st μ t path q b i (Only path) ws at hi
-      → AltGoes (S L) b st (i .vars) (i .chans) q hi μ at (regsOf (cpuOf s)) → Did L (Executes L x s) s st (bytesLeft (S L) t)
-  alt-acts here A (alt-goes w way) =
-      acts here A (carries-alt L A w) (λ y l. l .0) (λ v m. m .0) (λ p. alt-point L (L .one-way) A here (p .0))
+  pub alt-acts : {at hi : ℕ} {q : Process} → At (S L) at x → Acting L s st μ t path q b i (Only path) ws at hi → Told L x s
+      → AltGoes (S L) b (L .times) st (i .vars) (i .chans) q (i .w) hi μ at (regsOf (cpuOf s)) → Did L (Executes L x s) s st
+      (bytesLeft (S L) t)
+  alt-acts {q = q} here A told (alt-goes w tied way) =
+      acts here A (carries-alt L A w tied) (λ y l. l .0) (λ v m. m .0) (λ v m. calm-alt L A tied m)
+      (λ p. alt-point L (L .one-way) A here told (subst (λ z. Tied q z (i .w)) (sym (p .1)) tied) (p .0))
       (λ k hi a h c reach v. absurd c) way
 
 -- the first branch of a PAR, on its way to start the next one
@@ -145,7 +143,7 @@ module _ (L : Loaded) {s : World} {st : State} {μ : Mem} {t : Tree (S L) (root 
       → Starts (S L) (st .store) (B .s) (B .ss) (B .d) (B .b) (B .first) (B .w) hi μ k (regsOf r) → Did L did s st (bytesLeft (S L) t)
   starts-on r k real leaf₀ rest₀ lines₀ ran e₁ e₂ e₃ run here soon some-left way =
       let n = i .left - 1 in
-      elim (relabel L leaf₀ (inl refl) (i .w) n (sits-at L leaf₀ .placed) (omega (arith, sits-at L leaf₀ .few)) rest₀ lines₀) [
+      elim (relabel L leaf₀ (inl refl) (i .w) n (λ e. refl) (sits-at L leaf₀ .placed) (omega (arith, sits-at L leaf₀ .few)) rest₀ lines₀) [
         | relabelled u leaf rest lines e others ↦
             came (withCpu r s) [] ran t-none (silent L s (withCpu r s) refl)
             (starts B (real-cpu L r e₁ e₂ e₃ real) run leaf rest lines

@@ -3,7 +3,7 @@ use Prim.Native.Nat.{ℕ, _≤_, _<_}
 use native.Mathlib.Omega.{arith}
 use mathlib.Core.Path.{_≡_, refl, sym, _∙_, subst}
 use mathlib.Core.Logic.{_≢_, _⊎_, inl, inr, ⊎-elim}
-use mathlib.Core.Bool.{true}
+use mathlib.Core.Bool.{true, false}
 use mathlib.Core.List.{List, List·Memᴰ}
 use Rattle.model.specs.Word.{notProcess}
 use Rattle.model.specs.Limits.{wordLimit}
@@ -11,10 +11,12 @@ use Rattle.model.specs.Syntax.{Site}
 use Rattle.model.specs.Machine.{World, resumeWord}
 use Rattle.model.specs.Occam.{Frame, Process, atOutput, framesOf, put, resume, State}
 use Rattle.model.specs.Demand.{liveIn}
+use Rattle.model.proofs.Cases.{never}
 use Rattle.model.proofs.Quiet.Names.{none-high}
 use Rattle.model.proofs.Quiet.Ways.{upd-other, upd, Mem}
 use Rattle.model.proofs.Quiet.Setting.{Setting}
-use Rattle.model.proofs.Occam.Paths.{leaf-resume, live-resume, silent-resume}
+use Rattle.model.proofs.Occam.Paths.{leaf-resume, live-resume, silent-resume, isAlt, off-resume}
+use Rattle.model.proofs.Quiet.Timing.{Times}
 use Rattle.model.proofs.Words.Parts.{Part}
 use Rattle.model.proofs.Quiet.Continuations.{Placed, cont-inside}
 use Rattle.model.proofs.Quiet.Marks.{Own}
@@ -22,7 +24,7 @@ use Rattle.model.proofs.Quiet.Arrivals.{Sound, arrives}
 use Rattle.model.proofs.Invariant.Trees.{Info, Tree}
 use Rattle.model.proofs.Invariant.Leaves.{Unmarked, Waits, Held, h-queued}
 use Rattle.model.proofs.Invariant.Kernel.{Loaded, S, root, LeafAt, owned, Rest, Lined, Real, node, part-small, sits-at}
-use Rattle.model.proofs.Invariant.Writes.{apart-parts, own-one, write-own, write-chan, left-out}
+use Rattle.model.proofs.Invariant.Writes.{apart-parts, own-one, write-own, write-chan, left-out, Calm}
 use Rattle.model.proofs.Invariant.Puts.{putting, treeThen, here-then, lined-then, rest-then}
 use Rattle.model.proofs.Invariant.Grounds.{small-size, sound-at}
 use Rattle.model.proofs.Invariant.Running.{Only}
@@ -39,10 +41,10 @@ pub not-own : (b : Part) → b .top ≤ wordLimit → Own b notProcess → ⊥
 not-own b h o = absurd (omega (arith, o .below, none-high))
 
 -- a process that waited goes on, once its channel's word is another
-pub resumed : (S : Setting) {sleeps : (w t clock : ℕ) → Type 0} (b : Part) (i : Info) {st st′ : State} {μ ν : Mem} {c : Site}
+pub resumed : (S : Setting) {T : Times} (b : Part) (i : Info) {st st′ : State} {μ ν : Mem} {c : Site}
     {k : List Frame} {at hi m : ℕ}
     → Waits S b i st μ c k at hi m → ν (resumeWord (i .w)) ≡ μ (resumeWord (i .w)) → Unmarked S b i st′ ν
-    → Sound S b (st′ .store) (i .vars) (i .chans) → Held S sleeps b i st′ ν true (resume k)
+    → Sound S b (st′ .store) (i .vars) (i .chans) → Held S T b i st′ ν true (resume k)
 resumed S b i {st′ = st′} w same clean sound =
     h-queued (arrives S b (st′ .store) (w .onward) (w .near) sound)
     (record { place = same ∙ w .resumes .place; soon = w .resumes .soon }) (cont-inside S b (w .onward)) clean
@@ -93,9 +95,9 @@ module _ (L : Loaded) where
   -- a word of a process's own below its workspace
   pub rest-below : {st : State} {μ : Mem} {t : Tree (S L) (root L) (st .process)} {Out : List ℕ → Type 0} {ws : List ℕ} {path : List ℕ}
       {q : Process} {b : Part} {i : Info} {w : ℕ} → LeafAt L st t path q b i → Out path → Placed (S L) b w (i .vars) (i .chans) → (v z : ℕ)
-      → b .bottom ≤ v → v < w → Rest L st μ t Out ws → Rest L st (upd μ v z) t Out ws
-  rest-below leaf out placed v z low below rest =
-      write-own L leaf rest v z low (omega (arith, placed .low)) (var-above placed v below) (chan-above placed v below) (left-out out)
+      → b .bottom ≤ v → v < w → Calm L q i v → Rest L st μ t Out ws → Rest L st (upd μ v z) t Out ws
+  rest-below leaf out placed v z low below calm rest =
+      write-own L leaf rest v z low (omega (arith, placed .low)) (var-above placed v below) (chan-above placed v below) (left-out out calm)
 
   pub real-below : {s : World} {st : State} {μ : Mem} {t : Tree (S L) (root L) (st .process)} {Out : List ℕ → Type 0} {ws : List ℕ}
       {path : List ℕ} {q : Process} {b : Part} {i : Info} {w : ℕ} → LeafAt L st t path q b i → Out path
@@ -116,7 +118,7 @@ module _ (L : Loaded) where
       (leaf : LeafAt L st t other r d j) (apart : path ≢ other) {st₀ : State} {μ₀ : Mem}
       {c : Site} {k : List Frame}
       {at hi m : ℕ} (waits : Waits (S L) d j st₀ μ₀ c k at hi m) (same : μ (resumeWord (j .w)) ≡ μ₀ (resumeWord (j .w)))
-      (frames : framesOf r ≡ k) (clean : Unmarked (S L) d j st μ)
+      (frames : framesOf r ≡ k) (off : isAlt r ≡ false) (clean : Unmarked (S L) d j st μ)
       (lost : (a : Site) (v : ℕ) (l : List Frame) → r ≡ atOutput a v l → (here : List ℕ) (p : Process) (e : Part) (n : Info)
       → LeafAt L st t here p e n → (Both path other here → ⊥) → List·Memᴰ a (e .inputs) → ⊥) where
     abbrev pub then : State
@@ -127,12 +129,12 @@ module _ (L : Loaded) where
         rest-then L leaf (resume k) (leaf-resume k) j (sits-at L leaf) rest (inr refl) (rest .vars (node L leaf))
         (rest .chans (node L leaf))
         (live-resume k (j .vars) (λ x m. rest .live leaf x (subst (λ z. List·Memᴰ x (liveIn z)) (sym frames) m))) (λ a m o. m) lost
-        (λ a v l e here p q n y z m g o. silent-resume k e)
+        (λ a v l e here p q n y z m g o. silent-resume k e) (λ e. never (cc (e, off))) (λ e. never (cc (e, off-resume k)))
 
     pub partner-leaf : LeafAt L then (treeThen L leaf (resume k) (leaf-resume k) j (sits-at L leaf)) other (resume k) d j
     partner-leaf = here-then L leaf (resume k) (leaf-resume k) j (sits-at L leaf)
 
-    pub partner-held : Held (S L) (L .sleeps) d j then μ true (resume k)
+    pub partner-held : Held (S L) (L .times) d j then μ true (resume k)
     partner-held = resumed (S L) d j waits same clean (sound-at L partner-rest partner-leaf)
 
     pub partner-lines : Lined L then (treeThen L leaf (resume k) (leaf-resume k) j (sits-at L leaf)) (Both path other) ws

@@ -2,20 +2,20 @@
 use Prim.Native.Nat.{ℕ, suc, _+_, _^_, _≤_, _<_}
 use native.Mathlib.Omega.{arith}
 use native.Mathlib.Decide.{ℕ-discrete}
-use mathlib.Core.Path.{_≡_, refl, sym, ap, _∙_, subst}
+use mathlib.Core.Path.{_≡_, refl, sym, ap, ap₂, _∙_, subst}
 use mathlib.Core.Logic.{_≢_, inl, inr, ⊎-elim}
 use mathlib.Core.Bool.{true, false}
 use mathlib.Core.List.{List, [], _∷_, _++_, List·Memᴰ}
 use borrow.Author.Tests.{ne-eqb}
-use Rattle.model.specs.Word.{notProcess}
+use Rattle.model.specs.Word.{after, notProcess}
 use Rattle.model.specs.Limits.{wordLimit}
-use Rattle.model.specs.Syntax.{Site, Expr, Guard, Guards, output}
+use Rattle.model.specs.Syntax.{Site, Expr, Stmt, Guard, inputGuard, skipGuard, timeGuard, Guards, noGuard, guard, timed, output}
 use Rattle.model.specs.Instruction.{plain, operation}
 use Rattle.model.specs.Instruction as I
 use Rattle.model.specs.Code.{functionIn, operandIn}
-use Rattle.model.specs.Machine.{World, release, _>>_, resumeWord, stateWord, nameOf, talks}
+use Rattle.model.specs.Machine.{World, release, _>>_, resumeWord, stateWord, timeLinkWord, timeWord, nameOf, talks}
 use Rattle.model.specs.Occam.{eval, isTrue, store, Frame, Process, before, atInput, atOutput, atAlt, resume, go, put, State}
-use Rattle.model.specs.Occam.{over-channel, Sender, process, Ready, by-input, by-skip, Step, begins, communicates}
+use Rattle.model.specs.Occam.{over-channel, Sender, process, Ready, by-input, by-skip, by-time, Step, begins, communicates, now}
 use Rattle.model.specs.Demand.{step}
 use Rattle.model.proofs.Cases.{never}
 use Rattle.model.proofs.Quiet.Names.{name-given}
@@ -24,10 +24,13 @@ use Rattle.model.proofs.Quiet.Setting.{whole, At}
 use Rattle.model.proofs.Quiet.CodeParts.{inside, up}
 use Rattle.model.proofs.Occam.Paths.{l-input, l-output, leaf-resume, live-resume, silent-resume, same-path, look-put-same}
 use Rattle.model.proofs.Occam.Paths.{put-put-same, Apart, apart-sym as path-apart-sym, leaves-apart, look-put-other, put-put-apart}
+use Rattle.model.proofs.Occam.Paths.{off-resume}
 use Rattle.model.proofs.Words.Parts.{Part, Target, Fine}
+use Rattle.model.proofs.Quiet.Timing.{Times, Timely, EachTime, Bringing, not-set, is-set, Dozing, no-time, until, Passed, p-unset}
+use Rattle.model.proofs.Quiet.Timing.{p-set, p-linked, Guarding, linked-same}
 use Rattle.model.proofs.Quiet.Continuations.{Placed, Cont, c-up, cont-low, cont-placed}
-use Rattle.model.proofs.Quiet.Marks.{Own, AnyReady, r-first, r-later, Picks, p-first, p-later, Guarded, AltCode, Marked, Disabling}
-use Rattle.model.proofs.Quiet.Marks.{own-name}
+use Rattle.model.proofs.Quiet.Marks.{Own, Present, is-sent, is-skip, AnyFound, f-first, f-later, finds-present, finds-time, Picks}
+use Rattle.model.proofs.Quiet.Marks.{own-name, p-first, p-later, Guarded, AltCode, Marked, Disabling}
 use Rattle.model.proofs.Quiet.Arrivals.{arrives}
 use Rattle.model.proofs.Invariant.Trees.{alone, Info, Sits, Tree, bytesLeft}
 use Rattle.model.proofs.Invariant.Leaves.{member, Unmarked, Resumes, Waits, Held, h-output, h-woken}
@@ -35,6 +38,7 @@ use Rattle.model.proofs.Effects.OneWord.{cpuOf, stored}
 use Rattle.model.proofs.Effects.Acts.{parked, exec-out-wait, exec-out-alt, exec-out-receiver, notify-waiting, notify-other}
 use Rattle.model.proofs.Invariant.Kernel.{Loaded, S, root, size, LeafAt, owned, Rest, Lined, Real, node, part-small, sits-at}
 use Rattle.model.proofs.Invariant.Writes.{changed, after-leaf, after-lined, apart-parts, apart-zones, own-one, write-var, write-chan}
+use Rattle.model.proofs.Invariant.Writes.{Calm, time-words}
 use Rattle.model.proofs.Invariant.Puts.{putting, treeThen, here-then, other-then, lined-then, rest-then, sender-then}
 use Rattle.model.proofs.Invariant.Grounds.{var-in, chan-in, small-size, sound-at}
 use Rattle.model.proofs.Invariant.Traces.{Trace, t-none, t-step}
@@ -52,24 +56,78 @@ use Rattle.model.proofs.Invariant.Moving.{same-leaf, rest-in, lined-in,
 use Rattle.model.proofs.Steps.In.{output-channel}
 use Rattle.model.specs.Alternative.{notify, isAltState, enabling, waiting, ready, noneSelected}
 use Rattle.model.specs.Execute.{execute}
-use Rattle.model.proofs.Quiet.Onwards.{guarded-ready}
+use Rattle.model.proofs.Quiet.Onwards.{guarded-present, present-found, timed-fine}
 use Rattle.model.specs.Scheme.{sizeEnable}
 use Rattle.model.proofs.Invariant.Zones.{zoneOf, Distant}
 
--- what is ready or picked stays so where no sender goes
-ready-in : {st st′ : State} → ((c : Site) → Sender st c → Sender st′ c) → {g : Guard} → st .store ≡ st′ .store → Ready st g → Ready st′ g
-ready-in h q (by-input {e} t s) = by-input {e = e} (subst (λ σ. isTrue σ e ≡ true) q t) (h _ s)
-ready-in h q (by-skip {e} t) = by-skip {e = e} (subst (λ σ. isTrue σ e ≡ true) q t)
+-- the two words of an ALT's times stay
+abbrev pub SameTimes : (μ ν : Mem) (w : ℕ) → Type 0
+SameTimes μ ν w = (ν (timeLinkWord w) ≡ μ (timeLinkWord w)) × (ν (timeWord w) ≡ μ (timeWord w))
 
-pub ready-more : {st st′ : State} → ((c : Site) → Sender st c → Sender st′ c) → {gs : Guards} → st .store ≡ st′ .store
-    → AnyReady st gs → AnyReady st′ gs
-ready-more h q (r-first r) = r-first (ready-in h q r)
-ready-more h q (r-later g) = r-later (ready-more h q g)
+timed-later : (g : Guard) (s : Stmt) (gs : Guards) → timed gs ≡ true → timed (guard g s gs) ≡ true
+unfolding timed
+timed-later (inputGuard e c x) s gs h = h
+timed-later (skipGuard e) s gs h = h
+timed-later (timeGuard e t) s gs h = refl
 
-pub picks-more : {st st′ : State} {k : List Frame} → ((c : Site) → Sender st c → Sender st′ c) → {gs : Guards} {b t : ℕ} {p : Process}
-    → st .store ≡ st′ .store → Picks st k gs b t p → Picks st′ k gs b t p
-picks-more h q (p-first r) = p-first (ready-in h q r)
-picks-more h q (p-later g) = p-later (picks-more h q g)
+timed-first : (e t : Expr) (s : Stmt) (gs : Guards) → timed (guard (timeGuard e t) s gs) ≡ true
+unfolding timed
+timed-first e t s gs = refl
+
+-- what is ready, picked or found stays so where no sender goes, with the same store and clock
+module _ {st st′ : State} (more : (c : Site) → Sender st c → Sender st′ c) (same : st .store ≡ st′ .store) where
+  true-in : (e : Expr) → isTrue (st .store) e ≡ true → isTrue (st′ .store) e ≡ true
+  true-in e h = subst (λ σ. isTrue σ e ≡ true) same h
+
+  present-in : {g : Guard} → Present st g → Present st′ g
+  present-in (is-sent {e} h s) = is-sent (true-in e h) (more _ s)
+  present-in (is-skip {e} h) = is-skip (true-in e h)
+
+  pub found-more : {μ ν : Mem} {w : ℕ} {gs : Guards} → (timed gs ≡ true → SameTimes μ ν w) → AnyFound st μ w gs → AnyFound st′ ν w gs
+  found-more words (f-first (finds-present h)) = f-first (finds-present (present-in h))
+  found-more words (f-first {s = s} {gs} (finds-time {e} {t} x y z)) =
+      let (link, time) = words (timed-first e t s gs) in
+      f-first (finds-time (true-in e x) (link ∙ y) (ap₂ after time (ap (λ σ. eval σ t) (sym same)) ∙ z))
+  found-more words (f-later {g} {s} {gs} h) = f-later (found-more (λ e. words (timed-later g s gs e)) h)
+
+  module _ (clock : now st ≡ now st′) where
+    ready-in : {g : Guard} → Ready st g → Ready st′ g
+    ready-in (by-input {e} h s) = by-input (true-in e h) (more _ s)
+    ready-in (by-skip {e} h) = by-skip (true-in e h)
+    ready-in (by-time {e} {t} h p) = by-time (true-in e h) (ap₂ after (sym clock) (ap (λ σ. eval σ t) (sym same)) ∙ p)
+
+    pub picks-more : {T : Times} {k : List Frame} {gs : Guards} {b t : ℕ} {p : Process} → Picks T st k gs b t p → Picks T st′ k gs b t p
+    picks-more (p-first r) = p-first (λ o. ready-in (r o))
+    picks-more (p-later g) = p-later (picks-more g)
+
+-- what holds of an ALT's times stays so
+module _ (T : Times) (st st′ : State) {gs : Guards} {μ ν : Mem} {w : ℕ} (same : st .store ≡ st′ .store) (clock : now st ≡ now st′)
+    (words : SameTimes μ ν w) where
+  pub bringing-more : {hs : Guards} → Bringing T st gs hs μ w → Bringing T st′ gs hs ν w
+  bringing-more {hs} (not-set z n) = not-set (words .0 ∙ z) (subst (λ σ. EachTime σ (λ u. ⊥) gs hs) same n)
+  bringing-more {hs} (is-set z l) =
+      is-set (words .0 ∙ z)
+      (record {
+        tm = l .tm;
+        is = words .1 ∙ l .is;
+        small = l .small;
+        one = subst (λ σ. Timely σ (l .tm) gs) same (l .one);
+        knows = subst (T .guarded w (l .tm)) clock (l .knows);
+        least = subst (λ σ. EachTime σ (λ u. T .sure → after (l .tm) u ≡ false) gs hs) same (l .least);
+      })
+
+  -- one that waited is woken: it stays in the timer queue
+  pub dozed : Dozing T st gs μ w → Passed T st′ gs gs ν w
+  dozed (no-time z n) = p-unset (words .0 ∙ z)
+  dozed (until z l) = p-linked (linked-same T st μ ν w (words .0) z) (l .tm) (subst (λ σ. Timely σ (l .tm) gs) same (l .one))
+
+  pub passed-more : {hs : Guards} → Passed T st gs hs μ w → Passed T st′ gs hs ν w
+  passed-more (p-unset z) = p-unset (words .0 ∙ z)
+  passed-more (p-set z h) =
+      p-set (words .0 ∙ z)
+      (λ u m a o. subst (λ k. after k u ≡ true) clock
+      (h u (subst (λ σ. Timely σ u gs) (sym same) m) (ap (λ y. after y u) (sym (words .1)) ∙ a) o))
+  passed-more {hs} (p-linked z u m) = p-linked (linked-same T st μ ν w (words .0) z) u (subst (λ σ. Timely σ u hs) same m)
 
 -- a word of memory is no ALT state
 pub no-alt-state : (v : ℕ) → v ≤ wordLimit → isAltState v ≡ false
@@ -161,8 +219,8 @@ module _ (L : Loaded) {s : World} {st : State} {μ : Mem} {t : Tree (S L) (root 
   -- from its name on
   parks : {Out : List ℕ → Type 0} → Out path → Rest L st ν₁ t Out ws → Rest L st ν₃ t Out ws
   parks out r =
-      rest-below L (A .leaf) out placed (stateWord w) w (s-low .0) (s-low .1)
-      (rest-below L (A .leaf) out placed (resumeWord w) (cpuOf s .place) (r-low .0) (r-low .1) r)
+      rest-below L (A .leaf) out placed (stateWord w) w (s-low .0) (s-low .1) (λ e. never (cc))
+      (rest-below L (A .leaf) out placed (resumeWord w) (cpuOf s .place) (r-low .0) (r-low .1) (λ e. never (cc)) r)
 
   parked-real : Real L (parked (S L .word c) w (cpuOf s .place) w (stored w z s)) st ν₃ ws
   parked-real =
@@ -194,7 +252,7 @@ module _ (L : Loaded) {s : World} {st : State} {μ : Mem} {t : Tree (S L) (root 
 
   -- what holds of it as it waits, in a memory that has these words
   waits-here : {st′ : State} {ν : Mem} → ((v : ℕ) → b .bottom ≤ v → v < b .top → ν v ≡ ν₃ v)
-      → ((d : Site) → List·Memᴰ d (i .chans) → ν (S L .word d) ≡ ν₃ (S L .word d)) → Held (S L) (L .sleeps) b waiting-info st′ ν false
+      → ((d : Site) → List·Memᴰ d (i .chans) → ν (S L .word d) ≡ ν₃ (S L .word d)) → Held (S L) (L .times) b waiting-info st′ ν false
       (atOutput c z k)
   waits-here {ν = ν} own chans =
       h-output (record {
@@ -222,13 +280,15 @@ module _ (L : Loaded) {s : World} {st : State} {μ : Mem} {t : Tree (S L) (root 
   did-wait empty =
       let old : ν₀ (S L .word c) ≡ notProcess = upd-other μ w z (S L .word c) c-not-w ∙ empty in
       let rest = parks refl
-      (mark-chan L (A .leaf) refl (rest-below L (A .leaf) refl above w z (w-low .0) (w-low .1) (A .rest)) c (f .2) (nameOf w) own-w old) in
+      (mark-chan L (A .leaf) refl (rest-below L (A .leaf) refl above w z (w-low .0) (w-low .1) (λ e. never (cc)) (A .rest)) c (f .2)
+      (nameOf w) own-w old) in
       leaves-as L parked-real (A .leaf) (A .lined) (atOutput c z k) l-output waiting-info sits-here
       (rest-then L (A .leaf) (atOutput c z k) l-output waiting-info sits-here rest refl (rest .vars (node L (A .leaf)))
       (rest .chans (node L (A .leaf))) (A .rest .live (A .leaf)) (λ d m o. m) (λ d v g q other r p y x n m. never (cc))
       (λ d v g q other r p y x n m inp o.
       own-one L (apart-parts L (A .leaf) x n) own-w
-      (subst (Own p) (ap (λ a. ν₃ (S L .word a)) (output-channel (sym q)) ∙ chan-now c (f .2) ∙ upd-same ν₀ (S L .word c) (nameOf w)) o)))
+      (subst (Own p) (ap (λ a. ν₃ (S L .word a)) (output-channel (sym q)) ∙ chan-now c (f .2) ∙ upd-same ν₀ (S L .word c) (nameOf w)) o))
+      (λ e. never (cc)) (λ e. never (cc)))
       (λ t f e. never (cc)) (waits-here (λ v lo hi. refl) (λ d m. refl)) (A .operand) coming
       (λ y q g. executes (exec-out-wait (S L .word c) z w (cpuOf s .place) s ea eb refl refl (rw (size-is L (A .real)) w-in)
       (rw (size-is L (A .real)) c-in) c-not-w (mirrored L (A .real) (S L .word c) c-in empty)
@@ -273,7 +333,7 @@ module _ (L : Loaded) {s : World} {st : State} {μ : Mem} {t : Tree (S L) (root 
     rest₂ : Rest L st₂ η t (Both path other) ws
     rest₂ =
         clear-chan L receiver₂ (inr refl)
-        (write-var L receiver (rest-below L (A .leaf) (inl refl) above w z (w-low .0) (w-low .1)
+        (write-var L receiver (rest-below L (A .leaf) (inl refl) above w z (w-low .0) (w-low .1) (λ e. never (cc))
         (rest-with L receiver (λ t f e. never (cc)) (A .rest))) x z
         (target .0) (target .1) small (inr refl)) c (waits .scope) (inr own-receiver)
 
@@ -324,7 +384,7 @@ module _ (L : Loaded) {s : World} {st : State} {μ : Mem} {t : Tree (S L) (root 
     woken : Woken L s₂ (putting other (resume l) st₂) η
         (treeThen L receiver₂ (resume l) (leaf-resume l) j (sits-at L receiver₂)) (Only path) (j .w) ws
     woken =
-        partner-goes L real₂ rest₂ lines₂ receiver₂ apart waits receiver-same refl receiver-clean
+        partner-goes L real₂ rest₂ lines₂ receiver₂ apart waits receiver-same refl refl receiver-clean
         (λ a y q p here r g n v o m. never (cc))
 
     abbrev st₃ : State
@@ -391,9 +451,9 @@ module _ (L : Loaded) {s : World} {st : State} {μ : Mem} {t : Tree (S L) (root 
         let live = live-resume k (i .vars) (A .rest .live (A .leaf)) in
         let quiet : Silent (resume k) = λ c v f e. silent-resume k e in
         let real₃ = real-talk L (u₃ .talk) (woken .real) in
-        let now = goes-as L real₃ leaf₃ (woken .rest) (woken .lines) clean₃ (before-silent (output c e) k) (resume k)
+        let now = goes-as L real₃ leaf₃ (woken .rest) (woken .lines) clean₃ (before-silent (output c e) k) (λ e. never (cc)) (resume k)
         (leaf-resume k) waiting-info
-        placed few (woken .rest .vars (node L leaf₃)) (woken .rest .chans (node L leaf₃)) live quiet in
+        placed few (woken .rest .vars (node L leaf₃)) (woken .rest .chans (node L leaf₃)) live quiet (off-resume k) in
         then-settles L meets (omega arith) executed₃ refl
         (settle L (real-state L (put path (resume k) (st₃ .process)) (st₃ .store) real₃)
         (here-then L leaf₃ (resume k) (leaf-resume k) waiting-info _) now
@@ -431,8 +491,8 @@ module _ (L : Loaded) {s : World} {st : State} {μ : Mem} {t : Tree (S L) (root 
     rest₁ =
         parks (inl refl)
         (write-chan L (A .leaf)
-        (rest-below L (A .leaf) (inl refl) above w z (w-low .0) (w-low .1) (rest-with L chooser (λ t f e. never (cc)) (A .rest))) c
-        (nameOf w) (f .2)
+        (rest-below L (A .leaf) (inl refl) above w z (w-low .0) (w-low .1) (λ e. never (cc))
+        (rest-with L chooser (λ t f e. never (cc)) (A .rest))) c (nameOf w) (f .2)
         (λ y r p g x n. (
           (λ o. own-one L (apart-parts L chooser x (λ q. n (inr q))) own-j
               (subst (Own p) (upd-other μ w z (S L .word c) c-not-w ∙ here) o)),
@@ -443,8 +503,17 @@ module _ (L : Loaded) {s : World} {st : State} {μ : Mem} {t : Tree (S L) (root 
     abbrev ν₄ : Mem
     ν₄ = upd ν₃ (stateWord (j .w)) ready
 
+    -- its time words are others
+    alt-calm : Calm L (atAlt gs l) j (stateWord (j .w))
+    alt-calm e =
+        let low = sits-at L chooser .placed .low in
+        let small = part-small L chooser in (
+          (λ q. absurd (omega (arith, q, a .fine .0, low, small, small-size L))),
+          (λ q. absurd (omega (arith, q, a .fine .0, low, small, small-size L))),
+        )
+
     rest₄ : Rest L st ν₄ t (Both path other) ws
-    rest₄ = rest-below L chooser (inr refl) (sits-at L chooser .placed) (stateWord (j .w)) ready (t-low .0) (t-low .1) rest₁
+    rest₄ = rest-below L chooser (inr refl) (sits-at L chooser .placed) (stateWord (j .w)) ready (t-low .0) (t-low .1) alt-calm rest₁
 
     -- what the process waits with
     own₄ : (v : ℕ) → b .bottom ≤ v → v < b .top → ν₄ v ≡ ν₃ v
@@ -464,6 +533,7 @@ module _ (L : Loaded) {s : World} {st : State} {μ : Mem} {t : Tree (S L) (root 
         (subst (Own p)
         (ap (λ a. ν₄ (S L .word a)) (output-channel (sym q)) ∙ chans₄ c (f .2) ∙ chan-now c (f .2)
         ∙ upd-same ν₀ (S L .word c) (nameOf w)) o))
+        (λ e. never (cc)) (λ e. never (cc))
 
     -- the ALT's words
     alt-word : (v : ℕ) → d .bottom ≤ v → v < d .top → v ≢ stateWord (j .w) → ν₄ v ≡ μ v
@@ -473,6 +543,13 @@ module _ (L : Loaded) {s : World} {st : State} {μ : Mem} {t : Tree (S L) (root 
         ∙ upd-other ν₁ (resumeWord w) (cpuOf s .place) v (mine-not (resumeWord w) (r-low .0) (omega (arith, r-low .1, placed .low)) v lo hi)
         ∙ upd-other ν₀ (S L .word c) (nameOf w) v (λ q. zones-alt .chans-out c (f .2) (omega (arith, q), omega (arith, q)))
         ∙ upd-other μ w z v (mine-not w (w-low .0) (omega (arith, above .low)) v lo hi)
+
+    alt-times : timed gs ≡ true → SameTimes μ ν₄ (j .w)
+    alt-times e =
+        let room = timed-fine (S L .word) d (j .vars) (j .chans) (j .w + 1) gs (a .fine .1) e in
+        let words = time-words L chooser (omega (arith, room)) in
+        let calm = alt-calm e in
+        (alt-word (timeLinkWord (j .w)) (words .0) (words .1) (calm .0), alt-word (timeWord (j .w)) (words .2) (words .3) (calm .1))
 
     -- and its channels'
     alt-chan : (y : Site) → List·Memᴰ y (j .chans) → S L .word y ≢ S L .word c → ν₄ (S L .word y) ≡ μ (S L .word y)
@@ -534,16 +611,17 @@ module _ (L : Loaded) {s : World} {st : State} {μ : Mem} {t : Tree (S L) (root 
     -- it waits in the ALT: it is woken
     pub did-wake : member (j .w) ws ≡ false → Resumes (S L) d j st μ (to + 2 + sizeEnable gs + 1) far → μ (stateWord (j .w)) ≡ waiting
         → μ (j .w) ≡ noneSelected → Marked (S L) d st (j .vars) (j .chans) gs μ (j .w)
+        → (timed gs ≡ true → Dozing (L .times) st gs μ (j .w)) → Guarding (L .times) st gs noGuard (j .w)
         → Did L (Executes L (operation I.outword) s) s st (bytesLeft (S L) t)
     unfolding functionIn operandIn
-    did-wake idle r state chosen marks =
+    did-wake idle r state chosen marks dozes known =
         let p = sits-at L chooser .placed in
         let lines = lined-out L chooser idle (λ y q. ⊎-elim (λ p. inr p) (λ p. inl p) q) (A .lined) in
         let lines₅ = lined-then L (A .leaf) (atOutput c z k) l-output waiting-info sits-here (inl refl) lines in
         let tall : j .w + 1 ≤ d .top = cont-low (S L) d (a .after) in
         let unheld = unqueued L {Out = Both path other} leaf₅ (inl refl) lines₅ in
         let rest₆ = rest-in L {Out′ = Only other} leaf₅
-        (subst (λ y. Held (S L) (L .sleeps) b waiting-info st₁ ν₄ y (atOutput c z k)) (sym unheld) (waits-here own₄ chans₄))
+        (subst (λ y. Held (S L) (L .times) b waiting-info st₁ ν₄ y (atOutput c z k)) (sym unheld) (waits-here own₄ chans₄))
         (λ y n q. ⊎-elim (λ e. absurd (n e)) (λ e. e) q) (λ y q. inr q) (λ t f e. never (cc)) rest₅ in
         let resume-word : ν₄ (resumeWord (j .w)) ≡ μ (resumeWord (j .w)) =
         alt-word (resumeWord (j .w)) (omega (arith, p .room, p .low, part-small L chooser, small-size L))
@@ -551,12 +629,14 @@ module _ (L : Loaded) {s : World} {st : State} {μ : Mem} {t : Tree (S L) (root 
         (λ q. absurd (omega (arith, a .fine .0, p .low, part-small L chooser, small-size L))) in
         let base-word : ν₄ (j .w) ≡ μ (j .w) =
         alt-word (j .w) (omega (arith, p .room)) (omega arith) (λ q. absurd (omega (arith, t-low .1))) in
-        let held : Held (S L) (L .sleeps) d j st₁ ν₄ true (atAlt gs l) =
+        let held : Held (S L) (L .times) d j st₁ ν₄ true (atAlt gs l) =
         h-woken a (record { place = resume-word ∙ r .place; soon = r .soon }) (upd-same ν₃ (stateWord (j .w)) ready)
         (record {
           marks = alt-marked marks;
           state = upd-same ν₃ (stateWord (j .w)) ready;
-          chosen = inr (base-word ∙ chosen, guarded-ready guarded sends-now);
+          chosen = inr (base-word ∙ chosen, present-found ν₄ (j .w) (guarded-present guarded sends-now));
+          times = λ e. dozed (L .times) st st₁ refl refl (alt-times e) (dozes e);
+          known = known;
         }) in
         let woken = wakes L {Out′ = Nobody} (real₄ lines) rest₆
         (lined-in L (λ y q. inr q) lines₅) chooser₅ refl held (λ y n q. absurd (n q))
@@ -568,7 +648,7 @@ module _ (L : Loaded) {s : World} {st : State} {μ : Mem} {t : Tree (S L) (root 
 
     -- it was woken before: it stays Ready
     pub did-tell : member (j .w) ws ≡ true → Resumes (S L) d j st μ (to + 2 + sizeEnable gs + 1) far → μ (stateWord (j .w)) ≡ ready
-        → Disabling (S L) d st (j .vars) (j .chans) l gs gs (a .choice) μ (j .w)
+        → Disabling (S L) d (L .times) st (j .vars) (j .chans) l gs gs (a .choice) μ (j .w)
         → Did L (Executes L (operation I.outword) s) s st (bytesLeft (S L) t)
     unfolding functionIn operandIn
     did-tell queued r state dis =
@@ -584,18 +664,20 @@ module _ (L : Loaded) {s : World} {st : State} {μ : Mem} {t : Tree (S L) (root 
         alt-word (j .w) (omega (arith, p .room)) (omega arith) (λ q. absurd (omega (arith, t-low .1))) in
         let more : (y : Site) → Sender st y → Sender st₁ y =
         λ y q. sender-then L (A .leaf) (atOutput c z k) l-output waiting-info sits-here y (λ v g e. never (cc)) q in
-        let held : Held (S L) (L .sleeps) d j st₁ ν₄ true (atAlt gs l) =
+        let held : Held (S L) (L .times) d j st₁ ν₄ true (atAlt gs l) =
         h-woken a (record { place = resume-word ∙ r .place; soon = r .soon }) (upd-same ν₃ (stateWord (j .w)) ready)
         (record {
           marks = alt-marked (dis .marks);
           state = upd-same ν₃ (stateWord (j .w)) ready;
-          chosen = ⊎-elim (λ y. let (v, q, g, x) = y in inl (v, q, picks-more more refl g, base-word ∙ x))
-              (λ y. inr (base-word ∙ y .0, ready-more more refl (y .1))) (dis .chosen);
+          chosen = ⊎-elim (λ y. let (v, q, g, x) = y in inl (v, q, picks-more more refl refl g, base-word ∙ x))
+              (λ y. inr (base-word ∙ y .0, found-more more refl alt-times (y .1))) (dis .chosen);
+          times = λ e. passed-more (L .times) st st₁ refl refl (alt-times e) (dis .times e);
+          known = dis .known;
         }) in
         let rest₆ = rest-in L {Out′ = Only other} leaf₅
-        (subst (λ y. Held (S L) (L .sleeps) b waiting-info st₁ ν₄ y (atOutput c z k)) (sym unheld) (waits-here own₄ chans₄))
+        (subst (λ y. Held (S L) (L .times) b waiting-info st₁ ν₄ y (atOutput c z k)) (sym unheld) (waits-here own₄ chans₄))
         (λ y n q. ⊎-elim (λ e. absurd (n e)) (λ e. e) q) (λ y q. inr q) (λ t f e. never (cc)) rest₅ in
-        let rest₇ = rest-in L {Out′ = Nobody} chooser₅ (subst (λ y. Held (S L) (L .sleeps) d j st₁ ν₄ y (atAlt gs l)) (sym queued) held)
+        let rest₇ = rest-in L {Out′ = Nobody} chooser₅ (subst (λ y. Held (S L) (L .times) d j st₁ ν₄ y (atAlt gs l)) (sym queued) held)
         (λ y n q. absurd (n q)) (λ y q. absurd q) (λ t f e. never (cc)) rest₆ in
         step-lets-go L coming
         (λ y q g. executes
@@ -613,7 +695,7 @@ module _ (L : Loaded) {s : World} {st : State} {μ : Mem} {t : Tree (S L) (root 
   by-holder : Holder L st μ t (Only path) ws c → Did L (Executes L (operation I.outword) s) s st (bytesLeft (S L) t)
   by-holder (holds-input y n q x tg inp free) = did-send y n q x tg
   by-holder (holds-output y n q x out low v tiny) = absurd (apart-parts L (A .leaf) y n .outputs c (f .3) out)
-  by-holder (holds-wait y n q a r g v all un mk here guarded inp) = did-wake y n a here guarded q r g v mk
+  by-holder (holds-wait y n q a r g v all un mk dozes known here guarded inp) = did-wake y n a here guarded q r g v mk dozes known
   by-holder (holds-woken y n q a r g d here guarded inp) = did-tell y n a here guarded q r g d
   by-holder (holds-out y q m o) =
       absurd (clean c (f .2) (same-leaf L (λ q d (j : Info). Own d (μ (S L .word c))) (sym q) y (A .leaf) o))

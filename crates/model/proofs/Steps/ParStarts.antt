@@ -23,6 +23,7 @@ use Rattle.model.proofs.Quiet.Setting.{Setting, whole, At}
 use Rattle.model.proofs.Quiet.CodeParts.{inside, rises-le}
 use Rattle.model.proofs.Coding.Sizes.{code-length, ends-length}
 use Rattle.model.proofs.Occam.Paths.{stmtAt, stmt-inside, Apart, here, later}
+use Rattle.model.proofs.Cases.{never}
 use Rattle.model.proofs.Words.Parts.{need-next, sum-first, Part, joins, partOf, Inside, FineBranches}
 use Rattle.model.proofs.Quiet.Continuations.{cont-inside, cont-bound}
 use Rattle.model.proofs.Quiet.Marks.{ParCode, pt-par-count}
@@ -101,8 +102,9 @@ module _ (L : Loaded) {s : World} {st : State} {μ : Mem} {t : Tree (S L) (root 
       ) in
       goes-on L A (withCpu r (stored w z s)) ran refl
       (real-cpu L r refl refl refl (real-below L (A .leaf) refl (c .placed) w z low-w below (A .lined) (A .real))) (A .run) (A .operand)
-      (rest-below L (A .leaf) refl (c .placed) w z low-w below (A .rest)) (A .lined) (suc at) hi (A .placed) (A .inside) (omega arith)
-      (quiet (pushing (suc (howMany ds))) x (quiet-ldc (suc (howMany ds))) (arrived (pt-par-count y refl c (upd-same μ w z)) bound)) tt
+      (rest-below L (A .leaf) refl (c .placed) w z low-w below (λ e. never (cc)) (A .rest)) (A .lined) (suc at) hi (A .placed) (A .inside)
+      (omega arith) (quiet (pushing (suc (howMany ds))) x (quiet-ldc (suc (howMany ds)))
+      (arrived (pt-par-count y refl c (upd-same μ w z)) bound)) tt
       (clean-below L i st st μ (c .placed) w z below clean)
 
   -- STL 1: the count. The PAR is started
@@ -140,7 +142,7 @@ module _ (L : Loaded) {s : World} {st : State} {μ : Mem} {t : Tree (S L) (root 
     clean₀ = clean-below L i st st μ (c .placed) (w + 1) (suc (howMany ds)) below-1 clean
 
     rest₀ : Rest L st ν t (Only path) ws
-    rest₀ = rest-below L (A .leaf) refl (c .placed) (w + 1) (suc (howMany ds)) low-1 below-1 (A .rest)
+    rest₀ = rest-below L (A .leaf) refl (c .placed) (w + 1) (suc (howMany ds)) low-1 below-1 (λ e. never (cc)) (A .rest)
 
     place₀ : ν w ≡ L .off (c .over)
     place₀ = upd-other μ (w + 1) (suc (howMany ds)) w (λ e. absurd (omega arith)) ∙ place

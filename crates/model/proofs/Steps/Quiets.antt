@@ -15,25 +15,27 @@ use Rattle.model.specs.Instruction as I
 use Rattle.model.specs.Code.{functionIn, operandIn}
 use Rattle.model.specs.Machine.{World, withCpu, goto, resumeWord, push, pop}
 use Rattle.model.specs.declared.Cpu.{Cpu}
-use Rattle.model.specs.Occam.{Process, State}
+use Rattle.model.specs.Occam.{Process, before, atInput, atOutput, atStop, atAlt, atWait, toRead, hasRead, inPar, finished, State}
 use Rattle.model.proofs.Quiet.Ways.{upd-same, upd-other, upd, Regs, regsOf, load, Quiet, pushing, popping, Mem}
+use Rattle.model.proofs.Cases.{never}
 use Rattle.model.proofs.Quiet.CodeParts.{inside}
+use Rattle.model.proofs.Occam.Paths.{isAlt}
 use Rattle.model.proofs.Words.Parts.{Part}
 use Rattle.model.proofs.Quiet.Continuations.{Placed}
 use Rattle.model.proofs.Quiet.Marks.{Own, Spare, Settled, s-none}
 use Rattle.model.proofs.Quiet.Arrivals.{Goes, comes}
-use Rattle.model.proofs.Quiet.Onwards.{AltWay, alt-goes}
+use Rattle.model.proofs.Quiet.Onwards.{AltSpare, AltWay, alt-goes, Tied}
 use Rattle.model.proofs.Invariant.Trees.{Info, Tree, bytesLeft}
 use Rattle.model.proofs.Invariant.Leaves.{Unmarked, Held, h-queued}
 use Rattle.model.proofs.Effects.OneWord.{cpuOf, stored, exec-ldl, exec-stl, exec-cj-jumps, exec-j}
 use Rattle.model.proofs.Effects.Queues.{join-queue}
 use Rattle.model.proofs.Effects.Acts.{exec-j-over, testPlace-in}
 use Rattle.model.proofs.Invariant.Kernel.{Loaded, S, root, size, LeafAt, Rest, Real, node, part-small, sits-at}
-use Rattle.model.proofs.Invariant.Writes.{write-own, left-out}
+use Rattle.model.proofs.Invariant.Writes.{write-own, left-out, Calm}
 use Rattle.model.proofs.Invariant.Grounds.{var-in, small-size}
 use Rattle.model.proofs.Invariant.Traces.{t-none}
 use Rattle.model.proofs.Invariant.Running.{Only, Nobody, off-small, Did, Executes, executes, Acting}
-use Rattle.model.proofs.Invariant.Moving.{relaid, relabelled, relabel}
+use Rattle.model.proofs.Invariant.Moving.{relaid, relabelled, relabel, settled-off}
 use Rattle.model.proofs.Invariant.Reals.{size-is, mirrored, real-cpu, real-stored, link-own}
 use Rattle.model.proofs.Invariant.Scheduling.{lets-go, wakes}
 use Rattle.model.proofs.Invariant.Finish.{goes-on, alt-goes-on, then-lets-go, silent}
@@ -43,8 +45,34 @@ use Rattle.model.proofs.Quiet.PathEnds.{way-bound, point-in}
 pub reached : (a t : ℕ) → a ≤ codeLimit → t ≤ codeLimit → low (a + less t a) ≡ t
 reached a t h k = omega arith
 
+-- the workspace of an ALT with a time guard is the one that is known of it
+pub tied-alt : (q : Process) {w v : ℕ} → isAlt q ≡ true → Tied q w v → w ≡ v
+tied-alt (before s k) e t = never (cc)
+tied-alt (atInput c x k) e t = never (cc)
+tied-alt (atOutput c v k) e t = never (cc)
+tied-alt (atStop k) e t = never (cc)
+tied-alt (atAlt gs k) e t = t
+tied-alt (atWait u k) e t = never (cc)
+tied-alt (toRead x k) e t = never (cc)
+tied-alt (hasRead x v k) e t = never (cc)
+tied-alt (inPar bs k) e t = never (cc)
+tied-alt finished e t = never (cc)
+
 module _ (L : Loaded) {s : World} {st : State} {μ : Mem} {t : Tree (S L) (root L) (st .process)} {path : List ℕ} {q : Process} {b : Part}
     {i : Info} {ws : List ℕ} {at hi : ℕ} (A : Acting L s st μ t path q b i (Only path) ws at hi) where
+  -- a word for a stored value is none of the time words of an ALT
+  pub calm-settled : Settled q → (v : ℕ) → Calm L q i v
+  calm-settled settled v e = never (cc (e, settled-off q settled))
+
+  pub calm-alt : {w v : ℕ} → Tied q w (i .w) → AltSpare (S L) b (L .times) st (i .vars) (i .chans) w v → Calm L q i v
+  calm-alt tied spare e =
+      let same = tied-alt q e tied in
+      let low = sits-at L (A .leaf) .placed .low in
+      let small = part-small L (A .leaf) in (
+        (λ z. absurd (omega (arith, z, same, spare .1, low, small, small-size L))),
+        (λ z. absurd (omega (arith, z, same, spare .1, low, small, small-size L))),
+      )
+
   -- the byte that a distance from here reaches
   pub target : (k : ℕ) → k ≤ length (S L .xs) → low (cpuOf s .place + less (L .off k) (L .off (suc at))) ≡ L .off k
   target k h =
@@ -66,9 +94,9 @@ module _ (L : Loaded) {s : World} {st : State} {μ : Mem} {t : Tree (S L) (root 
       goes-on L A u ran talk real run operand rest (A .lined) nx hi place inner (omega arith) way settled
       (λ c m o. clean c m (subst (Own b) (same c m) o))
 
-  pub carries-alt : (w : ℕ) → Carries (AltWay (S L) b st (i .vars) (i .chans) q w)
-  carries-alt w x u ν ran talk real run operand rest nx place inner ahead same way =
-      alt-goes-on L A u ran talk real run operand rest (A .lined) nx hi place inner (omega arith) (alt-goes w way)
+  pub carries-alt : (w : ℕ) → Tied q w (i .w) → Carries (AltWay (S L) b (L .times) st (i .vars) (i .chans) q w)
+  carries-alt w tied x u ν ran talk real run operand rest nx place inner ahead same way =
+      alt-goes-on L A u ran talk real run operand rest (A .lined) nx hi place inner (omega arith) (alt-goes w tied way)
 
   module _ (G : ℕ → Mem → ℕ → Regs → Type 0) (carry : Carries G) where
     -- other registers
@@ -110,11 +138,11 @@ module _ (L : Loaded) {s : World} {st : State} {μ : Mem} {t : Tree (S L) (root 
           → Did L (Executes L (plain I.ldl o) s) s st (bytesLeft (S L) t)
       pass-reloads way = loads-word o v (μ v) there spare-in refl way
 
-      -- STL into it
-      pub pass-stores : G hi (upd μ v (cpuOf s .a)) (suc at) (popping (regsOf (cpuOf s)))
+      -- STL into it; it is none of the time words of an ALT
+      pub pass-stores : Calm L q i v → G hi (upd μ v (cpuOf s .a)) (suc at) (popping (regsOf (cpuOf s)))
           → Did L (Executes L (plain I.stl o) s) s st (bytesLeft (S L) t)
       unfolding functionIn operandIn
-      pass-stores way =
+      pass-stores calm way =
           let z = cpuOf s .a in
           let r = pop (cpuOf s) in
           carry (plain I.stl o) (withCpu r (stored v z s)) (upd μ v z)
@@ -123,8 +151,8 @@ module _ (L : Loaded) {s : World} {st : State} {μ : Mem} {t : Tree (S L) (root 
           (real-stored L v z spare-in (link-own L (A .lined) (A .leaf) refl v (spare .above) (spare .below)) (A .real)))
           (A .run) (A .operand)
           (write-own L (A .leaf) (A .rest) v z (spare .above) (spare .below)
-          (λ x m e. absurd (omega (arith, spare .no-var x m, e))) (λ c m e. absurd (omega (arith, spare .no-chan c m, e))) (left-out refl))
-          (suc at) (A .placed) (A .inside) (omega arith)
+          (λ x m e. absurd (omega (arith, spare .no-var x m, e))) (λ c m e. absurd (omega (arith, spare .no-chan c m, e)))
+          (left-out refl calm)) (suc at) (A .placed) (A .inside) (omega arith)
           (λ c m. upd-other μ v z (S L .word c) (λ e. absurd (omega (arith, spare .no-chan c m, e)))) way
 
     -- CJ with a false condition, on the way
@@ -173,7 +201,7 @@ module _ (L : Loaded) {s : World} {st : State} {μ : Mem} {t : Tree (S L) (root 
     parked-rest =
         write-own L (A .leaf) (A .rest) v (L .off k) v-low v-high
         (λ x m e. absurd (omega (arith, placed .scoped .vars-above x m, below, e)))
-        (λ x m e. absurd (omega (arith, placed .scoped .chans-above x m, below, e))) (left-out refl)
+        (λ x m e. absurd (omega (arith, placed .scoped .chans-above x m, below, e))) (left-out refl (calm-settled settled v))
 
     parked-real : Real L (stored v (L .off k) s) st (upd μ v (L .off k)) ws
     parked-real = real-stored L v (L .off k) (omega (arith, v-high, high)) (link-own L (A .lined) (A .leaf) refl v v-low v-high) (A .real)
@@ -185,7 +213,7 @@ module _ (L : Loaded) {s : World} {st : State} {μ : Mem} {t : Tree (S L) (root 
 
     -- it is queued, to go on where the jump leads
     queued-as : {u : Tree (S L) (root L) (st .process)} → LeafAt L st u path q b (relaid w (i .left - 1) i) → 1 ≤ i .left
-        → Held (S L) (L .sleeps) b (relaid w (i .left - 1) i) st (upd μ v (L .off k)) true q
+        → Held (S L) (L .times) b (relaid w (i .left - 1) i) st (upd μ v (L .off k)) true q
     queued-as leaf more =
         h-queued
         (comes s-none settled
@@ -198,7 +226,8 @@ module _ (L : Loaded) {s : World} {st : State} {μ : Mem} {t : Tree (S L) (root 
     yields c =
         let far = way-bound (S L) (point-in (S L) b) (way μ (regsOf (cpuOf s)) refl) in
         let more : 1 ≤ i .left = omega (arith, A .left) in
-        elim (relabel L (A .leaf) refl w (i .left - 1) placed (omega (arith, sits-at L (A .leaf) .few)) parked-rest (A .lined)) [
+        elim (relabel L (A .leaf) refl w (i .left - 1) (λ e. never (cc (e, settled-off q settled))) placed
+        (omega (arith, sits-at L (A .leaf) .few)) parked-rest (A .lined)) [
           | relabelled t′ leaf rest lines e others ↦
               let woken = wakes L {Out′ = Nobody} parked-real rest lines leaf refl (queued-as leaf more) (λ other d p. absurd (d p))
               (λ other p. absurd p) (λ p. p) in

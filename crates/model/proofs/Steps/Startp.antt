@@ -18,8 +18,9 @@ use Rattle.model.specs.Occam.{Process, begin, State}
 use Rattle.model.proofs.Quiet.Ways.{upd-same, upd-other, upd, regsOf, Mem}
 use Rattle.model.proofs.Quiet.Stretches.{Seg, seg-length}
 use Rattle.model.proofs.Quiet.CodeParts.{rises-le}
-use Rattle.model.proofs.Occam.Paths.{apart-under, apart-differ}
+use Rattle.model.proofs.Occam.Paths.{apart-under, apart-differ, off-begin}
 use Rattle.model.proofs.Occam.Paths as P
+use Rattle.model.proofs.Cases.{never}
 use Rattle.model.proofs.Words.Parts.{Part, joins, partOf}
 use Rattle.model.proofs.Quiet.Continuations.{Placed}
 use Rattle.model.proofs.Quiet.Marks.{Own, StartPoint}
@@ -103,7 +104,8 @@ module _ (L : Loaded) {s : World} {st : State} {μ : Mem} {t : Tree (S L) (root 
   real₁ = real-below L (next-start .leaf) out placed v (L .off (B .b)) low-v below-v (A .lined) (A .real)
 
   rest₁ : Rest L st μ₁ t (Starting path B) ws
-  rest₁ = rest-below L (next-start .leaf) out placed v (L .off (B .b)) low-v below-v (A .rest)
+  rest₁ = rest-below L (next-start .leaf) out placed v (L .off (B .b)) low-v below-v
+      (λ e. never (cc (e, off-begin (B .s) []))) (A .rest)
 
   -- channels that are in scope for the child keep their words
   clean-child : (c : Part) (j : Info) → j .chans ≡ B .chans → Unmarked (S L) c j st μ → Unmarked (S L) c j st μ₁
@@ -118,7 +120,7 @@ module _ (L : Loaded) {s : World} {st : State} {μ : Mem} {t : Tree (S L) (root 
   apart : path ≢ child
   apart e = branch-differ (B .par) (λ z. absurd (omega (arith, next-one, z))) (sym first-branch ∙ e)
 
-  started-held : Held (S L) (L .sleeps) part info st μ₁ true (begin (B .s) [])
+  started-held : Held (S L) (L .times) part info st μ₁ true (begin (B .s) [])
   started-held =
       h-queued (next-start .comes)
       (record {
@@ -279,7 +281,7 @@ module _ (L : Loaded) {s : World} {st : State} {μ : Mem} {t : Tree (S L) (root 
 
   pub did-start : Did L (Executes L (operation I.startp) s) s st (bytesLeft (S L) t)
   did-start =
-      elim (relabel L (A .leaf) (inl refl) (i .w) (i .left - 1) (sits-at L (A .leaf) .placed)
+      elim (relabel L (A .leaf) (inl refl) (i .w) (i .left - 1) (λ e. refl) (sits-at L (A .leaf) .placed)
       (omega (arith, sits-at L (A .leaf) .few)) rest₁ (A .lined)) [
         | relabelled u leaf rest lines bytes others ↦ by leaf rest lines bytes others (B .ss) refl
       ]

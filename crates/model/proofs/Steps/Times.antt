@@ -71,6 +71,7 @@ module _ (L : Loaded) {s : World} {st : State} {μ : Mem} {t : Tree (S L) (root 
       rest-then L (A .leaf) (hasRead x (now st) k) l-has-read j sits (A .rest) refl (A .rest .vars (node L (A .leaf)))
       (A .rest .chans (node L (A .leaf))) (A .rest .live (A .leaf)) (λ d m o. absurd (clean d m o))
       (λ d w f z other r n l a m g. never (cc)) (λ d w f z other r n l a m g h o. never (cc))
+      (λ e. never (cc)) (λ e. never (cc))
 
   pub did-read : Did L (Executes L (operation I.ldtimer) s) s st (bytesLeft (S L) t)
   did-read =

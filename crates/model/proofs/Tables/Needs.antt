@@ -45,3 +45,10 @@ unfolding sidesHold
 sides-hold LeftFirst l r = omega arith
 sides-hold RightFirst l r = omega arith
 sides-hold RightStored l r = omega arith
+
+-- and not fewer than the right one
+pub right-held : (o : Order) (l r : ℕ) → r ≤ sidesHold o l r
+unfolding sidesHold
+right-held LeftFirst l r = omega arith
+right-held RightFirst l r = omega arith
+right-held RightStored l r = omega arith

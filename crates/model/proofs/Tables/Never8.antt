@@ -19,7 +19,7 @@ use Rattle.model.specs.declared.kinds.StmtKind.{StmtKind}
 use Rattle.model.specs.declared.kinds.StmtKind.the-variants.{Skip, Stop, Assign, Input, Output, Var, Chan, Seq, Par, If, While, Alt}
 use Rattle.model.specs.declared.kinds.StmtKind.the-variants.{Time, Wait}
 use Rattle.model.specs.declared.kinds.GuardKind.{GuardKind}
-use Rattle.model.specs.declared.kinds.GuardKind.the-variants.{Input as InputGuard, Skip as SkipGuard}
+use Rattle.model.specs.declared.kinds.GuardKind.the-variants.{Input as InputGuard, Skip as SkipGuard, Time as TimeGuard}
 use Rattle.model.specs.Usage.{firstClash}
 use Rattle.model.specs.Counts.{processes}
 use Rattle.model.specs.Accept.{limit, checks, onRead, accept, memoryWords}
@@ -121,6 +121,7 @@ module _ (scope : Scope) (inner : Inner) (expr : Tells (inner .expr)) (body : (s
   unfolding guardOf
   of-guardOf InputGuard = bind expr (λ e. bind (of-readName canInput _) (λ c. bind of-variable (λ x. gives _)))
   of-guardOf SkipGuard = bind expr (λ e. gives _)
+  of-guardOf TimeGuard = bind expr (λ e. bind expr (λ t. gives _))
 
   of-readGuard : Tells (readGuard scope inner)
   unfolding readGuard

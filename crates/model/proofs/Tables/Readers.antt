@@ -21,7 +21,7 @@ use Rattle.model.specs.declared.kinds.StmtKind.{StmtKind}
 use Rattle.model.specs.declared.kinds.StmtKind.the-variants.{Skip, Stop, Assign, Input, Output, Var, Chan, Seq, Par, If, While, Alt}
 use Rattle.model.specs.declared.kinds.StmtKind.the-variants.{Time, Wait}
 use Rattle.model.specs.declared.kinds.GuardKind.{GuardKind}
-use Rattle.model.specs.declared.kinds.GuardKind.the-variants.{Input as InputGuard, Skip as SkipGuard}
+use Rattle.model.specs.declared.kinds.GuardKind.the-variants.{Input as InputGuard, Skip as SkipGuard, Time as TimeGuard}
 use Rattle.model.specs.Scheme.{howMany}
 use Rattle.model.proofs.Cases.{by-bool, by-option, by-parsed, never, is-true}
 use Rattle.model.proofs.Tables.WellFormed.{WellExpr, Well, WellAll, WellPairs, WellGuard, WellGuards, WellProgram, Placed, PlacedAll}
@@ -210,6 +210,7 @@ module _ {end : ℕ} {sc : Scope} {inner : Inner} (i : InnerSound end sc inner) 
       next (i .whole at) λ at₁ e le₁ ge. next (name-reads canInput (sc .channels) at₁) λ at₂ c le₂ gc.
       next (variable-reads sc at₂) λ at₃ x le₃ gx. done (ge, gc, gx)
   guard-of SkipGuard at = next (i .whole at) λ at₁ e le₁ ge. done ge
+  guard-of TimeGuard at = next (i .whole at) λ at₁ e le₁ ge. next (i .whole at₁) λ at₂ t le₂ gt. done (ge, gt)
 
   guard-reads : (at : ℕ) → Sound end (Guards → Guards) at (Extends (ReadGuards sc) at) (readGuard sc inner at)
   unfolding readGuard

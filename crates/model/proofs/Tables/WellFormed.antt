@@ -6,7 +6,7 @@ use mathlib.Core.List.{[], _++_, List·Memᴰ}
 use Rattle.model.specs.Limits.{channelLimit, nameLimit, branchLimit}
 use Rattle.model.specs.Syntax.{Site, inputOf, outputOf, Expr, constant, variable, NOT, binary, Stmt, SKIP, STOP, assign, input}
 use Rattle.model.specs.Syntax.{output, VAR, CHAN, SEQ, PAR, IF, WHILE, ALT, Stmts, noStmt, stmt, Pairs, noPair, pair, Guards, noGuard}
-use Rattle.model.specs.Syntax.{Guard, inputGuard, skipGuard, guard, Program, TIME, WAIT}
+use Rattle.model.specs.Syntax.{Guard, inputGuard, skipGuard, timeGuard, guard, Program, TIME, WAIT}
 use Rattle.model.specs.Reader.{Scope, canInput, canOutput, withVariables, withChannels, numbered}
 use Rattle.model.specs.Counts.{need}
 use Rattle.model.specs.Scheme.{howMany}
@@ -26,6 +26,7 @@ Outputs sc c = List·Memᴰ c (sc .channels) × (canOutput c ≡ true)
 abbrev pub WellGuard : Scope → Guard → Type 0
 WellGuard sc (inputGuard e c x) = WellExpr sc e × Inputs sc c × List·Memᴰ x (sc .variables)
 WellGuard sc (skipGuard e) = WellExpr sc e
+WellGuard sc (timeGuard e t) = WellExpr sc e × WellExpr sc t
 
 abbrev mutual
   pub Well : Scope → Stmt → Type 0

@@ -9,16 +9,17 @@ use mathlib.Core.List.{List·Memᴰ·head, List·Memᴰ·tail, List·Memᴰ·eq-
 use mathlib.Core.Option.{none}
 use Rattle.model.specs.Syntax.{Site, inputOf, outputOf, declared, Expr, constant, variable, NOT, binary, Stmt, SKIP, STOP, assign}
 use Rattle.model.specs.Syntax.{input, output, VAR, CHAN, SEQ, PAR, IF, WHILE, ALT, Stmts, noStmt, stmt, Pairs, noPair, pair, Guard}
-use Rattle.model.specs.Syntax.{inputGuard, skipGuard, condition, Guards, noGuard, guard, Program, TIME, WAIT}
+use Rattle.model.specs.Syntax.{inputGuard, skipGuard, timeGuard, condition, Guards, noGuard, guard, Program, TIME, WAIT}
 use Rattle.model.specs.Reader.{Scope, canInput, canOutput, names, numbered, withVariables, withChannels, program}
 use Rattle.model.specs.Usage.{Usage, _⊕_, reads, reading, usage, usageAll, usagePairs, guardUsage, usageGuards, clash, clashesLater}
 use Rattle.model.specs.Usage.{anyClash, firstClash, firstClashAll, firstClashPairs, firstClashGuards}
-use Rattle.model.specs.Counts.{temporaries, guardWords, need, mostNeed, sumNeed, pairNeed, guardNeed}
+use Rattle.model.specs.Counts.{order, temporaries, bothHold, guardWords, guardAsks, need, mostNeed, sumNeed, pairNeed, guardNeed}
 use Rattle.model.specs.Layout.{base, wordOf, workspaceOf, layout}
 use Rattle.model.specs.Accept.{accept}
 use Rattle.model.proofs.Cases.{never}
 use Rattle.model.proofs.Tables.WellFormed.{WellExpr, Well, WellAll, WellPairs, WellGuard, WellGuards, WellProgram, outermost, Placed}
 use Rattle.model.proofs.Tables.WellFormed.{PlacedAll, PlacedPairs, PlacedGuards, Laid, LaidAll, LaidBranches, LaidPairs, LaidGuards}
+use Rattle.model.proofs.Tables.Needs.{right-held}
 use Rattle.model.proofs.Tables.Readers.{read-well}
 use Rattle.model.proofs.Tables.Accepts.{Passed, accept-reads, accept-passed, orElse-none, clash-par}
 use Rattle.model.proofs.Coding.Layouts.{program-laid}
@@ -159,6 +160,13 @@ unfolding lowered guardWords
 guards-few zero = omega arith
 guards-few (suc t) = omega arith
 
+-- fewer stored values lower less
+lowered-less : (s t more : ℕ) → s ≤ t → lowered s more ≤ lowered t more
+unfolding lowered
+lowered-less zero t more h = omega arith
+lowered-less (suc s) zero more h = absurd (omega arith)
+lowered-less (suc s) (suc t) more h = omega arith
+
 fine-whole : (a : Part) (sc : Scope) (vars : List Site) → Within (sc .variables) vars → (e : Expr) → WellExpr sc e
     → Within (reads e) (a .reads) → (w more : ℕ) → a .bottom + lowered (temporaries e) more ≤ w → FineWhole a vars w more e
 fine-whole a sc vars sub e h f w more r = (scoped-expr sc vars sub e h, read-expr sc (a .reads) e h f, r)
@@ -214,18 +222,32 @@ module _ (sc : Scope) (lo : ℕ) (before : (x : Site) → List·Memᴰ x (sc .va
         outputs = apart .3;
       }
 
--- a guard's condition has room where that is enough, and what it inputs is the part's
+-- a guard has the room that it asks for, what it inputs is the part's, and its time is fine as its condition
 fine-guard : (a : Part) (sc : Scope) (vars chans : List Site) (lo : ℕ) → Scoped sc vars chans lo → (g : Guard) → WellGuard sc g
-    → Covers a (guardUsage g) [] → (w : ℕ) → a .bottom + lowered (temporaries (condition g)) guardRoom ≤ w
-    → FineWhole a vars w guardRoom (condition g) × FineInput a vars chans g
+    → Covers a (guardUsage g) [] → (w : ℕ) → a .bottom + guardAsks g ≤ w
+    → FineWhole a vars w guardRoom (condition g) × FineInput a vars chans w g
+unfolding guardAsks
 fine-guard a sc vars chans lo k (inputGuard e ch x) h c w room = (
-  fine-whole a sc vars (k .variables) e (h .0) (λ y m. c .reads y (Memᴰ·append-left _ m)) w guardRoom room,
+  fine-whole a sc vars (k .variables) e (h .0) (λ y m. c .reads y (Memᴰ·append-left _ m)) w guardRoom
+      (omega (arith, guards-few (temporaries e))),
   ((k .variables x (h .2), c .changes x (List·Memᴰ·head refl)), k .channels ch (h .1 .0), c .inputs ch (List·Memᴰ·head refl)),
 )
 fine-guard a sc vars chans lo k (skipGuard e) h c w room = (
-  fine-whole a sc vars (k .variables) e h (c .reads) w guardRoom room,
+  fine-whole a sc vars (k .variables) e h (c .reads) w guardRoom (omega (arith, guards-few (temporaries e))),
   tt,
 )
+fine-guard a sc vars chans lo k (timeGuard e t) h c w room =
+    let held = bothHold t e in
+    let enough : a .bottom + lowered held guardRoom ≤ w = omega (arith, guards-few held) in (
+      fine-whole a sc vars (k .variables) e (h .0) (λ y m. c .reads y (Memᴰ·append-left _ m)) w guardRoom
+          (omega (arith, lowered-less (temporaries e) held guardRoom (right-held (order t e) (temporaries t) (temporaries e)))),
+      (
+        scoped-expr sc vars (k .variables) t (h .1),
+        read-expr sc (a .reads) t (h .1) (λ y m. c .reads y (Memᴰ·append-right (reads e) m)),
+        omega arith,
+        enough,
+      ),
+    )
 
 module _ (word : Site → ℕ) where
   -- a branch and all later ones
@@ -381,8 +403,7 @@ module _ (word : Site → ℕ) where
           let all = declares s ++ declaresGuards gs in
           let both = usage s ⊕ usageGuards gs in
           let after = covers-after (guardUsage g) both all c in
-          let (e, i) = fine-guard a sc vars chans lo k g (h .0) (covers-before (guardUsage g) both all c) w
-          (omega (arith, guards-few (temporaries (condition g)))) in (
+          let (e, i) = fine-guard a sc vars chans lo k g (h .0) (covers-before (guardUsage g) both all c) w (omega arith) in (
             e,
             i,
             fine s a sc vars chans lo (pl .0) w k (h .1) (pl .1) (l .0)
@@ -434,6 +455,7 @@ both-ways outs ins h k = (
 one-way-guard : (g : Guard) (sc : Scope) (l : ℕ) → WellGuard sc g → OneWay l (guardUsage g .outputs) (guardUsage g .inputs)
 one-way-guard (inputGuard e c x) sc l h = (no-way .0, (λ m. never (cc (ap canInput (List·Memᴰ·eq-of-singleton m), h .1 .1))))
 one-way-guard (skipGuard e) sc l h = no-way
+one-way-guard (timeGuard e t) sc l h = no-way
 
 mutual
   unfolding usage usageAll usagePairs usageGuards

@@ -7,9 +7,9 @@ use mathlib.Core.Logic.{_⊎_}
 use mathlib.Core.List.{List, [], _++_, List·Memᴰ}
 use Rattle.model.specs.Syntax.{Site, declared, Expr, Stmt, SKIP, STOP, assign, input, output, VAR, CHAN, SEQ, PAR, IF, WHILE, ALT}
 use Rattle.model.specs.Syntax.{Stmts, noStmt, stmt, Pairs, noPair, pair, Guard, inputGuard, skipGuard, condition, Guards, noGuard}
-use Rattle.model.specs.Syntax.{guard, TIME, WAIT}
+use Rattle.model.specs.Syntax.{timeGuard, guard, TIME, WAIT}
 use Rattle.model.specs.Reader.{names}
-use Rattle.model.specs.Counts.{temporaries, need, sumNeed}
+use Rattle.model.specs.Counts.{temporaries, bothHold, need, sumNeed}
 use Rattle.model.specs.Usage.{usage}
 use Rattle.model.specs.Scheme.{altWords}
 use Rattle.model.proofs.Words.Values.{FineExpr}
@@ -146,10 +146,13 @@ guardRoom = suc altWords
 abbrev pub Target : Part → List Site → Site → Type 0
 Target a vars x = List·Memᴰ x vars × List·Memᴰ x (a .changes)
 
--- what a guard inputs, if it waits for input
-abbrev pub FineInput : Part → (vars chans : List Site) → Guard → Type 0
-FineInput a vars chans (inputGuard e c x) = Target a vars x × List·Memᴰ c chans × List·Memᴰ c (a .inputs)
-FineInput a vars chans (skipGuard e) = Unit {0}
+-- what a guard of an ALT at w has beside its condition: what it inputs, if it waits for input; its time, with the 6 words of an ALT that
+-- has a time, and room for the values that time and condition store together
+abbrev pub FineInput : Part → (vars chans : List Site) (w : ℕ) → Guard → Type 0
+FineInput a vars chans w (inputGuard e c x) = Target a vars x × List·Memᴰ c chans × List·Memᴰ c (a .inputs)
+FineInput a vars chans w (skipGuard e) = Unit {0}
+FineInput a vars chans w (timeGuard e t) =
+    FineExpr vars t × FineExpr (a .reads) t × (a .bottom + 6 ≤ w) × (a .bottom + lowered (bothHold t e) guardRoom ≤ w)
 
 -- the words of declared names
 abbrev pub Words : (Site → ℕ) → (p n w : ℕ) → Type 0
@@ -203,4 +206,4 @@ module _ (word : Site → ℕ) where
     pub FineGuards : Part → (vars chans : List Site) (w : ℕ) → Guards → Type 0
     FineGuards a vars chans w noGuard = Unit {0}
     FineGuards a vars chans w (guard g s gs) =
-        FineWhole a vars w guardRoom (condition g) × FineInput a vars chans g × Fine a vars chans w s × FineGuards a vars chans w gs
+        FineWhole a vars w guardRoom (condition g) × FineInput a vars chans w g × Fine a vars chans w s × FineGuards a vars chans w gs

@@ -38,6 +38,20 @@ module _ {c t u : ℕ} (c-word : c < 2 ^ 32) (t-word : t < 2 ^ 32) (u-word : u <
   pub earlier-not : distance c t ≤ distance c u → after t u ≡ false
   earlier-not h = not-after t u (λ a b. absurd (omega (arith, n .before, n .behind, m .before, m .behind)))
 
+-- one time is before another that is not after a third: so it is not after the third
+pub least-of : {c t u v : ℕ} → c < 2 ^ 32 → t < 2 ^ 32 → u < 2 ^ 32 → v < 2 ^ 32 → Near c t → Near c u → Near c v → after t u ≡ true
+    → after t v ≡ false → after u v ≡ false
+least-of {c} {t} {u} {v} cw tw uw vw n m k e f =
+    by-bool (leb (distance c u) (distance c v)) (λ d. earlier-not cw uw vw m k (leb-true _ _ d))
+    (λ d.
+    let above : distance c v < distance c u = omega (arith, leb-false (distance c u) (distance c v) d) in
+    by-bool (leb (distance c t) (distance c u)) (λ g. never (cc (e, earlier-not cw tw uw n m (leb-true _ _ g))))
+    (λ g. never (cc (f, later-after cw tw vw n k (omega (arith, above, leb-false (distance c t) (distance c u) g))))))
+
+-- no time is after itself
+pub self-not : (t : ℕ) → t < 2 ^ 32 → after t t ≡ false
+self-not t h = not-after t t (λ a b. absurd (omega (arith, a, h)))
+
 -- a near time is past where its distance is below 2^30
 module _ {c t : ℕ} (c-word : c < 2 ^ 32) (t-word : t < 2 ^ 32) (n : Near c t) where
   pub past-near : after c t ≡ true → distance c t < 2 ^ 30
@@ -63,6 +77,13 @@ pub stays-ahead : {c t u : ℕ} → c < 2 ^ 32 → t < 2 ^ 32 → u < 2 ^ 32 →
     → after c u ≡ false
 stays-ahead {c} {t} {u} cw tw uw n m h e =
     by-bool (after c u) (λ p. never (cc (e, near-past cw tw n (omega (arith, h, past-near cw uw m p))))) (λ f. f)
+
+-- nor is one that it is not after
+pub least-ahead : {c t u : ℕ} → c < 2 ^ 32 → t < 2 ^ 32 → u < 2 ^ 32 → Near c t → Near c u → after t u ≡ false → after c t ≡ false
+    → after c u ≡ false
+least-ahead {c} {t} {u} cw tw uw n m f e =
+    by-bool (leb (distance c t) (distance c u)) (λ h. stays-ahead cw tw uw n m (leb-true _ _ h) e)
+    (λ h. never (cc (f, later-after cw tw uw n m (omega (arith, leb-false (distance c t) (distance c u) h)))))
 
 -- times that are near two clock words lie in the same order seen from both
 pub order-kept : {c d t u : ℕ} → c < 2 ^ 32 → d < 2 ^ 32 → t < 2 ^ 32 → u < 2 ^ 32 → Near c t → Near c u → Near d t → Near d u

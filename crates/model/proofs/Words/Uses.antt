@@ -8,7 +8,7 @@ use mathlib.Core.List.{List, [], _∷_, _++_, List·Memᴰ, List·Memᴰ·append
 use mathlib.Core.List.{List·Memᴰ·eq-of-singleton, Memᴰ·cast}
 use Rattle.model.specs.Syntax.{Site, declared, Expr, constant, variable, NOT, binary, Stmt, SKIP, STOP, assign, input, output, VAR}
 use Rattle.model.specs.Syntax.{CHAN, SEQ, PAR, IF, WHILE, ALT, Stmts, noStmt, stmt, Pairs, noPair, pair, Guard, inputGuard, skipGuard}
-use Rattle.model.specs.Syntax.{Guards, noGuard, guard, TIME, WAIT}
+use Rattle.model.specs.Syntax.{timeGuard, Guards, noGuard, guard, TIME, WAIT}
 use Rattle.model.specs.Reader.{Scope, names, numbered, withVariables, withChannels}
 use Rattle.model.specs.Usage.{Usage, reads, usage, usageAll, usagePairs, guardUsage, usageGuards, isIn, share, clash}
 use Rattle.model.proofs.Cases.{never}
@@ -145,6 +145,7 @@ mutual
 guard-from : (g : Guard) (sc : Scope) {lo hi : ℕ} → WellGuard sc g → From (sc .variables) lo hi (guardUsage g .uses)
 guard-from (inputGuard e c x) sc w = from-both (reads e) (x ∷ []) (from-reads sc e (w .0)) (from-one x (w .2))
 guard-from (skipGuard e) sc w = from-reads sc e w
+guard-from (timeGuard e t) sc w = from-both (reads e) (reads t) (from-reads sc e (w .0)) (from-reads sc t (w .1))
 
 -- the variables that a statement uses are in scope, or of its stretch
 mutual

@@ -17,6 +17,7 @@ use Rattle.expressions.proofs.expr.gen_variable.Reads as gen-variable-r
 use Rattle.expressions.proofs.sides.arrange.Reads as arrange-reads
 use Rattle.expressions.proofs.sides.put_behind.Reads as put-behind-reads
 use Rattle.expressions.proofs.sides.put_between.Reads as put-between-reads
+use Rattle.expressions.proofs.sides.sides_of.Reads as sides-of-reads
 use Rattle.numbers.proofs.kinds.expr_kind.Reads as expr-kind-reads
 use Rattle.numbers.proofs.kinds.operator_of.Reads as operator-of-reads
 use Rattle.numbers.proofs.value_at.Reads as value-at-reads
@@ -35,13 +36,15 @@ abbrev gen-expr-member : Member gen-expr-kinds.ps
 gen-expr-member = record { measure = λ κs a. 3 * a .1 .1 .1 .0; required = gen-expr.Pre }
 
 abbrev gen-sides-member : Member gen-sides-kinds.ps
-gen-sides-member = record { measure = λ κs a. 3 * a .1 .1 .1 .0 + 1; required = gen-sides.Pre }
+gen-sides-member = record { measure = λ κs a. 3 * a .1 .1 .1 .1 .0 + 1; required = gen-sides.Pre }
 
 module _ (t : ℕ) where
   abbrev gen-binary-claims : gen-binary-lts.Claims
   gen-binary-claims = (
     value-at-reads.Asked,
     value-at-reads.Learnt,
+    sides-of-reads.Asked,
+    sides-of-reads.Learnt,
     Below gen-sides-member t,
     gen-sides.Post,
     operator-of-reads.Asked,
@@ -82,7 +85,7 @@ module _ (t : ℕ) where
 
   gen-binary-gen-sides-requires : gen-binary-lts.Need-gen-sides-requires gen-binary-claims (At gen-binary-member t) gen-binary.Post
   gen-binary-gen-sides-requires c κs =
-      let p = c .before .before .before .pre in
+      let p = c .before .before .before .before .pre in
       (omega (arith, p .0), p .1)
 
   gen-binary-returns : gen-binary-lts.Need-returns gen-binary-claims (At gen-binary-member t) gen-binary.Post
@@ -90,7 +93,14 @@ module _ (t : ℕ) where
   gen-binary-returns c vs h =
       let o = c .before .before in
       let r = o .before .before in
-      rw (← r .before .before .value-at .ensures, ← r .gen-sides .ensures vs h, ← o .operator-of .ensures, ← c .gen-operator .ensures)
+      let x = r .before .before in
+      rw (
+        ← x .before .value-at .ensures,
+        ← x .sides-of .ensures,
+        ← r .gen-sides .ensures vs h,
+        ← o .operator-of .ensures,
+        ← c .gen-operator .ensures,
+      )
 
   gen-expr-returns : gen-expr-lts.Need-returns gen-expr-claims (At gen-expr-member t) gen-expr.Post
   unfolding exprInto
@@ -172,8 +182,8 @@ pub +gen-binary+gen-expr+gen-sides-spec : {M : Type 1} → statement M
 +gen-binary+gen-expr+gen-sides-spec =
     close (gen-binary-member .measure) (gen-expr-member .measure) (gen-sides-member .measure)
     (λ t. gen-binary-lts.spec (gen-binary-claims t)
-    (At gen-binary-member t) gen-binary.Post (λ c κs. search needs) (gen-binary-gen-sides-requires t) (λ c. search needs)
-    (λ c κs. search needs) (λ c κs. search needs) (gen-binary-returns t))
+    (At gen-binary-member t) gen-binary.Post (λ c κs. search needs) (λ c κs. search needs) (gen-binary-gen-sides-requires t)
+    (λ c. search needs) (λ c κs. search needs) (λ c κs. search needs) (gen-binary-returns t))
     (λ t. gen-expr-lts.spec (gen-expr-claims t) (At gen-expr-member t) gen-expr.Post (gen-expr-returns t) (λ c κs. search needs)
     (λ c. search needs) (λ c κs. search needs) (λ c. search needs) (λ c κs. search needs) (λ c. search needs) (λ c κs. search needs)
     (λ c. search needs) (λ c. search needs) (gen-expr-gen-expr-requires t) (λ c κs. search needs) (λ c. search needs)

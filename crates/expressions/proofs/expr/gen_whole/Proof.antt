@@ -11,8 +11,12 @@ returns c vs h =
     let b = e .before .before in
     let a = b .before in
     let m = a .before .before in
+    let l = m .before in
+    let st = l .before in
     rw (
-      ← m .before .lowered .ensures,
+      ← st .before .entry-at .ensures,
+      ← st .stored-in .ensures,
+      ← l .lowered .ensures,
       ← m .minus .ensures,
       ← a .put-adjust .ensures,
       ← b .below .ensures,
@@ -23,4 +27,4 @@ returns c vs h =
 pub gen-whole-spec : {M : Type 1} → statement M
 gen-whole-spec =
     tie.close (tie.spec (λ c κs. search needs) (λ c κs. search needs) (λ c κs. search needs) (λ c κs. search needs)
-    (λ c κs. search needs) (λ c κs. search needs) returns)
+    (λ c κs. search needs) (λ c κs. search needs) (λ c κs. search needs) (λ c κs. search needs) returns)

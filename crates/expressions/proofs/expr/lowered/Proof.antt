@@ -7,14 +7,11 @@ use Rattle.expressions.specs.Exprs.{lowering}
 
 returns : tie.Need-returns
 unfolding lowering
-returns c = simp (← c .before .before .entry-at .ensures, ← c .before .stored-in .ensures, eq-eqb _ _ (c .if1 .taken))
+returns c = simp (eq-eqb _ _ (c .if1 .taken))
 
 returns-2 : tie.Need-returns-2
 unfolding lowering
-returns-2 c =
-    let i = c .before in
-    simp (← i .before .before .entry-at .ensures, ← i .before .stored-in .ensures, ne-eqb _ _ (i .if1 .left)) (c .plus .ensures)
+returns-2 c = simp (ne-eqb _ _ (c .before .if1 .left)) (c .plus .ensures)
 
 pub lowered-spec : {M : Type 1} → statement M
-lowered-spec =
-    tie.close (tie.spec (λ c κs. search needs) (λ c κs. search needs) returns (λ c κs. search needs) returns-2)
+lowered-spec = tie.close (tie.spec returns (λ c κs. search needs) returns-2)

@@ -8,16 +8,13 @@ use Rattle.expressions.specs.Exprs.{inOrder, arranged}
 
 -- the two sides once their order is known
 ordered : {o : Order} (c : tie.After-order-of) → c .order-of .result ≡ o
-    → let n = c .before .before .before in
-    let a = n .before .before .before .before .args in
-    arranged (a .plan .now) (a .held) (a .at) ≡ inOrder o (a .held) (a .at) (n .before .before .next-in .result) (n .next-in2 .result)
+    → let a = c .before .before .before .before .before .args in
+    arranged (a .plan .now) (a .held) (a .pair) ≡ inOrder o (a .held) (a .pair .left) (a .pair .right)
 ordered c e =
     let n = c .before .before .before in
     simp (
-      ← n .before .before .before .entry-at .ensures,
-      ← n .before .before .next-in .ensures,
-      ← n .before .entry-at2 .ensures,
-      ← n .next-in2 .ensures,
+      ← n .before .entry-at .ensures,
+      ← n .entry-at2 .ensures,
       ← c .before .before .registers-in .ensures,
       ← c .before .registers-in2 .ensures,
       sym (c .order-of .ensures) ∙ e,
@@ -35,5 +32,5 @@ returns-3 c = simp (c .plus .ensures) (sym (ordered (c .before .before .before) 
 pub arrange-spec : {M : Type 1} → statement M
 arrange-spec =
     tie.close (tie.spec (λ c κs. search needs) (λ c κs. search needs) (λ c κs. search needs) (λ c κs. search needs)
-    (λ c κs. search needs) (λ c κs. search needs) (λ c κs. search needs) (λ c. search needs) (λ c. search needs) (λ c. search needs)
-    (λ c κs. search needs) returns returns-2 returns-3)
+    (λ c κs. search needs) (λ c. search needs) (λ c. search needs) (λ c. search needs) (λ c κs. search needs) returns returns-2
+    returns-3)

@@ -2,28 +2,25 @@
 use borrow.Author.Needs.{needs}
 use Rattle.plan.proofs.expr.sides_entry.Statement.{statement}
 use Rattle.plan.proofs.expr.sides_entry.Tie as tie
-use native.Mathlib.Omega.{arith}
-use Rattle.plan.specs.Entries.{storedIn, sidesEntry}
-
-sides-hold-requires : tie.Need-sides-hold-requires
-unfolding storedIn
-sides-hold-requires c κs = omega (arith, c .before .stored-in .ensures)
+use Rattle.plan.specs.Entries.{sidesEntry}
 
 returns : tie.Need-returns
 unfolding sidesEntry
 returns c =
-    simp (
-      ← c .before .before .before .before .before .before .before .before .registers-in .ensures,
-      ← c .before .before .before .before .before .before .before .registers-in2 .ensures,
-      ← c .before .before .before .before .before .before .order-of .ensures,
-      ← c .before .before .before .before .before .stored-in .ensures,
-      ← c .before .before .before .before .stored-in2 .ensures,
-      ← c .before .before .before .sides-hold .ensures,
-      ← c .before .before .next-in .ensures,
-      ← c .before .sides-need .ensures,
-    ) (c .entry .ensures)
+    let h = c .before in
+    let n = h .before in
+    let s = n .before in
+    let r2 = s .before in
+    rw (
+      c .entry .ensures,
+      h .sides-held .ensures,
+      n .next-in .ensures,
+      s .sides-need .ensures,
+      r2 .registers-in2 .ensures,
+      r2 .before .registers-in .ensures,
+    )
 
 pub sides-entry-spec : {M : Type 1} → statement M
 sides-entry-spec =
     tie.close (tie.spec (λ c κs. search needs) (λ c κs. search needs) (λ c κs. search needs) (λ c κs. search needs)
-    (λ c κs. search needs) sides-hold-requires (λ c κs. search needs) (λ c κs. search needs) (λ c κs. search needs) returns)
+    (λ c κs. search needs) (λ c κs. search needs) returns)

@@ -21,9 +21,9 @@ abbrev μ-loop : tie.MeasureT-loop
 loop-again : tie.Need-loop-again Inv-loop μ-loop
 unfolding enableInto
 loop-again c ns h =
-    let o = c .before .before in
-    let ei = o .before .before in
-    let g = ei .before in
+    let o = c .before in
+    let k = o .before .before in
+    let g = k .before in
     let t = g .before .before in
     let l = t .before .loop in
     let e : l .left ≡ suc (l .left - 1) = omega (arith, t .loop-test .taken) in
@@ -31,10 +31,9 @@ loop-again c ns h =
       e,
       enableInto,
       ← g .gen-guard .ensures ns h,
-      ← ei .either .ensures,
+      ← k .by-kind .ensures,
       ← o .operation .ensures,
-      ← c .before .behind .ensures,
-      ← c .extent-in .ensures,
+      ← c .next-guard .ensures,
     )
     at (l .inv ns h)
 
@@ -48,4 +47,4 @@ returns c ns h =
 pub gen-enable-spec : {M : Type 1} → statement M
 gen-enable-spec =
     tie.close (tie.spec Inv-loop μ-loop (λ c ns h. refl) (λ c κs. search needs) (λ c κs. search needs) (λ c κs. search needs)
-    (λ c κs. search needs) (λ c κs. search needs) (λ c. search needs) (λ c. search needs) loop-again returns)
+    (λ c κs. search needs) (λ c. search needs) (λ c. search needs) loop-again returns)

@@ -6,7 +6,7 @@ use Rattle.statements.specs.Alts.{disableInto}
 
 returns : tie.Need-returns
 unfolding disableInto
-returns c = let e = c .before .before in rw (← e .before .distance .ensures, ← e .either .ensures) (c .operation .ensures)
+returns c = let k = c .before .before in rw (← k .before .distance .ensures, ← k .by-kind .ensures) (c .operation .ensures)
 
 pub put-disable-spec : {M : Type 1} → statement M
 put-disable-spec =

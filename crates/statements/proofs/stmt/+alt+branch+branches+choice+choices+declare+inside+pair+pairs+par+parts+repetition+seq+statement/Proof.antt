@@ -59,7 +59,7 @@ use Rattle.numbers.proofs.kinds.shape_of.Reads as shape-of-reads
 use Rattle.numbers.proofs.kinds.stmt_kind.Reads as stmt-kind-reads
 use Rattle.numbers.proofs.value_at.Reads as value-at-reads
 use Rattle.plan.proofs.extent_in.Reads as extent-in-reads
-use Rattle.statements.proofs.alt.gen_enable.Reads as gen-enable-reads
+use Rattle.statements.proofs.alt.gen_front.Reads as gen-front-reads
 use Rattle.statements.proofs.alt.gen_guard.Reads as gen-guard-reads
 use Rattle.statements.proofs.alt.put_disable.Reads as put-disable-reads
 use Rattle.statements.proofs.stmt.close.Reads as close-reads
@@ -68,7 +68,6 @@ use Rattle.statements.proofs.stmt.put_fork.Reads as put-fork-reads
 use Rattle.statements.proofs.stmt.put_initial.Reads as put-initial-reads
 use Rattle.statements.proofs.stmt.put_input.Reads as put-input-reads
 use Rattle.statements.proofs.stmt.put_start.Reads as put-start-reads
-use Rattle.word.proofs.less.Reads as less-reads
 use Rattle.word.proofs.plus.Reads as plus-reads
 use Rattle.word.proofs.product.Reads as product-reads
 use cycle.+alt+branch+branches+choice+choices+declare+inside+pair+pairs+par+parts+repetition+seq+statement.{statement}
@@ -211,20 +210,12 @@ seq-μ-loop table plan count scope words₀ list₀ next₀ left₀ words list n
 module _ (t : ℕ) where
   abbrev alt-claims : alt-lts.Claims
   alt-claims = (
-    minus-reads.Asked,
-    minus-reads.Learnt,
-    plain-reads.Asked,
-    plain-reads.Learnt,
-    operation-reads.Asked,
-    operation-reads.Learnt,
     lowered-reads.Asked,
     lowered-reads.Learnt,
-    gen-enable-reads.Asked,
-    gen-enable-reads.Learnt,
-    less-reads.Asked,
-    less-reads.Learnt,
-    plus-reads.Asked,
-    plus-reads.Learnt,
+    gen-front-reads.Asked,
+    gen-front-reads.Learnt,
+    operation-reads.Asked,
+    operation-reads.Learnt,
     Below choices-member t,
     choices.Post,
   )
@@ -397,37 +388,18 @@ module _ (t : ℕ) where
 
   alt-choices-requires : alt-lts.Need-choices-requires alt-claims (At alt-member t) alt.Post
   alt-choices-requires c κs =
-      let mid = c .before .before .before .before .before .before .before .before .before in
-      let p = mid .before .before .before .before .before .before .before .before .before .before in
+      let p = c .before .before .before .before .before .before .before .before .before in
       (omega (arith, p .pre .0), p .pre .1)
 
   alt-returns : alt-lts.Need-returns alt-claims (At alt-member t) alt.Post
   unfolding altInto
   alt-returns c ns h =
-      let op = c .before .before .before in
-      let p = op .before .before in
-      let pl = p .before in
-      let le = pl .before in
-      let ope = le .before in
-      let g = ope .before .before in
+      let o = c .before .before .before in
+      let g = o .before .before in
       let lo = g .before .before .before in
-      let oper = lo .before in
-      let pla = oper .before .before in
-      let mi = pla .before in
       let s = lo .lowered .ensures in
       let r = c .choices .ensures ns h in (
-        rw (
-          ← mi .minus .ensures,
-          ← pla .plain .ensures,
-          ← oper .operation .ensures,
-          ← rw s at (g .gen-enable .ensures ns (shows-under _ _ _ _ _ s (h .shows))),
-          ← ope .operation2 .ensures,
-          ← le .less .ensures,
-          ← pl .plus .ensures,
-          ← p .plus2 .ensures,
-          ← op .operation3 .ensures,
-          r .0,
-        ),
+        rw (← rw s at (g .gen-front .ensures ns (shows-under _ _ _ _ _ s (h .shows))), ← o .operation .ensures, r .0),
         r .1,
       )
 
@@ -777,8 +749,7 @@ pub +alt+branch+branches+choice+choices+declare+inside+pair+pairs+par+parts+repe
     (choices-member .measure) (declare-member .measure) (inside-member .measure) (pair-member .measure) (pairs-member .measure)
     (par-member .measure) (parts-member .measure) (repetition-member .measure) (seq-member .measure) (statement-member .measure)
     (λ t. alt-lts.spec (alt-claims t) (At alt-member t) alt.Post (λ c κs. search needs) (λ c κs. search needs)
-    (λ c κs. search needs) (λ c κs. search needs) (λ c κs. search needs) (λ c κs. search needs) (λ c κs. search needs)
-    (λ c κs. search needs) (λ c κs. search needs) (λ c κs. search needs) (alt-choices-requires t) (alt-returns t))
+    (λ c κs. search needs) (alt-choices-requires t) (alt-returns t))
     (λ t. branch-lts.spec (branch-claims t) (At branch-member t) branch.Post (λ c κs. search needs) (branch-statement-requires t)
     (λ c κs. search needs) (λ c κs. search needs) (branch-returns t))
     (λ t. branches-lts.spec (branches-claims t) (At branches-member t) branches.Post branches-Inv-loop branches-μ-loop

@@ -18,33 +18,32 @@ returns : tie.Need-returns
 unfolding guardAt guardUses
 returns c =
     let t = c .before .before in
-    let l = t .before .before .before .before in
-    let r = l .before .before .read-whole .ensures in
-    let e = number-is (l .before .before .before .before .before) in
-    let f = sym (r .0) ∙ l .last .given .1 in
-    let g = sym (t .before .before .guard-kind .ensures) ∙ t .enum-told .given .1 in
-    (simp (e, f, g, c .read-input .ensures .0), simp (e, f, g, c .read-input .ensures .1, r .1))
+    let k = t .before .before in
+    let e = number-is (k .before .before) in
+    let g = sym (k .guard-kind .ensures) ∙ t .enum-told .given .1 in
+    (simp (e, g, c .read-waiting .ensures .0), simp (e, g, c .read-waiting .ensures .1))
 
 returns-2 : tie.Need-returns-2
 unfolding guardAt guardUses
 returns-2 c =
-    let l = c .before .before .before .before in
-    let r = l .before .before .read-whole .ensures in
-    let e = number-is (l .before .before .before .before .before) in
-    let f = sym (r .0) ∙ l .last .given .1 in
-    let g = sym (c .before .before .guard-kind .ensures) ∙ c .enum-told2 .given .1 in (simp (e, f, g), simp (e, f, g, r .1))
+    let t = c .before .before in
+    let k = t .before .before in
+    let e = number-is (k .before .before) in
+    let g = sym (k .guard-kind .ensures) ∙ t .enum-told2 .given .1 in
+    (simp (e, g, c .read-whole .ensures .0), simp (e, g, c .read-whole .ensures .1))
 
 returns-3 : tie.Need-returns-3
 unfolding guardAt guardUses
 returns-3 c =
-    let l = c .before in
-    let r = l .before .before .read-whole .ensures in
-    let e = number-is (l .before .before .before .before .before) in
-    let f = sym (r .0) ∙ l .n .given .1 in (simp (e, f), simp (e, f, r .1))
+    let t = c .before .before in
+    let k = t .before .before in
+    let e = number-is (k .before .before) in
+    let g = sym (k .guard-kind .ensures) ∙ t .enum-told3 .given .1 in
+    (simp (e, g, c .read-both .ensures .0), simp (e, g, c .read-both .ensures .1))
 
 returns-4 : tie.Need-returns-4
 unfolding guardAt guardUses
-returns-4 c = let e = sym (c .before .before .before .read-between .ensures) ∙ c .before .n2 .given .1 in (simp e, simp e)
+returns-4 c = let e = sym (c .before .before .before .read-between .ensures) ∙ c .before .n .given .1 in (simp e, simp e)
 
 pub read-guard-spec : {M : Type 1} → statement M
 read-guard-spec =
@@ -58,7 +57,7 @@ read-guard-spec =
     (λ c. search needs)
     (λ c κs. search needs)
     (λ c. search needs)
-    (λ c. search needs)
+    (λ c κs. search needs)
     (λ c. search needs)
     returns
     returns-2
