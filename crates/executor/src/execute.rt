@@ -21,6 +21,8 @@ ghost use lib.Dec.{eqb};
 ghost use Rattle.model.specs.Word.{truth};
 ghost use Rattle.model.specs.Instruction.{opr};
 ghost use Rattle.model.specs.Machine.{memorySize, push as pushed, pop as popped, reduce as reduced};
+ghost use Rattle.model.specs.Timer.{timerInput, waitTimedAlt, disableTime};
+ghost use Rattle.timer.specs.Sleeps.{Remains, Waits};
 ghost use Rattle.model.specs.Execute.{loadLocal, storeLocal, conditionalJump, execute as executed};
 ghost use Rattle.processor.specs.Seen.{Lands};
 ghost use Rattle.processor.specs.Pieces.{landing};
@@ -88,6 +90,58 @@ fn conditional_jump(cpu: model::Cpu, code: u32, n: u32) -> Step
     Step::Done(pop(cpu))
 }
 
+// TIN. This and the two below have the front in a word of their own: so a run's loop over bytes does not hold it.
+fn timer_input(
+    memory: &mut [u32],
+    size: u64,
+    cpu: model::Cpu,
+    code: u32,
+    clock: u32,
+    front: &mut u32,
+) -> Step
+    requires { ⌜ (size ≤ length (now memory)) × (cpu .running ≡ true) × (cpu .place ≤ code) ⌝ }
+    ensures { λ r.
+        ⌜ Waits size code (landing timerInput) cpu clock (now (front .entry)) (now (memory .entry)) r (now (front .exit))
+        (now (memory .exit)) ⌝ }
+{
+    let mut first = *front;
+    let done = timer::timer_input(memory, size, cpu, code, clock, &mut first);
+    *front = first;
+    done
+}
+
+// DIST.
+fn disable_time(memory: &mut [u32], size: u64, cpu: model::Cpu, front: &mut u32) -> Step
+    requires { ⌜ (size ≤ length (now memory)) × (cpu .running ≡ true) ⌝ }
+    ensures { λ r.
+        ⌜ Remains size disableTime cpu (now (front .entry)) (now (memory .entry)) r (now (front .exit)) (now (memory .exit)) ⌝ }
+{
+    let mut first = *front;
+    let done = timer::disable_time(memory, size, cpu, &mut first);
+    *front = first;
+    done
+}
+
+// TALTWT.
+fn wait_timed_alt(
+    memory: &mut [u32],
+    size: u64,
+    cpu: model::Cpu,
+    code: u32,
+    clock: u32,
+    front: &mut u32,
+) -> Step
+    requires { ⌜ (size ≤ length (now memory)) × (cpu .running ≡ true) × (cpu .place ≤ code) ⌝ }
+    ensures { λ r.
+        ⌜ Waits size code (landing waitTimedAlt) cpu clock (now (front .entry)) (now (memory .entry)) r (now (front .exit))
+        (now (memory .exit)) ⌝ }
+{
+    let mut first = *front;
+    let done = timer::wait_timed_alt(memory, size, cpu, code, clock, &mut first);
+    *front = first;
+    done
+}
+
 // The operations of the clock (document 02, order 4). Any other number is a fault (refusal 12).
 fn operate_timer(
     memory: &mut [u32],
@@ -106,11 +160,11 @@ fn operate_timer(
 {
     match n {
         codes::LDTIMER => Step::Done(push(cpu, clock)),
-        codes::TIN => timer::timer_input(memory, size, cpu, code, clock, front),
-        codes::DIST => timer::disable_time(memory, size, cpu, front),
+        codes::TIN => timer_input(memory, size, cpu, code, clock, front),
+        codes::DIST => disable_time(memory, size, cpu, front),
         codes::ENBT => timer::enable_time(memory, size, cpu),
         codes::TALT => timer::begin_timed_alt(memory, size, cpu),
-        codes::TALTWT => timer::wait_timed_alt(memory, size, cpu, code, clock, front),
+        codes::TALTWT => wait_timed_alt(memory, size, cpu, code, clock, front),
         _ => Step::Fault(model::FaultKind::Operation(n)),
     }
 }
