@@ -136,6 +136,7 @@ module _ (L : Loaded) (Q : (w t clock : ℕ) → Type 0) (T : Times) (near : T .
               let l = leaf-back k in
               held-context (part-high L l) (sits-at L l) (onto _ _ _ _ l n) (h .leaf l n);
           par = λ e n. h .par e (node-back n);
+          sleepers = tt;
         }
 
     pub rest-context : {μ : Mem} {Out : List ℕ → Type 0} {ws : List ℕ} (h : Rest L st μ t Out ws) → (T .sure → L .times .sure)

@@ -142,9 +142,10 @@ module _ (L : Loaded) where
     pub all : {path : List ℕ} {q : Process} {b : Part} {i : Info} → LeafAt st t path q b i → b .bottom + 5 ≤ i .w → Dozer Out path q
         → (isAlt q ≡ true → Linked μ (i .w)) → List·Memᴰ (i .w) asleep
 
-  -- what all words hold but those of the timer queue, where the processes at some paths (`Out`) are left out. `ws` are the workspaces that
-  -- are queued
-  pub record Plain (st : State) (μ : Mem) (t : Tree S root (st .process)) (Out : List ℕ → Type 0) (ws : List ℕ) : Type 0 where
+  -- what all words hold, where the processes at some paths (`Out`) are left out. `ws` are the workspaces that are queued, `Queue` is what is
+  -- known of the timer queue
+  pub record Holds (st : State) (μ : Mem) (t : Tree S root (st .process)) (Out : List ℕ → Type 0) (ws : List ℕ) (Queue : Type 0)
+      : Type 0 where
     -- variables in scope are words, and stand in their words
     pub vars : {path : List ℕ} {l : Label} → NodeAt st t path l → (x : Site) → List·Memᴰ x (zoneOf l .vars)
         → (st .store x ≡ μ (S .word x)) × (st .store x < 2 ^ 32)
@@ -159,28 +160,18 @@ module _ (L : Loaded) where
     pub par : {path : List ℕ} {bs : Branches} {k : List Frame} {a : Part} {vs cs : List Site} {w onward : ℕ}
         → look path (st .process) ≡ some (inPar bs k) → NodeAt st t path (parted a vs cs w onward)
         → (μ w ≡ S .off onward) × (μ (w + 1) ≡ left bs)
+    pub sleepers : Queue
 
-  -- the same with the timer queue
-  pub record Rest (st : State) (μ : Mem) (t : Tree S root (st .process)) (Out : List ℕ → Type 0) (ws : List ℕ) : Type 0 where
-    -- variables in scope are words, and stand in their words
-    pub vars : {path : List ℕ} {l : Label} → NodeAt st t path l → (x : Site) → List·Memᴰ x (zoneOf l .vars)
-        → (st .store x ≡ μ (S .word x)) × (st .store x < 2 ^ 32)
-    -- a channel in scope is empty, or some process waits at it
-    pub chans : {path : List ℕ} {l : Label} → NodeAt st t path l → (c : Site) → List·Memᴰ c (zoneOf l .chans)
-        → (μ (S .word c) ≡ notProcess) ⊎ Owned st t c (μ (S .word c))
-    -- live variables are in scope
-    pub live : {path : List ℕ} {q : Process} {b : Part} {i : Info} → LeafAt st t path q b i → Within (liveIn (framesOf q)) (i .vars)
-    pub leaf : {path : List ℕ} {q : Process} {b : Part} {i : Info} → LeafAt st t path q b i → (Out path → ⊥)
-        → Held S (L .times) b i st μ (member (i .w) ws) q
-    -- a PAR's words: where it goes on, and how many branches are not over
-    pub par : {path : List ℕ} {bs : Branches} {k : List Frame} {a : Part} {vs cs : List Site} {w onward : ℕ}
-        → look path (st .process) ≡ some (inPar bs k) → NodeAt st t path (parted a vs cs w onward)
-        → (μ w ≡ S .off onward) × (μ (w + 1) ≡ left bs)
-    pub sleepers : Sleepers st μ t Out
+  abbrev pub Rest : (st : State) → Mem → (t : Tree S root (st .process)) → (Out : List ℕ → Type 0) → (ws : List ℕ) → Type 0
+  Rest st μ t Out ws = Holds st μ t Out ws (Sleepers st μ t Out)
+
+  -- the timer queue apart
+  abbrev pub Plain : (st : State) → Mem → (t : Tree S root (st .process)) → (Out : List ℕ → Type 0) → (ws : List ℕ) → Type 0
+  Plain st μ t Out ws = Holds st μ t Out ws (Unit {0})
 
   pub plain-of : {st : State} {μ : Mem} {t : Tree S root (st .process)} {Out : List ℕ → Type 0} {ws : List ℕ} → Rest st μ t Out ws
       → Plain st μ t Out ws
-  plain-of h = record { vars = h .vars; chans = h .chans; live = h .live; leaf = h .leaf; par = h .par }
+  plain-of h = record { vars = h .vars; chans = h .chans; live = h .live; leaf = h .leaf; par = h .par; sleepers = tt }
 
   abbrev pub rest-of : {st : State} {μ : Mem} {t : Tree S root (st .process)} {Out : List ℕ → Type 0} {ws : List ℕ} → Plain st μ t Out ws
       → Sleepers st μ t Out → Rest st μ t Out ws

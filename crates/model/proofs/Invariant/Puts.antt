@@ -149,6 +149,7 @@ module _ (L : Loaded) {st : State} {t : Tree (S L) (root L) (st .process)} {path
               elim (par-after path other (st .process) (at .found) (at .leaf) leaf e) [
                 | same-par cs f g ↦ let (x, y) = h .par f (node-before d n) in (x, y ∙ g)
               ];
+          sleepers = tt;
         }
       where
         here-label : {other : List ℕ} {l : Label} → NodeAt L (putting path r st) treeThen other l → path ≡ other → l ≡ alone b j

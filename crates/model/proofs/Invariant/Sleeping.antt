@@ -301,6 +301,7 @@ module _ (L : Loaded) where
               let (a, b) = h .par e n in
               let (f, g) = off-par spot n in
               (upd-other μ v z w f ∙ a, upd-other μ v z (w + 1) g ∙ b);
+          sleepers = tt;
         }
 
   module _ {st : State} {μ : Mem} {t : Tree (S L) (root L) (st .process)} {Out : List ℕ → Type 0} {ws : List ℕ}

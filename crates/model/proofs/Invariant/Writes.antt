@@ -157,6 +157,7 @@ module _ (L : Loaded) where
             let (z, y) = h .par e k in
             let (f, g) = par _ _ _ _ _ _ k in
             (f ∙ z, g ∙ y);
+        sleepers = tt;
       }
 
   pub rest-changed : {st : State} {μ ν : Mem} {t : Tree (S L) (root L) (st .process)} {Out : List ℕ → Type 0} {ws : List ℕ} {σ : Store}

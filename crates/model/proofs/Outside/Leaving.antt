@@ -298,4 +298,5 @@ module _ (L : Loaded) where
               (held (λ o. n (subst Out e o))))
               (λ d. h .leaf k (λ o. ⊎-elim n d o)) (same-path path here);
           par = h .par;
+          sleepers = tt;
         }
