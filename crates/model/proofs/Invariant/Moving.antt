@@ -72,9 +72,6 @@ skips-silent s-none h e = settled-silent h e
 skips-silent (s-skip s) h e = never (cc)
 skips-silent (s-par s) h e = never (cc)
 
-pub settled-awake : {q : Process} → Settled q → Awake q
-settled-awake h t k e = subst (λ z. Settled z) e h
-
 -- a process that settles has not come to an ALT, nor one that skips steps without code
 pub settled-off : (q : Process) → Settled q → isAlt q ≡ false
 settled-off (before s k) h = refl

@@ -3,15 +3,14 @@ use Prim.Native.Nat.{ℕ, _+_, _^_, _≤_, _<_}
 use native.Mathlib.Omega.{arith}
 use mathlib.Core.Path.{_≡_, refl, sym, ap, _∙_, subst}
 use mathlib.Core.Logic.{_≢_, _⊎_, inl, inr, ⊎-elim}
-use mathlib.Core.Bool.{false, Bool, true}
-use mathlib.Core.List.{List, _∷_, List·Memᴰ, List·Memᴰ·tail, List·Memᴰ·cases-cons, List·Memᴰ·head}
+use mathlib.Core.Bool.{Bool, true}
+use mathlib.Core.List.{List, List·Memᴰ}
 use Rattle.model.specs.Syntax.{Site, Guards, timed}
 use Rattle.model.specs.Machine.{resumeWord, linkWord, stateWord, timeLinkWord, timeWord, nameOf}
-use Rattle.model.specs.Occam.{Frame, Process, atWait, State, now, atAlt, look}
+use Rattle.model.specs.Occam.{Frame, Process, atWait, State, now, atAlt}
 use Rattle.model.proofs.Cases.{never}
 use Rattle.model.proofs.Quiet.Ways.{Mem, frontWord, upd, upd-same, upd-other}
 use Rattle.model.proofs.Occam.Paths.{same-path, isAlt}
-use Rattle.model.proofs.Effects.Timers.{Chain, next, Sorted, Once, chain-stable, sorted-stable}
 use Rattle.model.proofs.Words.Parts.{Part}
 use Rattle.model.proofs.Quiet.Marks.{Own, AnyFound, f-first, f-later, finds-present, finds-time, s-none}
 use Rattle.model.proofs.Invariant.Trees.{some-same, Label, parted, alone-parted, Info, Tree, labelAt}
@@ -151,12 +150,6 @@ module _ (L : Loaded) where
 
   module _ {st : State} {μ : Mem} {t : Tree (S L) (root L) (st .process)} {Out : List ℕ → Type 0} {ws : List ℕ}
       (h : Plain L st μ t Out ws) where
-    -- what is known of a process in it that waits for the clock
-    pub asleep-at : {path : List ℕ} {tm : ℕ} {k : List Frame} {b : Part} {i : Info} → LeafAt L st t path (atWait tm k) b i
-        → (Out path → ⊥) → (hi at : ℕ) × Asleep (S L) b i st μ tm k at hi
-    asleep-at {b = b} {i} l n =
-        elim (held-sleeping (S L) (L .times) b i st μ (h .leaf l n)) [ sleeping {hi} {at} a ↦ (hi, at, a) ]
-
     -- it is no name's word
     off-vars : {v : ℕ} → Spot st t Out μ v → {other : List ℕ} {l : Label} → NodeAt L st t other l → (x : Site)
         → List·Memᴰ x (zoneOf l .vars) → S L .word x ≢ v
@@ -306,84 +299,6 @@ module _ (L : Loaded) where
 
   module _ {st : State} {μ : Mem} {t : Tree (S L) (root L) (st .process)} {Out : List ℕ → Type 0} {ws : List ℕ}
       (h : Rest L st μ t Out ws) where
-    -- the first of the timer queue, which waits for the clock, leaves it, and is left out
-    pub rest-unlinked : {path : List ℕ} {tm : ℕ} {k : List Frame} {b : Part} {i : Info} → LeafAt L st t path (atWait tm k) b i
-        → (Out path → ⊥) → (ts : List ℕ) → h .sleepers .asleep ≡ i .w ∷ ts
-        → (r : Rest L st (upd μ frontWord (μ (timeLinkWord (i .w)))) t (λ other. Out other ⊎ (path ≡ other)) ws)
-        × (r .sleepers .asleep ≡ ts)
-    rest-unlinked {path} {i = i} l out ts e =
-        let (no-set, no-unset) = linked-in L h (i .w) (subst (List·Memᴰ (i .w)) (sym e) (List·Memᴰ·head refl)) in (
-          rest-of L (plain-relinked (plain-of L h) z no-set no-unset at-front (λ other q b i k n. inl (λ o. n (inl o)))) queue,
-          refl,
-        )
-      where
-        z : ℕ
-        z = μ (timeLinkWord (i .w))
-
-        old : Sleepers L st μ t Out
-        old = h .sleepers
-
-        same : (w : ℕ) → upd μ frontWord z (timeLinkWord w) ≡ μ (timeLinkWord w)
-        same w = upd-other μ frontWord z (timeLinkWord w) (λ e. absurd (omega (arith, e)))
-
-        times : (w : ℕ) → upd μ frontWord z (timeWord w) ≡ μ (timeWord w)
-        times w = upd-other μ frontWord z (timeWord w) (λ e. absurd (omega (arith, e)))
-
-        tail : {a : ℕ} {w : ℕ} {vs : List ℕ} → Chain μ a (w ∷ vs) → Chain μ (timeLinkWord w) vs
-        tail (next e c) = c
-
-        member-of : (w : ℕ) → List·Memᴰ w ts → List·Memᴰ w (old .asleep)
-        member-of w m = subst (List·Memᴰ w) (sym e) (List·Memᴰ·tail m)
-
-        once : Once (i .w ∷ ts)
-        once = subst Once e (old .once)
-
-        each : (w : ℕ) → List·Memᴰ w ts → Sleeper L st t (λ other. Out other ⊎ (path ≡ other)) w
-        each w m = elim (old .each w (member-of w m)) [
-          | sleeper {path = other} {i = j} k f a d ↦
-              sleeper k f a (dozer-out L (λ tm g e n o. ⊎-elim n
-              (λ p. once .0 w m (same-leaf L (λ q b (y : Info). i .w ≡ y .w) p l k refl ∙ f)) o) d)
-        ]
-
-        queue : Sleepers L st (upd μ frontWord z) t (λ other. Out other ⊎ (path ≡ other))
-        queue =
-            record {
-              asleep = ts;
-              chain = chain-stable (upd-same μ frontWord z) (λ w m. same w) (tail (subst (Chain μ frontWord) e (old .chain)));
-              sorted = λ o.
-                  sorted-stable μ (upd μ frontWord z) (now st) ts (λ w m. times w) (subst (Sorted (now st) μ) e (old .sorted o) .1);
-              once = once .1;
-              each = each;
-              known = λ w m.
-                  let (a, b) = old .known w (member-of w m) in
-                  (subst (λ n. n < 2 ^ 32) (sym (times w)) a, subst (λ n. L .sleeps w n (now st)) (sym (times w)) b);
-              all = λ {path = other} {i = j} k a d f.
-                  ⊎-elim (λ g. absurd (other-w L l k (not-that k d) (sym g))) (λ m. m)
-                  (List·Memᴰ·cases-cons (subst (List·Memᴰ (j .w)) e
-                  (old .all k a (dozer-out L (λ tm g e n o. n (inl o)) d)
-                  (λ x. linked-same (L .times) st (upd μ frontWord z) μ (j .w) (sym (same (j .w))) (f x)))));
-            }
-          where
-            not-that : {other : List ℕ} {q : Process} {b : Part} {j : Info} → LeafAt L st t other q b j
-                → Dozer L (λ o. Out o ⊎ (path ≡ o)) other q → path ≢ other
-            not-that k (at-wait n) p = n (inr p)
-            not-that k (in-alt x) p = never (cc (some-same (sym (l .found) ∙ ap (λ z. look z (st .process)) p ∙ k .found)))
-
-    -- a word of one that is left out and not in an ALT, or none of its time links, is no word that links
-    spot-off : {v : ℕ} → Spot st t Out μ v → {other : List ℕ} {q : Process} {b : Part} {i : Info} → LeafAt L st t other q b i
-        → isAlt q ≡ false → Out other → (a : ℕ) → b .bottom ≤ a → a < b .top → a ≢ v
-    spot-off at-front k un o a lo hi e = absurd (omega (arith, e, part-small L k, S L .top-small))
-    spot-off (behind {path} l space d z₀) {other} k un o a lo hi e =
-        let words = time-words L l space in
-        ⊎-elim (λ p. not-it p l d) (λ u. apart-zones L u (node L l) (node L k) .words a
-        (omega (arith, e, words .0), omega (arith, e, words .1))
-        (lo, hi)) (same-path path other)
-      where
-        not-it : {p : List ℕ} {q : Process} {b : Part} {i : Info} → p ≡ other → LeafAt L st t p q b i → Dozer L Out p q → ⊥
-        not-it p l (at-wait n) = n (subst Out (sym p) o)
-        not-it p l (in-alt x) =
-            never (cc (un, ap isAlt (some-same (sym (k .found) ∙ ap (λ z. look z (st .process)) (sym p) ∙ l .found)), x))
-
     -- what a walk finds: workspaces with time words in memory
     pub fits : (v : ℕ) → List·Memᴰ v (h .sleepers .asleep) → Fit (size L) v
     fits v m = elim (h .sleepers .each v m) [

@@ -743,12 +743,6 @@ entering-awake en-before t k e = never (cc)
 entering-awake en-read t k e = never (cc)
 entering-awake en-finished t k e = never (cc)
 
-pub awake-resume : (k : List Frame) → Awake (resume k)
-awake-resume k = entering-awake (resumes k)
-
-pub awake-begin : (s : Stmt) (k : List Frame) → Awake (begin s k)
-awake-begin s k = entering-awake (enters s k (resumes k))
-
 -- a process that has come to an ALT with a time guard
 abbrev pub isAlt : Process → Bool
 isAlt (atAlt gs k) = timed gs

@@ -131,11 +131,6 @@ module _ (T : Times) (st : State) where
   pub linked-same : (μ ν : Mem) (w : ℕ) → ν (timeLinkWord w) ≡ μ (timeLinkWord w) → Linked μ w → Linked ν w
   linked-same μ ν w e (a, b) = ((λ z. a (sym e ∙ z)), (λ z. b (sym e ∙ z)))
 
-  pub dozing-same : {gs : Guards} {μ ν : Mem} {w : ℕ} → ν (timeLinkWord w) ≡ μ (timeLinkWord w) → ν (timeWord w) ≡ μ (timeWord w)
-      → Dozing gs μ w → Dozing gs ν w
-  dozing-same {gs} {μ} {ν} {w} e f (no-time z n) = no-time (e ∙ z) n
-  dozing-same {gs} {μ} {ν} {w} e f (until z l) = until (linked-same μ ν w e z) (least-same f l)
-
   pub passed-same : {gs hs : Guards} {μ ν : Mem} {w : ℕ} → ν (timeLinkWord w) ≡ μ (timeLinkWord w) → ν (timeWord w) ≡ μ (timeWord w)
       → Passed gs hs μ w → Passed gs hs ν w
   passed-same {gs} {hs} {μ} {ν} {w} e f (p-unset z) = p-unset (e ∙ z)
