@@ -31,6 +31,7 @@ use Rattle.model.proofs.Invariant.Trees.{Info, Sits}
 use Rattle.model.proofs.Invariant.Leaves.{Unmarked, MarkedOnly, Resumes, Waits, Held, h-queued, h-woken, h-input, h-output, h-stop}
 use Rattle.model.proofs.Invariant.Leaves.{h-wait, Asleep, h-asleep}
 use Rattle.model.specs.Word.{after}
+use Rattle.model.proofs.Quiet.Onwards.{timed-fine}
 
 -- expressions whose variables are as they were
 module _ (b : Part) (vars : List Site) {σ τ : Store} (same : (x : Site) → List·Memᴰ x vars → List·Memᴰ x (b .reads) → σ x ≡ τ x) where
@@ -324,15 +325,6 @@ module _ (S : Setting) (b : Part) (i : Info) (high : b .top < 2 ^ 32) (sits : Si
       picks-stays f (e-later g r) (p-first h) = p-first (λ o. ready-stays (f .0) (f .1) g o (h (onto .less o)))
       picks-stays f (e-later g r) (p-later h) = p-later (picks-stays (f .3) r h)
 
-    -- an ALT with a time guard has room for its two words
-    pub timed-room : {w : ℕ} (gs : Guards) → vw ≡ w + 1 → FineGuards (S .word) b (i .vars) (i .chans) vw gs → timed gs ≡ true
-        → b .bottom + 5 ≤ w
-    unfolding timed
-    timed-room noGuard e f t = never (cc)
-    timed-room (guard (inputGuard c d x) s gs) e f t = timed-room gs e (f .3) t
-    timed-room (guard (skipGuard c) s gs) e f t = timed-room gs e (f .3) t
-    timed-room (guard (timeGuard c u) s gs) e f t = omega (arith, e, f .1 .2)
-
     pub disabling-stays : {T T′ : Times} {k : List Frame} {gs hs : Guards} {choice w : ℕ} → Onto T T′ w (now st) (now st′) → vw ≡ w + 1
         → FineGuards (S .word) b (i .vars) (i .chans) vw gs
         → FineGuards (S .word) b (i .vars) (i .chans) vw hs → ν w ≡ μ w → ν (stateWord w) ≡ μ (stateWord w)
@@ -345,7 +337,7 @@ module _ (S : Setting) (b : Part) (i : Info) (high : b .top < 2 ^ 32) (sits : Si
           chosen = ⊎-elim (λ c. let (t, p, h, z) = c in inl (t, p, picks-stays onto f (d .known) h, e ∙ z))
               (λ c. inr (e ∙ c .0, found-stays same-w words g (c .1))) (d .chosen);
           times = λ z.
-              let (link, time) = words (timed-room gs same-w f z) in
+              let (link, time) = words (omega (arith, same-w, timed-fine (S .word) b (i .vars) (i .chans) vw gs f z)) in
               passed-stays onto f link time g (d .known) (d .times z);
           known = guarding-stays onto f (d .known);
         }
@@ -355,7 +347,7 @@ module _ (S : Setting) (b : Part) (i : Info) (high : b .top < 2 ^ 32) (sits : Si
         → (b .bottom + 5 ≤ w → (ν (timeLinkWord w) ≡ μ (timeLinkWord w)) × (ν (timeWord w) ≡ μ (timeWord w)))
         → (timed gs ≡ true → Dozing T st gs μ w) → timed gs ≡ true → Dozing T′ st′ gs ν w
     waiting-stays {gs = gs} onto same-w f words z t =
-        let (link, time) = words (timed-room gs same-w f t) in dozing-stays onto f link time (z t)
+        let (link, time) = words (omega (arith, same-w, timed-fine (S .word) b (i .vars) (i .chans) vw gs f t)) in dozing-stays onto f link time (z t)
 
 -- one that waits for the clock
 pub asleep-stays : (S : Setting) (b : Part) (i : Info) → b .top < 2 ^ 32 → Sits S b i → {st st′ : State} {μ ν : Mem}

@@ -738,11 +738,6 @@ silent-begin s k e = entering-silent (enters s k (resumes k)) e
 abbrev pub Awake : Process → Type 0
 Awake q = (t : ℕ) (k : List Frame) → q ≢ atWait t k
 
-entering-awake : {p : Process} → Entering p → Awake p
-entering-awake en-before t k e = never (cc)
-entering-awake en-read t k e = never (cc)
-entering-awake en-finished t k e = never (cc)
-
 -- a process that has come to an ALT with a time guard
 abbrev pub isAlt : Process → Bool
 isAlt (atAlt gs k) = timed gs

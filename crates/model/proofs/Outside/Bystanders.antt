@@ -26,7 +26,7 @@ use Rattle.model.proofs.Quiet.Arrivals.{Goes, comes}
 use Rattle.model.proofs.Quiet.Onwards.{AltGoes, alt-goes, Starts, rest-fine, guarded-fine}
 use Rattle.model.proofs.Invariant.Trees.{some-same, Info, newInfo, Sits, Tree, bytesLeft}
 use Rattle.model.proofs.Invariant.Stays.{value-same, Intact, goes-stays, comes-stays, unmarked-stays, noticed-stays, marked-stays}
-use Rattle.model.proofs.Invariant.Stays.{disabling-stays, present-stays, bringing-stays, guarding-stays, timed-room}
+use Rattle.model.proofs.Invariant.Stays.{disabling-stays, present-stays, bringing-stays, guarding-stays}
 use Rattle.model.proofs.Effects.OneWord.{cpuOf}
 use Rattle.model.proofs.Effects.Queues.{apart-none}
 use Rattle.model.proofs.Quiet.PathEnds.{Moving, begins, alters, ends, alt-kind, alt-moving}
@@ -36,6 +36,7 @@ use Rattle.model.proofs.Invariant.Running.{Only, Nobody, StartsLeft, La
 use Rattle.model.proofs.Invariant.Running.{ToStart, Now, now-goes, now-alt, NowStarts, Inv, runs, starts, idle}
 use Rattle.model.proofs.Invariant.Moving.{same-leaf, settled-silent, skips-silent, skips-off}
 use Rattle.model.proofs.Quiet.Timing.{Times, Onto, onto-same}
+use Rattle.model.proofs.Quiet.Onwards.{timed-fine}
 
 -- what holds of the memory at the significant instruction of a path without jumps, and is not told by spare words, holds on it
 pub way-holds : (S : Setting) {P : ℕ → Mem → ℕ → Regs → Type 0} {E : Type 0} {σ : Store} {R : Site → Type 0} {Spare : ℕ → Type 0}
@@ -102,7 +103,7 @@ module _ (S : Setting) (b : Part) (i : Info) (high : b .top < 2 ^ 32) (sits : Si
               (λ e. inl (alt-state ∙ e .0, noticed-stays S b i high sits intact (w + 1) alt-own (c .fine .1) (e .1)))
               (λ e. inr (alt-state ∙ e .0, present-stays S b i high sits intact (w + 1) (c .fine .1) (e .1))) (n .state);
           times = λ z.
-              let (link, time) = alt-times (timed-room S b i high sits intact (w + 1) gs refl (c .fine .1) z) in
+              let (link, time) = alt-times (omega (arith, timed-fine (S .word) b (i .vars) (i .chans) (w + 1) gs (c .fine .1) z)) in
               bringing-stays S b i high sits intact (w + 1) (onto w) (c .fine .1) link time (n .times z);
           known = guarding-stays S b i high sits intact (w + 1) (onto w) (c .fine .1) (n .known);
         }
