@@ -80,8 +80,8 @@ onward (faults k) more = []
 unfoldable pub bytes : (budget : ℕ) → (code rest : List ℕ) → World → List Moment
 bytes zero code rest s = []
 bytes (suc n) code rest s =
-    let more = onward (byte code s) (λ t. executed (notes code (s .machine)) t rest ∷ bytes n code rest
-    (worldOf (t .machine) (t .memory))) in
+    let told = notes code (s .machine) in
+    let more = onward (byte code s) (λ t. executed told t rest ∷ bytes n code rest (worldOf (t .machine) (t .memory))) in
     cond (ended (s .machine) || waits (s .machine)) [] more
 
 -- a run that is refused, keeps a fault or cannot begin executes nothing, and its clock is not in force

@@ -1,28 +1,24 @@
 -- Going along a timer queue to one of its processes, and the queue without it.
-use Prim.Native.Nat.{ℕ, zero, suc, _<_}
-use native.Mathlib.Omega.{arith}
-use mathlib.Core.Path.{_≡_, refl, sym, ap, _∙_, subst}
+use Prim.Native.Nat.{ℕ, _<_}
+use mathlib.Core.Path.{_≡_, refl, sym, ap, _∙_}
 use mathlib.Core.Logic.{_≢_, _⊎_, ⊎-elim}
-use mathlib.Core.Bool.{false, cond}
+use mathlib.Core.Bool.{cond}
 use mathlib.Core.List.{List, [], _∷_, List·Memᴰ, List·Memᴰ·head, List·Memᴰ·tail, List·Memᴰ·cases-cons, List·Memᴰ·not-nil}
 use mathlib.Core.Option.{Option, some}
-use lib.ListN.{length, getD}
+use lib.ListN.{length}
 use lib.Dec.{eqb}
 use borrow.Author.Tests.{eq-eqb, ne-eqb, eqb-true, eqb-false}
-use Rattle.model.specs.Word.{notProcess}
 use Rattle.model.specs.Machine.{World, done, return, timeLinkWord, nameOf}
 use Rattle.model.specs.Timer.{wasAt, Stop, along}
 use Rattle.model.proofs.Cases.{by-bool}
-use Rattle.model.proofs.Quiet.Names.{name-back, name-injective, name-given}
+use Rattle.model.proofs.Quiet.Names.{name-back, name-injective}
 use Rattle.model.proofs.Quiet.Ways.{Mem, upd, upd-same, upd-other}
-use Rattle.model.proofs.Effects.OneWord.{sizeOf, peek-in}
-use Rattle.model.proofs.Effects.Timers.{Chain, ends, next, Sorted, Once, chain-stable}
-use Rattle.model.proofs.Effects.Walking.{linkOf, Fit}
+use Rattle.model.proofs.Effects.Timers.{Chain, next, Sorted, Once, chain-stable}
+use Rattle.model.proofs.Effects.Walking.{linkOf, stopBy, stop-link, Walk, along-by}
 
 -- where the process w stands, and the workspaces without it
-unfoldable pub stopAt : (w : ℕ) → (before : Option ℕ) → List ℕ → Stop
-stopAt w b [] = record { before = b; at = notProcess }
-stopAt w b (v ∷ ts) = cond (eqb v w) (record { before = b; at = nameOf v }) (stopAt w (some (nameOf v)) ts)
+abbrev pub stopAt : (w : ℕ) → (before : Option ℕ) → List ℕ → Stop
+stopAt w b ts = stopBy (λ v. eqb v w) b ts
 
 unfoldable pub without : (w : ℕ) → List ℕ → List ℕ
 without w [] = []
@@ -30,7 +26,7 @@ without w (v ∷ ts) = cond (eqb v w) ts (v ∷ without w ts)
 
 -- it is found
 pub stop-found : (w : ℕ) (b : Option ℕ) (ts : List ℕ) → List·Memᴰ w ts → stopAt w b ts .at ≡ nameOf w
-unfolding stopAt
+unfolding stopBy
 stop-found w b [] m = absurd (List·Memᴰ·not-nil m)
 stop-found w b (v ∷ ts) m =
     by-bool (eqb v w) (λ e. rw e (ap nameOf (eqb-true v w e)))
@@ -39,39 +35,17 @@ stop-found w b (v ∷ ts) m =
 -- its link is the first one or that of another in the queue
 pub leave-link : (w : ℕ) (b : Option ℕ) (ts : List ℕ) (P : ℕ → Type 0) → P (linkOf b)
     → ((v : ℕ) → List·Memᴰ v ts → v ≢ w → P (timeLinkWord v)) → P (linkOf (stopAt w b ts .before))
-unfolding stopAt
-leave-link w b [] P p h = p
-leave-link w b (v ∷ ts) P p h =
-    by-bool (eqb v w) (λ e. rw e p)
-    (λ e.
-    rw e (leave-link w (some (nameOf v)) ts P (subst P (ap timeLinkWord (sym (name-back v))) (h v (List·Memᴰ·head refl) (eqb-false v w e)))
-    (λ u m. h u (List·Memᴰ·tail m))))
+leave-link w b ts P p h = stop-link (λ v. eqb v w) b ts P p (λ v m f. h v m (eqb-false v w f))
 
 -- the walk
-pub along-to : (n w front : ℕ) (seen : List ℕ) (b : Option ℕ) (ts : List ℕ) (s : World) (μ : Mem) (a p : ℕ)
-    → ((v : ℕ) → v < sizeOf s → getD (s .memory) v 0 ≡ μ v) → p ≡ μ a → Chain μ a ts → ((v : ℕ) → List·Memᴰ v ts → Fit (sizeOf s) v)
-    → ((v : ℕ) → List·Memᴰ v ts → wasAt (nameOf v) seen ≡ false) → Once ts → length ts < n
-    → along n (λ q. return (eqb q (nameOf w))) front seen b p s ≡ done (stopAt w b ts) s
-unfolding along stopAt wasAt
-along-to zero w front seen b ts s μ a p mirror e c fit new once l = absurd (omega arith)
-along-to (suc n) w front seen b [] s μ a p mirror e (ends z) fit new once l =
-    let at : p ≡ notProcess = e ∙ z in rw at
-along-to (suc n) w front seen b (v ∷ ts) s μ a p mirror e (next z c) fit new once l =
-    let at : p ≡ nameOf v = e ∙ z in
-    let f = fit v (List·Memᴰ·head refl) in
-    let off = ne-eqb (nameOf v) notProcess (name-given v (f .small)) in
-    let link : timeLinkWord v < sizeOf s = omega (arith, f .small, f .space, f .inside) in
-    by-bool (eqb v w)
-    (λ h.
-    let same = eq-eqb (nameOf v) (nameOf w) (ap nameOf (eqb-true v w h)) in
-    rw (at, off, new v (List·Memᴰ·head refl), same, h))
-    (λ h.
-    let other = ne-eqb (nameOf v) (nameOf w) (λ q. eqb-false v w h (name-injective v w q)) in
-    let rest = along-to n w front (nameOf v ∷ seen) (some (nameOf v)) ts s μ (timeLinkWord v) (μ (timeLinkWord v)) mirror refl c
-    (λ u m. fit u (List·Memᴰ·tail m))
-    (λ u m. rw (ne-eqb (nameOf u) (nameOf v) (λ q. once .0 u m (sym (name-injective u v q)))) (new u (List·Memᴰ·tail m)))
-    (once .1) (omega arith) in
-    rw (at, off, new v (List·Memᴰ·head refl), other, name-back v, peek-in (timeLinkWord v) s link, mirror (timeLinkWord v) link, h) rest)
+pub along-to : (n w front : ℕ) (b : Option ℕ) (ts : List ℕ) (s : World) (μ : Mem) (a p : ℕ) → p ≡ μ a → Chain μ a ts → Walk s μ ts
+    → length ts < n → along n (λ q. return (eqb q (nameOf w))) front [] b p s ≡ done (stopAt w b ts) s
+unfolding wasAt
+along-to n w front b ts s μ a p e c k l =
+    along-by (λ q. return (eqb q (nameOf w))) (λ v. eqb v w) n front [] b ts s μ a p e c k
+    (λ v m.
+    by-bool (eqb v w) (λ h. rw (h, eq-eqb (nameOf v) (nameOf w) (ap nameOf (eqb-true v w h))))
+    (λ h. rw (h, ne-eqb (nameOf v) (nameOf w) (λ q. eqb-false v w h (name-injective v w q))))) (λ v m. refl) l
 
 -- who is in the queue then
 pub without-in : (w : ℕ) (ts : List ℕ) (v : ℕ) → List·Memᴰ v (without w ts) → List·Memᴰ v ts
@@ -116,7 +90,7 @@ pub chain-without : (μ : Mem) (w : ℕ) (ts : List ℕ) (b : Option ℕ) (a : �
     → ((v : ℕ) → List·Memᴰ v ts → timeLinkWord v ≢ a)
     → ((u v : ℕ) → List·Memᴰ u ts → List·Memᴰ v ts → timeLinkWord u ≡ timeLinkWord v → u ≡ v) → Once ts
     → Chain (leftIn w (stopAt w b ts) μ) a (without w ts)
-unfolding stopAt without
+unfolding stopBy without
 chain-without μ w [] b a e m c off inj o = absurd (List·Memᴰ·not-nil m)
 chain-without μ w (v ∷ ts) b a e m (next z c) off inj o =
     by-bool (eqb v w)

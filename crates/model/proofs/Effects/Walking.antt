@@ -3,7 +3,7 @@ use Prim.Native.Nat.{ℕ, zero, suc, _^_, _≤_, _<_}
 use native.Mathlib.Omega.{arith}
 use mathlib.Core.Path.{_≡_, refl, sym, ap, _∙_, subst}
 use mathlib.Core.Logic.{_≢_, _⊎_, inl, inr, ⊎-elim}
-use mathlib.Core.Bool.{false, cond}
+use mathlib.Core.Bool.{false, cond, Bool}
 use mathlib.Core.List.{List, [], _∷_, List·Memᴰ, List·Memᴰ·head, List·Memᴰ·tail, List·Memᴰ·cases-cons, List·Memᴰ·not-nil}
 use mathlib.Core.Option.{Option, none, some}
 use lib.ListN.{length, getD}
@@ -11,7 +11,7 @@ use lib.Dec.{ltb, leb}
 use borrow.Author.Tests.{ne-eqb, ltb-true, ltb-false, leb-true, leb-false}
 use Rattle.model.specs.Word.{after, notProcess}
 use Rattle.model.specs.Limits.{wordLimit}
-use Rattle.model.specs.Machine.{World, done, timeLinkWord, timeWord, nameOf, spaceOf}
+use Rattle.model.specs.Machine.{World, done, timeLinkWord, timeWord, nameOf, spaceOf, Act}
 use Rattle.model.specs.Timer.{wasAt, Stop, along, isLater, timeSet, timeNotSet}
 use Rattle.model.proofs.Cases.{by-bool, never}
 use Rattle.model.proofs.Words.Times.{distance, Near, later-after, earlier-not}
@@ -20,10 +20,17 @@ use Rattle.model.proofs.Quiet.Ways.{Mem, frontWord, upd, upd-same, upd-
 use Rattle.model.proofs.Effects.OneWord.{sizeOf, peek-in}
 use Rattle.model.proofs.Effects.Timers.{Chain, ends, next, Sorted, Once, chain-stable, sorted-stable}
 
--- where a process with the time t has its place: before the first whose time is after it
-unfoldable pub stopIn : Mem → (t : ℕ) → (before : Option ℕ) → List ℕ → Stop
-stopIn μ t b [] = record { before = b; at = notProcess }
-stopIn μ t b (w ∷ ts) = cond (after (μ (timeWord w)) t) (record { before = b; at = nameOf w }) (stopIn μ t (some (nameOf w)) ts)
+-- where a walk stops that stops at the first process that passes a test
+unfoldable pub stopBy : (test : ℕ → Bool) → (before : Option ℕ) → List ℕ → Stop
+stopBy test b [] = record { before = b; at = notProcess }
+stopBy test b (w ∷ ts) = cond (test w) (record { before = b; at = nameOf w }) (stopBy test (some (nameOf w)) ts)
+
+-- a process with the time t has its place before the first whose time is after it
+abbrev pub later : Mem → (t w : ℕ) → Bool
+later μ t w = after (μ (timeWord w)) t
+
+abbrev pub stopIn : Mem → (t : ℕ) → (before : Option ℕ) → List ℕ → Stop
+stopIn μ t b ts = stopBy (later μ t) b ts
 
 -- the workspaces with w there
 unfoldable pub inserted : Mem → (t w : ℕ) → List ℕ → List ℕ
@@ -35,25 +42,25 @@ abbrev pub linkOf : Option ℕ → ℕ
 linkOf none = frontWord
 linkOf (some p) = timeLinkWord (spaceOf p)
 
--- the stop's link is the first one or that of one in the queue
-pub stop-link : (μ : Mem) (t : ℕ) (b : Option ℕ) (ts : List ℕ) (P : ℕ → Type 0) → P (linkOf b)
-    → ((v : ℕ) → List·Memᴰ v ts → P (timeLinkWord v)) → P (linkOf (stopIn μ t b ts .before))
-unfolding stopIn
-stop-link μ t b [] P p h = p
-stop-link μ t b (w ∷ ts) P p h =
-    by-bool (after (μ (timeWord w)) t) (λ e. rw e p)
+-- the stop's link is the first one or that of one that was passed
+pub stop-link : (test : ℕ → Bool) (b : Option ℕ) (ts : List ℕ) (P : ℕ → Type 0) → P (linkOf b)
+    → ((v : ℕ) → List·Memᴰ v ts → test v ≡ false → P (timeLinkWord v)) → P (linkOf (stopBy test b ts .before))
+unfolding stopBy
+stop-link test b [] P p h = p
+stop-link test b (w ∷ ts) P p h =
+    by-bool (test w) (λ e. rw e p)
     (λ e.
-    rw e (stop-link μ t (some (nameOf w)) ts P (subst P (ap timeLinkWord (sym (name-back w))) (h w (List·Memᴰ·head refl)))
+    rw e (stop-link test (some (nameOf w)) ts P (subst P (ap timeLinkWord (sym (name-back w))) (h w (List·Memᴰ·head refl) e))
     (λ v m. h v (List·Memᴰ·tail m))))
 
 -- what is there is a name, or none
-pub stop-names : (μ : Mem) (t : ℕ) (b : Option ℕ) (ts : List ℕ) → ((v : ℕ) → List·Memᴰ v ts → v ≤ wordLimit)
-    → (stopIn μ t b ts .at ≢ timeSet) × (stopIn μ t b ts .at ≢ timeNotSet)
-unfolding stopIn
-stop-names μ t b [] small = ((λ e. absurd (omega (arith, e))), (λ e. absurd (omega (arith, e))))
-stop-names μ t b (w ∷ ts) small =
-    by-bool (after (μ (timeWord w)) t) (λ e. rw e (name-unset w (small w (List·Memᴰ·head refl))))
-    (λ e. rw e (stop-names μ t (some (nameOf w)) ts (λ v m. small v (List·Memᴰ·tail m))))
+pub stop-names : (test : ℕ → Bool) (b : Option ℕ) (ts : List ℕ) → ((v : ℕ) → List·Memᴰ v ts → v ≤ wordLimit)
+    → (stopBy test b ts .at ≢ timeSet) × (stopBy test b ts .at ≢ timeNotSet)
+unfolding stopBy
+stop-names test b [] small = ((λ e. absurd (omega (arith, e))), (λ e. absurd (omega (arith, e))))
+stop-names test b (w ∷ ts) small =
+    by-bool (test w) (λ e. rw e (name-unset w (small w (List·Memᴰ·head refl))))
+    (λ e. rw e (stop-names test (some (nameOf w)) ts (λ v m. small v (List·Memᴰ·tail m))))
 
 -- what is known of the workspaces of a queue: they are small, with time words in memory
 pub record Fit (size v : ℕ) : Type 0 where
@@ -61,40 +68,54 @@ pub record Fit (size v : ℕ) : Type 0 where
   pub space : 5 ≤ v
   pub inside : v ≤ size
 
--- the walk, from where the word a leads
-pub along-in : (n t front : ℕ) (seen : List ℕ) (b : Option ℕ) (ts : List ℕ) (s : World) (μ : Mem) (a p : ℕ)
-    → ((v : ℕ) → v < sizeOf s → getD (s .memory) v 0 ≡ μ v) → p ≡ μ a → Chain μ a ts → ((v : ℕ) → List·Memᴰ v ts → Fit (sizeOf s) v)
-    → ((v : ℕ) → List·Memᴰ v ts → wasAt (nameOf v) seen ≡ false) → Once ts → length ts < n
-    → along n (isLater t) front seen b p s ≡ done (stopIn μ t b ts) s
-unfolding along stopIn wasAt
-along-in zero t front seen b ts s μ a p mirror e c fit new once l = absurd (omega arith)
-along-in (suc n) t front seen b [] s μ a p mirror e (ends z) fit new once l =
+-- a queue that a walk goes along, from where the word a leads
+pub record Walk (s : World) (μ : Mem) (ts : List ℕ) : Type 0 where
+  pub mirror : (v : ℕ) → v < sizeOf s → getD (s .memory) v 0 ≡ μ v
+  pub fit : (v : ℕ) → List·Memᴰ v ts → Fit (sizeOf s) v
+  pub once : Once ts
+
+pub along-by : (stops : ℕ → Act Bool) (test : ℕ → Bool) (n front : ℕ) (seen : List ℕ) (b : Option ℕ) (ts : List ℕ) (s : World) (μ : Mem)
+    (a p : ℕ) → p ≡ μ a → Chain μ a ts → Walk s μ ts → ((v : ℕ) → List·Memᴰ v ts → stops (nameOf v) s ≡ done (test v) s)
+    → ((v : ℕ) → List·Memᴰ v ts → wasAt (nameOf v) seen ≡ false) → length ts < n
+    → along n stops front seen b p s ≡ done (stopBy test b ts) s
+unfolding along stopBy wasAt
+along-by stops test zero front seen b ts s μ a p e c k says new l = absurd (omega arith)
+along-by stops test (suc n) front seen b [] s μ a p e (ends z) k says new l =
     let at : p ≡ notProcess = e ∙ z in rw at
-along-in (suc n) t front seen b (w ∷ ts) s μ a p mirror e (next z c) fit new once l =
+along-by stops test (suc n) front seen b (w ∷ ts) s μ a p e (next z c) k says new l =
     let at : p ≡ nameOf w = e ∙ z in
-    let f = fit w (List·Memᴰ·head refl) in
+    let f = k .fit w (List·Memᴰ·head refl) in
     let off = ne-eqb (nameOf w) notProcess (name-given w (f .small)) in
-    let time : timeWord w < sizeOf s = omega (arith, f .small, f .space, f .inside) in
     let link : timeLinkWord w < sizeOf s = omega (arith, f .small, f .space, f .inside) in
-    let u = μ (timeWord w) in
-    by-bool (after u t)
-    (λ h. rw (at, off, new w (List·Memᴰ·head refl), name-back w, peek-in (timeWord w) s time, mirror (timeWord w) time, h))
+    let said = says w (List·Memᴰ·head refl) in
+    by-bool (test w)
+    (λ h. rw (at, off, new w (List·Memᴰ·head refl), said, h))
     (λ h.
-    let rest = along-in n t front (nameOf w ∷ seen) (some (nameOf w)) ts s μ (timeLinkWord w) (μ (timeLinkWord w)) mirror refl c
-    (λ v m. fit v (List·Memᴰ·tail m))
-    (λ v m. rw (ne-eqb (nameOf v) (nameOf w) (λ q. once .0 v m (sym (name-injective v w q)))) (new v (List·Memᴰ·tail m)))
-    (once .1) (omega arith) in
+    let rest = along-by stops test n front (nameOf w ∷ seen) (some (nameOf w)) ts s μ (timeLinkWord w) (μ (timeLinkWord w)) refl c
+    (record { mirror = k .mirror; fit = λ v m. k .fit v (List·Memᴰ·tail m); once = k .once .1 }) (λ v m. says v (List·Memᴰ·tail m))
+    (λ v m. rw (ne-eqb (nameOf v) (nameOf w) (λ q. k .once .0 v m (sym (name-injective v w q)))) (new v (List·Memᴰ·tail m)))
+    (omega arith) in
     rw (
       at,
       off,
       new w (List·Memᴰ·head refl),
-      name-back w,
-      peek-in (timeWord w) s time,
-      mirror (timeWord w) time,
+      said,
       h,
+      name-back w,
       peek-in (timeLinkWord w) s link,
-      mirror (timeLinkWord w) link,
+      k .mirror (timeLinkWord w) link,
     ) rest)
+
+-- to the place of a time
+pub along-in : (n t front : ℕ) (b : Option ℕ) (ts : List ℕ) (s : World) (μ : Mem) (a p : ℕ) → p ≡ μ a → Chain μ a ts → Walk s μ ts
+    → length ts < n → along n (isLater t) front [] b p s ≡ done (stopIn μ t b ts) s
+unfolding wasAt
+along-in n t front b ts s μ a p e c k l =
+    along-by (isLater t) (later μ t) n front [] b ts s μ a p e c k
+    (λ v m.
+    let f = k .fit v m in
+    let time : timeWord v < sizeOf s = omega (arith, f .small, f .space, f .inside) in
+    rw (name-back v, peek-in (timeWord v) s time, k .mirror (timeWord v) time)) (λ v m. refl) l
 
 -- who is in the queue then
 pub inserted-in : (μ : Mem) (t w : ℕ) (ts : List ℕ) (v : ℕ) → List·Memᴰ v (inserted μ t w ts) → (v ≡ w) ⊎ List·Memᴰ v ts
@@ -180,7 +201,7 @@ pub record Distinct (a w : ℕ) (ts : List ℕ) : Type 0 where
 pub chain-inserted : (μ : Mem) (t w : ℕ) (ts : List ℕ) (b : Option ℕ) (a : ℕ) → linkOf b ≡ a → Chain μ a ts → Distinct a w ts
     → ((u v : ℕ) → List·Memᴰ u ts → List·Memᴰ v ts → timeLinkWord u ≡ timeLinkWord v → u ≡ v) → Once ts
     → Chain (insertedIn w (stopIn μ t b ts) μ) a (inserted μ t w ts)
-unfolding inserted stopIn
+unfolding inserted stopBy
 chain-inserted μ t w [] b a e (ends z) d inj o =
     let ν = upd (upd μ (timeLinkWord w) notProcess) (linkOf b) (nameOf w) in
     let at : ν a ≡ nameOf w = ap ν (sym e) ∙ upd-same (upd μ (timeLinkWord w) notProcess) (linkOf b) (nameOf w) in
@@ -210,15 +231,7 @@ chain-inserted μ t w (v ∷ ts) b a e (next z c) d inj o =
     }) (λ x y m n. inj x y (List·Memᴰ·tail m) (List·Memᴰ·tail n)) (o .1) in
     let at : insertedIn w st μ a ≡ nameOf v =
     upd-other (upd μ (timeLinkWord w) (st .at)) (linkOf (st .before)) (nameOf w) a
-    (λ q. stops-off μ t ts v a (λ x m p. d .others x m (sym p)) (q ∙ refl))
+    (stop-link (later μ t) (some (nameOf v)) ts (λ y. a ≢ y)
+    (λ q. d .others v (List·Memᴰ·head refl) (sym (q ∙ ap timeLinkWord (name-back v)))) (λ x m f q. d .others x (List·Memᴰ·tail m) (sym q)))
     ∙ upd-other μ (timeLinkWord w) (st .at) a (λ q. d .first (sym q)) ∙ z in
     rw h (next at rest))
-  where
-    -- the stop's word is the link of one of those that were passed
-    stops-off : (μ : Mem) (t : ℕ) (ts : List ℕ) (v a : ℕ) → ((x : ℕ) → List·Memᴰ x (v ∷ ts) → a ≢ timeLinkWord x)
-        → a ≢ linkOf (stopIn μ t (some (nameOf v)) ts .before)
-    stops-off μ t [] v a d q = d v (List·Memᴰ·head refl) (q ∙ ap timeLinkWord (name-back v))
-    stops-off μ t (x ∷ ts) v a d q =
-        by-bool (after (μ (timeWord x)) t)
-        (λ h. d v (List·Memᴰ·head refl) ((rw h at q) ∙ ap timeLinkWord (name-back v)))
-        (λ h. stops-off μ t ts x a (λ y m. d y (List·Memᴰ·tail m)) (rw h at q))

@@ -26,7 +26,7 @@ use Rattle.model.proofs.Invariant.Writes.{apart-zones, time-words, plai
 use Rattle.model.specs.Timer.{Stop, timeSet, timeNotSet}
 use Rattle.model.proofs.Words.Times.{Near}
 use Rattle.model.proofs.Effects.Walking.{stopIn, stop-link, inserted, linkOf, Fit, inserted-in, in-inserted, once-inserted}
-use Rattle.model.proofs.Effects.Walking.{sorted-inserted, insertedIn, chain-inserted, stop-names}
+use Rattle.model.proofs.Effects.Walking.{sorted-inserted, insertedIn, chain-inserted, stop-names, later}
 use mathlib.Core.Option.{none}
 use Rattle.model.proofs.Invariant.Moving.{same-leaf, other-w}
 use Rattle.model.proofs.Quiet.Timing.{Linked, Dozing, no-time, until, Passed, p-unset, p-set, p-linked, least-same, linked-same}
@@ -372,15 +372,15 @@ module _ (L : Loaded) where
 
     -- the word that leads to it then
     pub spot : Spot st t Out μ (linkOf (place .before))
-    spot = stop-link μ tm none ts (Spot st t Out μ) at-front (λ v m. elim (h .sleepers .each v m) [
+    spot = stop-link (later μ tm) none ts (Spot st t Out μ) at-front (λ v m f. elim (h .sleepers .each v m) [
       | sleeper l e a d ↦
           subst (λ z. Spot st t Out μ (timeLinkWord z)) e (behind l a d (subst (Linked μ) (sym e) (linked-in L h v m)))
     ])
 
     -- that word is in no part of its own
     off-spot : (v : ℕ) → b .bottom ≤ v → v < b .top → v ≢ linkOf (place .before)
-    off-spot v lo hi = stop-link μ tm none ts (λ z. v ≢ z) (λ e. absurd (omega (arith, e, hi, part-small L leaf, S L .top-small)))
-        (λ u m. elim (h .sleepers .each u m) [
+    off-spot v lo hi = stop-link (later μ tm) none ts (λ z. v ≢ z) (λ e. absurd (omega (arith, e, hi, part-small L leaf, S L .top-small)))
+        (λ u m passed. elim (h .sleepers .each u m) [
           | sleeper {path = other} l e a d ↦ λ f.
               let words = time-words L l a in
               ⊎-elim (λ p. absent u m (same-leaf L (λ q b (y : Info). y .w ≡ u) (sym p) l leaf e))
@@ -395,7 +395,7 @@ module _ (L : Loaded) where
         upd-other ν (linkOf (place .before)) (nameOf w) v (off-spot v lo hi) ∙ upd-other μ (timeLinkWord w) (place .at) v d
 
     spot-then : Spot st t Out ν (linkOf (place .before))
-    spot-then = stop-link μ tm none ts (Spot st t Out ν) at-front (λ v m. elim (h .sleepers .each v m) [
+    spot-then = stop-link (later μ tm) none ts (Spot st t Out ν) at-front (λ v m f. elim (h .sleepers .each v m) [
       | sleeper {path = other} l e a d ↦
           let words = time-words L l a in
           let far : timeLinkWord v ≢ timeLinkWord w = λ f.
@@ -422,7 +422,7 @@ module _ (L : Loaded) where
 
     -- its link is one
     at-link : (place .at ≢ timeSet) × (place .at ≢ timeNotSet)
-    at-link = stop-names μ tm none ts (λ v m. fits h v m .small)
+    at-link = stop-names (later μ tm) none ts (λ v m. fits h v m .small)
 
     pub linked-then : Linked η w
     linked-then =
@@ -437,7 +437,7 @@ module _ (L : Loaded) where
       | sleeper {path = other} l e a d ↦
           let words = time-words L l a in
           upd-other ν (linkOf (place .before)) (nameOf w) (timeWord v)
-          (stop-link μ tm none ts (λ z. timeWord v ≢ z) (λ z. absurd (omega (arith, z))) (λ u o. times-off h u v o m))
+          (stop-link (later μ tm) none ts (λ z. timeWord v ≢ z) (λ z. absurd (omega (arith, z))) (λ u o f. times-off h u v o m))
           ∙ upd-other μ (timeLinkWord w) (place .at) (timeWord v)
           (λ z. ⊎-elim (λ p. absent v m (same-leaf L (λ q b (y : Info). y .w ≡ v) (sym p) l leaf e))
           (λ c. apart-zones L c (node L leaf) (node L l) .words (timeLinkWord w) (own-words .0, own-words .1)
@@ -491,8 +491,8 @@ module _ (L : Loaded) where
               → Dozer L Out′ other p → (isAlt p ≡ true → Linked η (j .w)) → Dec (timeLinkWord (j .w) ≡ linkOf (place .before))
               → List·Memᴰ (j .w) ts
           link-of {j = j} l a u d f (yes e) =
-              stop-link μ tm none ts (λ z. timeLinkWord (j .w) ≡ z → List·Memᴰ (j .w) ts) (λ z. absurd (omega (arith, z)))
-              (λ v m z.
+              stop-link (later μ tm) none ts (λ z. timeLinkWord (j .w) ≡ z → List·Memᴰ (j .w) ts) (λ z. absurd (omega (arith, z)))
+              (λ v m passed z.
               subst (λ y. List·Memᴰ y ts)
               (omega (arith, z, a, sits-at L l .placed .low, part-small L l, S L .top-small, fits h v m .small, fits h v m .space)) m) e
           link-of {other} {j = j} l a u d f (no e) =

@@ -6,7 +6,7 @@ use mathlib.Core.Logic.{_≢_, _⊎_, inl, inr, ⊎-elim}
 use mathlib.Core.List.{List, [], List·Memᴰ}
 use mathlib.Core.Option.{Option, none, some}
 use Rattle.model.specs.Machine.{World, done, withTimer, linkWord, timeLinkWord, timeWord, nameOf, spaceOf, release}
-use Rattle.model.specs.Timer.{wasAt, Stop, along, isLater, walk, link, sleep}
+use Rattle.model.specs.Timer.{Stop, along, isLater, walk, link, sleep}
 use Rattle.model.specs.Occam.{Process, State, now, Step}
 use Rattle.model.proofs.Cases.{never}
 use Rattle.model.proofs.Quiet.Ways.{Mem, frontWord, upd, upd-same, upd-other}
@@ -14,7 +14,7 @@ use Rattle.model.proofs.Words.Parts.{Part}
 use Rattle.model.proofs.Invariant.Trees.{Info, Tree}
 use Rattle.model.proofs.Effects.OneWord.{cpuOf, sizeOf, stored, poke-in}
 use Rattle.model.proofs.Effects.Queues.{queue-same}
-use Rattle.model.proofs.Effects.Walking.{linkOf, along-in, stopIn, insertedIn}
+use Rattle.model.proofs.Effects.Walking.{linkOf, along-in, stopIn, insertedIn, Walk}
 use Rattle.model.proofs.Invariant.Kernel.{Loaded, S, root, size, LeafAt, Rest, Lined, Real, part-small, sits-at, Dozer}
 use Rattle.model.proofs.Invariant.Grounds.{small-size}
 use Rattle.model.proofs.Invariant.Running.{Only, Nobody, Did}
@@ -112,6 +112,16 @@ sleep-in t p s inside found links =
       link-in (p .before) (nameOf w) (stored (timeLinkWord w) (p .at) s) links,
     )
 
+-- the timer queue is one to walk along
+pub walk-of : (L : Loaded) {s : World} {st : State} {μ : Mem} {t : Tree (S L) (root L) (st .process)} {Out : List ℕ → Type 0} {ws : List ℕ}
+    → Real L s st μ ws → (rest : Rest L st μ t Out ws) → Walk s μ (rest .sleepers .asleep)
+walk-of L real rest =
+    record {
+      mirror = λ v l. real .mirror v (omega (arith, l, size-is L real));
+      fit = λ v m. rw (size-is L real) (fits L rest v m);
+      once = rest .sleepers .once;
+    }
+
 -- a process at work that is to join the timer queue: its time is in its word, and it is not there yet
 pub record Joining (L : Loaded) (s : World) (st : State) (μ : Mem) (t : Tree (S L) (root L) (st .process)) (path : List ℕ) (q : Process)
     (b : Part) (i : Info) (ws : List ℕ) : Type 0 where
@@ -149,13 +159,10 @@ module _ (L : Loaded) {s : World} {st : State} {μ : Mem} {t : Tree (S L) (root 
 
   -- the walk finds that place
   walked : along (suc (sizeOf s)) (isLater (J .tm)) (s .machine .timer .front) [] none (s .machine .timer .front) s ≡ done stop s
-  unfolding wasAt
   walked =
       let front = s .machine .timer .front in
-      along-in (suc (sizeOf s)) (J .tm) front [] none (J .rest .sleepers .asleep) s μ frontWord front
-      (λ v l. J .real .mirror v (omega (arith, l, size-is L (J .real)))) (J .real .front) (J .rest .sleepers .chain)
-      (λ v m. rw (size-is L (J .real)) (fits L (J .rest) v m)) (λ v m. refl) (J .rest .sleepers .once)
-      (omega (arith, few-asleep L (J .rest), size-is L (J .real)))
+      along-in (suc (sizeOf s)) (J .tm) front none (J .rest .sleepers .asleep) s μ frontWord front (J .real .front)
+      (J .rest .sleepers .chain) (walk-of L (J .real) (J .rest)) (omega (arith, few-asleep L (J .rest), size-is L (J .real)))
 
   pub sleeps-in : sleep (J .tm) s ≡ done tt (queuedAt stop s)
   sleeps-in =

@@ -36,14 +36,13 @@ use Rattle.model.proofs.Steps.Enabling.{space, true-when, false-when, S
 use Rattle.model.proofs.Steps.Enabling.{mine-size, mine-holds, Mine, w-under, state-mine, state-other, base-other, fine-rest}
 use Rattle.model.proofs.Steps.Disabling.{past-found, passed-past, Disabled, far, Chosen, Marks, IsReady, Kept, Goal, times-kept}
 use Rattle.model.proofs.Steps.Disabling.{disables-on, chooses-it, kept-choosing, times-choosing, ready-choosing}
-use Rattle.model.proofs.Steps.Sleep.{linkedTo, linked-cpu, linked-talk, real-linked, link-inside}
+use Rattle.model.proofs.Steps.Sleep.{linkedTo, linked-cpu, linked-talk, real-linked, link-inside, walk-of}
 use lib.Dec.{eqb}
 use Rattle.model.proofs.Invariant.Unlinking.{place, η, there, spot, own-left, chan-left, rest-left}
 use Rattle.model.proofs.Invariant.Writes.{time-words}
 use Rattle.model.proofs.Invariant.Reals.{size-is, real-stored, link-any, real-cpu}
 use Rattle.model.proofs.Invariant.Few.{few-asleep}
 use Rattle.model.proofs.Invariant.Grounds.{small-size, sound-at}
-use Rattle.model.proofs.Invariant.Sleeping.{fits}
 use Rattle.model.proofs.Effects.Leaving.{along-to, stop-found, leftIn}
 use Rattle.model.proofs.Quiet.Names.{name-given}
 use Rattle.model.proofs.Invariant.Finish.{alt-goes-on}
@@ -271,10 +270,8 @@ module _ (L : Loaded) {s : World} {st : State} {μ : Mem} {t : Tree (S L) (root 
       unfolding wasAt
       walked =
           let front = s .machine .timer .front in
-          along-to (suc (sizeOf s)) (i .w) front [] none (A .rest .sleepers .asleep) s μ frontWord front
-          (λ v l. A .real .mirror v (omega (arith, l, size-is L (A .real)))) (A .real .front) (A .rest .sleepers .chain)
-          (λ v m. rw (size-is L (A .real)) (fits L (A .rest) v m)) (λ v m. refl) (A .rest .sleepers .once)
-          (omega (arith, few-asleep L (A .rest), size-is L (A .real)))
+          along-to (suc (sizeOf s)) (i .w) front none (A .rest .sleepers .asleep) s μ frontWord front (A .real .front)
+          (A .rest .sleepers .chain) (walk-of L (A .real) (A .rest)) (omega (arith, few-asleep L (A .rest), size-is L (A .real)))
 
       some-there : behind .at ≢ notProcess
       some-there f =
