@@ -7,9 +7,9 @@ use mathlib.Core.List.{List}
 use lib.ListN.{set}
 use lib.Dec.{ltb, eqb}
 use Rattle.model.specs.Word.{notProcess}
-use Rattle.model.specs.Machine.{World, Act, Result, done, faults, next, _>>=_, _>>_, return, registers, setFront, memorySize, poke}
-use Rattle.model.specs.Machine.{release}
-use Rattle.model.specs.Machine.{stateWord, timeLinkWord, nameOf}
+use Rattle.model.specs.Machine.{_>>_, _>>=_, World, Act, Result, done, faults, next, return, registers}
+use Rattle.model.specs.Machine.{setFront, memorySize, poke, release, stateWord}
+use Rattle.model.specs.Machine.{timeLinkWord, nameOf}
 use Rattle.model.specs.Alternative.{enabling, noneSelected, beginAlt}
 use Rattle.model.specs.Timer.{Stop, walk, link, sleep, beginTimedAlt, waitTimedAlt, leaveTimer, timeNotSet}
 use Rattle.model.specs.declared.Cpu.{Cpu}
@@ -32,7 +32,8 @@ use Rattle.timer.specs.declared.walk.Walked.{Walked}
 use Rattle.timer.specs.declared.walk.Walked.the-variants.{At, Fault as NotWalked}
 use Rattle.timer.specs.Walks.{stopsOf, fromFront, walkIn}
 use Rattle.timer.specs.Sleeps.{SameCpu, linkRelease, sleepRelease, poke2Sleep, poke2, waitReady, unlink}
-use Rattle.timer.proofs.Walking.{nothing, sized, placed, walk-so}
+use Rattle.processor.proofs.Looks.{anyRest, anySetup}
+use Rattle.timer.proofs.Walking.{placed, walk-so}
 
 -- an action that does not see the front
 pub still : {u : Setup} {act : Act (Unit {0})} {r : Cpu} {l m : List ℕ} {s : Step} (k f : ℕ) → Does u act r l s m
@@ -96,8 +97,8 @@ kept-cpu x u r n m k false (Fault j) e = tt
 pub poke-same : (a v : ℕ) {size : ℕ} {r : Cpu} {l m : List ℕ} (s : Step) → Works size (poke a v) r l s m → SameCpu s r
 unfolding poke
 poke-same a v {size} {r} {l} {m} s d =
-    let u = sized size in
-    kept-cpu nothing u r (set l a v) m (Word a) (ltb a (memorySize u)) s (d u (omega arith) .said nothing)
+    let u = anySetup size in
+    kept-cpu anyRest u r (set l a v) m (Word a) (ltb a (memorySize u)) s (d u (omega arith) .said anyRest)
 
 -- a step with the same registers as another
 pub same-as : (r : Cpu) (s t : Step) → t ≡ s → SameCpu s r → SameCpu t r

@@ -1,7 +1,6 @@
 -- A walk along the timer queue comes to what counting its steps comes to: one that comes to a process where it was before passes the same
 -- processes for ever, since it changes nothing.
 use Prim.Native.Nat.{ℕ, zero, suc}
-use native.Mathlib.Omega.{arith}
 use mathlib.Core.Path.{_≡_, refl, sym, ap, _∙_, subst}
 use mathlib.Core.Logic.{_⊎_, inl, inr, ⊎-elim}
 use mathlib.Core.Bool.{Bool, true, false, cond, _||_}
@@ -10,13 +9,11 @@ use lib.ListN.{getD}
 use lib.Dec.{ltb, eqb}
 use borrow.Author.Tests.{eq-eqb, eqb-true}
 use Rattle.model.specs.Word.{after, notProcess}
-use Rattle.model.specs.Machine.{World, Act, Result, done, faults, next, _>>=_, return, memorySize, peek, timeLinkWord, timeWord, spaceOf}
-use Rattle.model.specs.Machine.{nameOf}
-use Rattle.model.specs.Run.{noTimer, registersAt}
+use Rattle.model.specs.Machine.{_>>=_, World, Act, Result, done, faults, next, return, memorySize}
+use Rattle.model.specs.Machine.{peek, timeLinkWord, timeWord, spaceOf, nameOf}
 use Rattle.model.specs.Timer.{wasAt, Stop, along, walk}
 use Rattle.model.specs.declared.Cpu.{Cpu}
 use Rattle.model.specs.declared.Setup.{Setup}
-use Rattle.model.specs.declared.Kept.the-variants.{Nothing}
 use Rattle.model.specs.declared.FaultKind.{FaultKind}
 use Rattle.model.specs.declared.FaultKind.the-variants.{Word}
 use Rattle.model.proofs.Cases.{by-bool, never}
@@ -24,6 +21,7 @@ use Rattle.processor.specs.Quiet.{timing}
 use Rattle.processor.specs.Seen.{Rest, world, found, Finds, looked}
 use Rattle.processor.specs.declared.memory.Peeked.{Peeked}
 use Rattle.processor.specs.declared.memory.Peeked.the-variants.{Value, Fault as Refused}
+use Rattle.processor.proofs.Looks.{finds-looked}
 use Rattle.timer.specs.declared.walk.Until.{Until}
 use Rattle.timer.specs.declared.walk.Until.the-variants.{Later, Is}
 use Rattle.timer.specs.declared.walk.Tested.{Tested}
@@ -33,38 +31,16 @@ use Rattle.timer.specs.declared.walk.Passed.the-variants.{Stops, On, Fau
 use Rattle.timer.specs.declared.walk.Place.{Place}
 use Rattle.timer.specs.declared.walk.Walked.{Walked}
 use Rattle.timer.specs.declared.walk.Walked.the-variants.{At, Fault as NotWalked}
-use Rattle.timer.specs.Walks.{stopsOf, stopsIn, testing, laterThan, passing, onTo, passIn, fromFront, behind, walkIn}
-use Rattle.timer.specs.Walks.{beforeOf}
-
--- a word that was looked for is the memory's
-seen-so : (t : Bool) (v : ℕ) (a : ℕ) (s : World) (p : Peeked) (x : Rest) (u : Setup) (r : Cpu) (l : List ℕ)
-    → cond t (done v s) (faults (Word a)) ≡ found x u r p l → p ≡ cond t (Value v) (Refused (Word a))
-seen-so true v a s (Value w) x u r l e = cc
-seen-so true v a s (Refused k) x u r l e = cc
-seen-so false v a s (Value w) x u r l e = cc
-seen-so false v a s (Refused k) x u r l e = cc
+use Rattle.timer.specs.Walks.{stopsOf, stopsIn, testing, laterThan, passing, onTo, passIn, fromFront, behind, walkIn, beforeOf}
 
 by-passed : {R : Type 0} (p : Passed) → (p ≡ Stops → R) → ((q : ℕ) → p ≡ On q → R) → ((k : FaultKind) → p ≡ NotPassed k → R) → R
 by-passed Stops s o n = s refl
 by-passed (On q) s o n = o q refl
 by-passed (NotPassed k) s o n = n k refl
 
--- a rest of the world, registers and a setup of so many words
-pub nothing : Rest
-nothing = record { timer = noTimer; offers = []; held = []; fault = Nothing; talk = [] }
-
-abbrev pub sized : ℕ → Setup
-sized n = record { code = 0; base = n; inputs = 0; outputs = 0; slice = 0 }
-
 -- what was found at a word is what is in the memory
 pub saw : (size : ℕ) (l : List ℕ) {a b : ℕ} {p q : Peeked} → Finds size (peek a) l p → a ≡ b → p ≡ q → looked size b l ≡ q
-unfolding peek
-saw size l {a} {b} {p} h e f =
-    let u = sized size in
-    let z : memorySize u ≡ size = omega arith in
-    let g : p ≡ cond (ltb a (memorySize u)) (Value (getD l a 0)) (Refused (Word a)) =
-    seen-so (ltb a (memorySize u)) (getD l a 0) a _ p nothing u (registersAt 0 false) l (h u z nothing (registersAt 0 false)) in
-    rw (← e, ← f, g, z)
+saw size l {a} {p = p} h e f = rw (← e, ← f) (sym (finds-looked size a l p h))
 
 module _ (u : Setup) (x : Rest) (r : Cpu) (l : List ℕ) where
   abbrev w : World

@@ -1,56 +1,26 @@
 -- Laws of actions whose writes stand where they fault.
 use Prim.Native.Nat.{ℕ, _<_}
-use native.Mathlib.Omega.{arith}
 use mathlib.Core.Path.{_≡_, refl, ap, sym, _∙_}
 use mathlib.Core.Bool.{Bool, true, false, cond}
-use mathlib.Core.List.{List, []}
+use mathlib.Core.List.{List}
 use borrow.Author.Tests.{ltb-true}
 use lib.ListN.{getD, set, length-set}
 use lib.Seq.{drop-set-lt}
 use lib.Dec.{ltb}
-use Rattle.model.specs.Machine.{World, Act, done, faults, _>>=_, _>>_, memorySize, queueing, peek, poke, linkWord, enqueue}
-use Rattle.model.specs.Run.{noTimer, registersAt}
+use Rattle.model.specs.Machine.{_>>_, _>>=_, World, Act, done, faults, memorySize, queueing, poke, linkWord, enqueue}
 use Rattle.model.specs.declared.Cpu.{Cpu}
 use Rattle.model.specs.declared.Setup.{Setup}
-use Rattle.model.specs.declared.Kept.the-variants.{Nothing}
 use Rattle.model.specs.declared.FaultKind.{FaultKind}
 use Rattle.model.specs.declared.FaultKind.the-variants.{Word}
 use Rattle.model.proofs.Cases.{by-bool, never}
-use Rattle.processor.specs.Seen.{Rest, world, Does, found, Finds, looked, written}
+use Rattle.processor.specs.Seen.{Rest, world, Does, looked, written}
 use Rattle.processor.specs.declared.memory.Step.{Step}
 use Rattle.processor.specs.declared.memory.Step.the-variants.{Done, Fault}
 use Rattle.processor.specs.declared.memory.Peeked.{Peeked}
 use Rattle.processor.specs.declared.memory.Peeked.the-variants.{Value, Fault as Refused}
 use Rattle.processor.proofs.Laws.{value-inside, fault-outside, enqueue-behind, enqueue-first}
+use Rattle.processor.proofs.Looks.{anyRest}
 use Rattle.waking.specs.Wakes.{Beyond, Rough}
-
--- a rest of the world, where one is asked for
-abbrev pub anyRest : Rest
-anyRest = record { timer = noTimer; offers = []; held = []; fault = Nothing; talk = [] }
-
--- a machine with so many words
-abbrev pub anySetup : (size : ℕ) → Setup
-anySetup size = record { code = 0; base = size; inputs = 0; outputs = 0; slice = 0 }
-
-pub anySize : (size : ℕ) → memorySize (anySetup size) ≡ size
-anySize size = omega arith
-
--- what was looked for, from what a look into the memory came to
-of-found :
-    (x : Rest) (u : Setup) (r : Cpu) (l : List ℕ) (t : Bool) (v : ℕ) (k : FaultKind) (p : Peeked)
-    → cond t (done v (world x u r l)) (faults k) ≡ found x u r p l → p ≡ cond t (Value v) (Refused k)
-of-found x u r l true v k (Value w) e = cc
-of-found x u r l true v k (Refused j) e = never (cc)
-of-found x u r l false v k (Value w) e = never (cc)
-of-found x u r l false v k (Refused j) e = cc
-
-pub finds-looked : (size a : ℕ) (l : List ℕ) (p : Peeked) → Finds size (peek a) l p → p ≡ looked size a l
-unfolding peek
-finds-looked size a l p f =
-    let u = anySetup size in
-    let r = registersAt 0 false in
-    let e = f u (anySize size) anyRest r in
-    rw (anySize size) at (of-found anyRest u r l (ltb a (memorySize u)) (getD l a 0) (Word a) p e)
 
 -- a word inside is written
 pub written-beyond : (size : ℕ) (l : List ℕ) (a v : ℕ) → a < size → Beyond size l (set l a v)

@@ -6,8 +6,7 @@ use mathlib.Core.List.{List}
 use borrow.Author.Tests.{ltb-true}
 use lib.ListN.{getD, set}
 use lib.Dec.{ltb, eqb}
-use Rattle.model.specs.Machine.{World, Act, next, _>>=_, _>>_, return, registers, peek, poke, spaceOf, stateWord}
-use Rattle.model.specs.Machine.{timeLinkWord, timeWord}
+use Rattle.model.specs.Machine.{_>>_, _>>=_, World, Act, next, return, registers, peek, poke, spaceOf, stateWord, timeLinkWord, timeWord}
 use Rattle.model.specs.Alternative.{waiting}
 use Rattle.model.specs.Timer.{timeSet, wakeOne}
 use Rattle.model.specs.declared.Cpu.{Cpu}
@@ -25,7 +24,8 @@ use Rattle.waking.specs.Wakes.{Beyond, Runs, Roughly, readyJoin, wakeSta
 use Rattle.waking.specs.declared.wake.Awake.{Awake}
 use Rattle.waking.specs.declared.wake.Woken.{Woken}
 use Rattle.waking.specs.declared.wake.Woken.the-variants.{Done, Fault}
-use Rattle.waking.proofs.Roughly.{anyRest, anySetup, anySize, written-beyond, beyond-on, beyond-same}
+use Rattle.processor.proofs.Looks.{anyRest, anySetup, anySize}
+use Rattle.waking.proofs.Roughly.{written-beyond, beyond-on, beyond-same}
 
 -- the registers after waking one, whose link was n
 abbrev pub wokenTo : (n : ℕ) → Step → Woken

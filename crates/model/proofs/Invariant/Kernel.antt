@@ -142,8 +142,8 @@ module _ (L : Loaded) where
     pub all : {path : List ℕ} {q : Process} {b : Part} {i : Info} → LeafAt st t path q b i → b .bottom + 5 ≤ i .w → Dozer Out path q
         → (isAlt q ≡ true → Linked μ (i .w)) → List·Memᴰ (i .w) asleep
 
-  -- what all words hold, where the processes at some paths (`Out`) are left out. `ws` are the workspaces that are queued, `Queue` is what is
-  -- known of the timer queue
+  -- what all words hold, where the processes at some paths (`Out`) are left out. `ws` are the workspaces that are queued, `Queue` is what
+  -- is known of the timer queue
   pub record Holds (st : State) (μ : Mem) (t : Tree S root (st .process)) (Out : List ℕ → Type 0) (ws : List ℕ) (Queue : Type 0)
       : Type 0 where
     -- variables in scope are words, and stand in their words

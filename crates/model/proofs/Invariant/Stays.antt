@@ -347,7 +347,8 @@ module _ (S : Setting) (b : Part) (i : Info) (high : b .top < 2 ^ 32) (sits : Si
         → (b .bottom + 5 ≤ w → (ν (timeLinkWord w) ≡ μ (timeLinkWord w)) × (ν (timeWord w) ≡ μ (timeWord w)))
         → (timed gs ≡ true → Dozing T st gs μ w) → timed gs ≡ true → Dozing T′ st′ gs ν w
     waiting-stays {gs = gs} onto same-w f words z t =
-        let (link, time) = words (omega (arith, same-w, timed-fine (S .word) b (i .vars) (i .chans) vw gs f t)) in dozing-stays onto f link time (z t)
+        let (link, time) =
+        words (omega (arith, same-w, timed-fine (S .word) b (i .vars) (i .chans) vw gs f t)) in dozing-stays onto f link time (z t)
 
 -- one that waits for the clock
 pub asleep-stays : (S : Setting) (b : Part) (i : Info) → b .top < 2 ^ 32 → Sits S b i → {st st′ : State} {μ ν : Mem}

@@ -1,6 +1,6 @@
 -- `waking::wake::is_due` meets its contract. Assumes nothing.
 use borrow.Author.Needs.{needs}
-use Rattle.waking.proofs.Roughly.{finds-looked}
+use Rattle.processor.proofs.Looks.{finds-looked}
 use Rattle.waking.proofs.wake.is_due.Statement.{statement}
 use Rattle.waking.proofs.wake.is_due.Tie as tie
 
