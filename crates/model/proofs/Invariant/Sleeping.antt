@@ -13,7 +13,7 @@ use Rattle.model.proofs.Quiet.Ways.{Mem, frontWord, upd, upd-same, upd-
 use Rattle.model.proofs.Occam.Paths.{same-path, isAlt}
 use Rattle.model.proofs.Words.Parts.{Part}
 use Rattle.model.proofs.Quiet.Marks.{Own, AnyFound, f-first, f-later, finds-present, finds-time, s-none}
-use Rattle.model.proofs.Invariant.Trees.{some-same, Label, parted, alone-parted, Info, Tree, labelAt}
+use Rattle.model.proofs.Invariant.Trees.{some-same, Label, parted, alone-parted, Info, Tree, labelAt, alone}
 use Rattle.model.proofs.Invariant.Zones.{zoneOf, zone-under}
 use Rattle.model.proofs.Invariant.Leaves.{member, Asleep, Held, h-asleep, sleeping, held-sleeping, asleep-unqueued, Resumes}
 use Rattle.model.proofs.Invariant.Leaves.{h-queued, h-woken, h-wait}
@@ -150,44 +150,39 @@ module _ (L : Loaded) where
 
   module _ {st : State} {μ : Mem} {t : Tree (S L) (root L) (st .process)} {Out : List ℕ → Type 0} {ws : List ℕ}
       (h : Plain L st μ t Out ws) where
-    -- it is no name's word
+    -- it is no name's word: one of its own process is above its workspace, one of another's not in its part
+    off-name : {v : ℕ} → Spot st t Out μ v → {other : List ℕ} (x : Site) → S L .word x < size L
+        → ((path : List ℕ) (q : Process) (b : Part) (i : Info) → LeafAt L st t path q b i → path ≡ other → i .w ≤ S L .word x)
+        → ((path : List ℕ) (q : Process) (b : Part) (i : Info) → LeafAt L st t path q b i → path ≢ other
+        → (b .bottom ≤ S L .word x) × (S L .word x < b .top) → ⊥)
+        → S L .word x ≢ v
+    off-name at-front x inside own far e = absurd (omega (arith, e, inside, small-size L))
+    off-name (behind {path} {q} {b} {i} k space d₀ z₀) {other} x inside own far e =
+        let words = time-words L k space in
+        let low = sits-at L k .placed .low in
+        ⊎-elim (λ p. absurd (omega (arith, e, own path q b i k p, space, low, part-small L k, S L .top-small)))
+        (λ d. far path q b i k d (omega (arith, e, words .0), omega (arith, e, words .1))) (same-path path other)
+
+    -- the label of the process itself
+    that-label : {path other : List ℕ} {l : Label} {q : Process} {b : Part} {i : Info} → NodeAt L st t other l → LeafAt L st t path q b i
+        → path ≡ other → l ≡ alone b i
+    that-label n k p = some-same (sym (n .label) ∙ ap (labelAt (S L) t) (sym p) ∙ k .label)
+
     off-vars : {v : ℕ} → Spot st t Out μ v → {other : List ℕ} {l : Label} → NodeAt L st t other l → (x : Site)
         → List·Memᴰ x (zoneOf l .vars) → S L .word x ≢ v
-    off-vars at-front n x m e = absurd (omega (arith, var-in L n x m, small-size L))
-    off-vars (behind {path} {i = i} k space d₀ z₀) {other} n x m e =
-        let words = time-words L k space in
-        ⊎-elim
-        (λ p.
-        let mine = subst (λ z. List·Memᴰ x (zoneOf z .vars)) (some-same (sym (n .label) ∙ ap (labelAt (S L) t) (sym p) ∙ k .label)) m in
-        absurd (omega (
-          arith,
-          e,
-          sits-at L k .placed .scoped .vars-above x mine,
-          space,
-          sits-at L k .placed .low,
-          part-small L k,
-          S L .top-small,
-        )))
-        (λ d. apart-zones L d (node L k) n .vars-in x m (omega (arith, e, words .0), omega (arith, e, words .1))) (same-path path other)
+    off-vars spot n x m =
+        off-name spot x (omega (arith, var-in L n x m))
+        (λ path q b i k p.
+        sits-at L k .placed .scoped .vars-above x (subst (λ z. List·Memᴰ x (zoneOf z .vars)) (that-label n k p) m))
+        (λ path q b i k d. apart-zones L d (node L k) n .vars-in x m)
 
     pub off-chans : {v : ℕ} → Spot st t Out μ v → {other : List ℕ} {l : Label} → NodeAt L st t other l → (c : Site)
         → List·Memᴰ c (zoneOf l .chans) → S L .word c ≢ v
-    off-chans at-front n c m e = absurd (omega (arith, chan-in L n c m, small-size L))
-    off-chans (behind {path} {i = i} k space d₀ z₀) {other} n c m e =
-        let words = time-words L k space in
-        ⊎-elim
-        (λ p.
-        let mine = subst (λ z. List·Memᴰ c (zoneOf z .chans)) (some-same (sym (n .label) ∙ ap (labelAt (S L) t) (sym p) ∙ k .label)) m in
-        absurd (omega (
-          arith,
-          e,
-          sits-at L k .placed .scoped .chans-above c mine,
-          space,
-          sits-at L k .placed .low,
-          part-small L k,
-          S L .top-small,
-        )))
-        (λ d. apart-zones L d (node L k) n .chans-in c m (omega (arith, e, words .0), omega (arith, e, words .1))) (same-path path other)
+    off-chans spot n c m =
+        off-name spot c (chan-in L n c m)
+        (λ path q b i k p.
+        sits-at L k .placed .scoped .chans-above c (subst (λ z. List·Memᴰ c (zoneOf z .chans)) (that-label n k p) m))
+        (λ path q b i k d. apart-zones L d (node L k) n .chans-in c m)
 
     -- nor a PAR's
     off-par : {v : ℕ} → Spot st t Out μ v → {other : List ℕ} {a : Part} {vs cs : List Site} {w onward : ℕ}
