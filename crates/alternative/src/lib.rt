@@ -1,4 +1,6 @@
 // The operations of an ALT: enabling, waiting, disabling (document 01, "The machine").
+#![tactic(auto)]
+
 mod disable;
 mod enable;
 

@@ -1,5 +1,7 @@
 // The assembler: the bytes of a list of instructions (document 01, "Workspace and code").
 // An entry of the list is an instruction: a function with its operand, or with the two indices of a code distance.
+#![tactic(auto)]
+
 ghost use Rattle.std.specs.Prelude.{◌≡◌, ◌≤◌};
 ghost use Rattle.assembler.specs.Entries.{plain_entry, distance_entry, byte_in, operand_in, distance_in};
 ghost use Rattle.assembler.specs.Places.{prefixes_in, sized, placed, place_in, operand_by, wrote, within};

@@ -2,10 +2,12 @@
 //
 // What fails outside is said on standard error, in one line. A program of this language has no exit status, so no more can be told: a
 // caller that has to know looks at standard error.
+#![tactic(auto)]
+
 ghost use Rattle.bench.specs.Inputs.{Within};
 
 // What reading found: so many bytes at the front of the room, or a read that failed.
-#[derive(Drop)]
+#[derive(Clone, Copy)]
 enum Input {
     Bytes(usize),
     Failed,

@@ -15,6 +15,8 @@
 // place, 11 with the size needed; 12 is `fault` and what was at fault, in a run behind the instructions executed. Then come the registers
 // in the order of model::Cpu; the last clock given, whether one was given, and the timer queue's front; the held offers as input=value;
 // the kept fault; and a sum over the memory's 4,200 words. Numbers are hexadecimal, but for those of refusals.
+#![tactic(auto)]
+
 
 // The code's room: longer than any code and than a start takes.
 const BYTES: usize = model::limits::CODE + 256;
@@ -23,7 +25,7 @@ const BYTES: usize = model::limits::CODE + 256;
 const WORDS: usize = 4200;
 
 // How far a list has come: the machine, what is lent, which number comes next, and whether there was no answer yet.
-#[derive(Drop)]
+#[derive(Clone, Copy)]
 struct List {
     machine: model::Machine,
     bytes: usize,

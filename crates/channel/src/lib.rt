@@ -1,4 +1,6 @@
 // Communication: IN and OUTWORD (document 01, "The machine").
+#![tactic(auto)]
+
 mod receiver;
 mod sender;
 mod wait;

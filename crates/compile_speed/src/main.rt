@@ -1,5 +1,7 @@
 // Compiles the table of standard input a hundred times, for measuring, and writes the code's length, or a refusal's number and what it
 // returns. speed/tables.py makes tables for it.
+#![tactic(auto)]
+
 
 // Compiles the table into a buffer of the largest size.
 fn compile_once(table: &[u8]) -> model::Compiled {

@@ -1,5 +1,7 @@
 // Compiling a program table into Transputer code (document 01, "Workspace and code"): the reader's facts, the scheme's list of
 // instructions, and its bytes.
+#![tactic(auto)]
+
 ghost use Rattle.std.specs.Prelude.{◌≡◌, length};
 ghost use Rattle.model.specs.Code.{compile as compilation, compiled_answer, buffer_after, given_back, number_of, returned_of};
 ghost use Rattle.model.specs.Answers.{refused_compiling};

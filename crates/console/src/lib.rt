@@ -1,4 +1,6 @@
 // The report of a table, written to standard output: for the bench program and for tests of it.
+#![tactic(auto)]
+
 ghost use Rattle.std.specs.Prelude.{◌≤◌};
 
 // A piece has 64 bytes.

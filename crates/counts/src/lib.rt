@@ -1,6 +1,8 @@
 // What is counted of the parts of a program, for the reader and for the compiler: registers and stored values (document 02, order 2), and
 // words (document 01, "Workspace and code"; 02, order 4). Stored values are at most 255 where they are summed: an expression of 32 levels
 // has fewer than 32, and an entry of the compiler's plan has 8 bits for them. Two sides hold at most one more.
+#![tactic(auto)]
+
 ghost use Rattle.std.specs.Prelude.{◌≡◌, ◌≤◌, max};
 ghost use Rattle.model.specs.Counts.{sides_need, order_of, sides_hold, guard_words};
 ghost use Rattle.counts.specs.Words.{asked, least_words};
@@ -17,7 +19,7 @@ pub const PAR_WORDS: u32 = 2;
 
 // What an expression that stands in no other is: a value or a condition, what is output, a guard's condition, a time that is waited for,
 // or a time guard's time and condition together.
-#[derive(Drop)]
+#[derive(Clone, Copy)]
 pub enum Role {
     Value,
     Output,

@@ -4,7 +4,7 @@ ghost use Rattle.model.specs.Word.{minus as negated};
 ghost use Rattle.expressions.specs.Emits.{at as standing, put_into, plain_into, distance_into, operation_into};
 
 // A place in the table, and an index in the list.
-#[derive(Drop)]
+#[derive(Clone, Copy)]
 pub struct Cursor {
     pub at: usize,
     pub here: u32,

@@ -11,7 +11,7 @@ use crate::words::Scope;
 use model::kinds::{ExprKind, Operator};
 
 // The workspace, the values held before, and how many variables are in scope.
-#[derive(Drop)]
+#[derive(Clone, Copy)]
 struct Frame {
     w: u32,
     held: u32,

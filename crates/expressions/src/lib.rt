@@ -1,5 +1,7 @@
 // The code of expressions, and of statements without statements inside, as entries of a list of instructions; and the words of names.
 // Entries past the list's end are left out, so that the length of a list can be had where it is too long.
+#![tactic(auto)]
+
 mod emit;
 mod expr;
 mod sides;

@@ -7,7 +7,7 @@ ghost use Rattle.expressions.specs.Exprs.{sides_of, time_and_condition, arranged
 use model::kinds::Order;
 
 // The places of two sides, and the place after both.
-#[derive(Drop)]
+#[derive(Clone, Copy)]
 pub struct Pair {
     pub left: usize,
     pub right: usize,
@@ -15,7 +15,7 @@ pub struct Pair {
 }
 
 // The order, the place of the side that goes first, that of the other and the values held before it.
-#[derive(Drop)]
+#[derive(Clone, Copy)]
 pub struct Sides {
     pub order: Order,
     pub first: usize,

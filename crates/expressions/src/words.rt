@@ -13,7 +13,7 @@ const MOST: u32 = 1056;
 const CHANNELS: usize = MOST as usize;
 
 // The depth left, the workspace, and how many variables and channels are in scope.
-#[derive(Drop)]
+#[derive(Clone, Copy)]
 pub struct Scope {
     pub depth: u64,
     pub w: u32,

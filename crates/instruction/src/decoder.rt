@@ -4,7 +4,7 @@ ghost use Rattle.model.specs.Prefix.{gathered, decode as decoding};
 ghost use Rattle.instruction.specs.Coded.{is_prefix, moved_up, answer};
 
 // A decoded instruction: its function's four bits, its operand and the place after it; or none where the code ends before.
-#[derive(Drop)]
+#[derive(Clone, Copy)]
 pub enum Decoded {
     Instruction(u8, u32, usize),
     Nothing,

@@ -1,4 +1,6 @@
 // Coding an instruction with its prefixes, and decoding (document 01, "Workspace and code", "The machine").
+#![tactic(auto)]
+
 ghost use Rattle.std.specs.Prelude.{◌≡◌, suc, ◌%◌, ◌^◌, ◌<◌, ◌≤◌, set};
 ghost use Rattle.std.proofs.lemmas.List.Edits.{sets};
 ghost use Rattle.model.specs.Prefix.{shifted, first_prefix, prefixes, enough as enough_for, fewest as fewest_for};

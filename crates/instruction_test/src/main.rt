@@ -1,4 +1,6 @@
 // Codes instructions and decodes them again, and writes their bytes and what decoding answers, a line for each.
+#![tactic(auto)]
+
 ghost use Rattle.std.specs.Prelude.{◌≤◌};
 
 use instruction::codes;

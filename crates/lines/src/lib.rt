@@ -1,4 +1,6 @@
 // Text for the test programs: lines of numbers from standard input, the numbers of a line, and numbers and bytes to standard output.
+#![tactic(auto)]
+
 mod numbers;
 mod reading;
 mod writing;

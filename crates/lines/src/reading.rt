@@ -9,7 +9,7 @@ use crate::numbers::front;
 use crate::{CHARACTERS, NUMBERS};
 
 // A line, and how far the text is read.
-#[derive(Drop)]
+#[derive(Clone, Copy)]
 pub struct Line {
     // The most digits of a number.
     most: usize,

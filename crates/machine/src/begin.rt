@@ -7,7 +7,7 @@ ghost use Rattle.model.specs.Answers.{refused_start};
 ghost use Rattle.model.specs.Refusals.{start_refusal};
 
 // A start's answer beside the machine.
-#[derive(Drop)]
+#[derive(Clone, Copy)]
 pub struct Begun {
     pub machine: model::Machine,
     pub answer: model::StartAnswer,

@@ -15,14 +15,14 @@ use waking::{Awake, Woken, begin};
 use word::after;
 
 // A run's answer beside the machine.
-#[derive(Drop)]
+#[derive(Clone, Copy)]
 pub struct Ran {
     pub machine: model::Machine,
     pub answer: model::RunAnswer,
 }
 
 // How the bytes of a run came to an end: the registers, the front of the timer queue, the flags of held offers, and the outcome.
-#[derive(Drop)]
+#[derive(Clone, Copy)]
 pub struct Finished {
     pub cpu: model::Cpu,
     pub front: u32,

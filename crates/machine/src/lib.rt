@@ -1,4 +1,6 @@
 // The machine over lent code and lent memory (document 01, "The machine", "When a call is turned down").
+#![tactic(auto)]
+
 mod begin;
 mod budget;
 mod outside;

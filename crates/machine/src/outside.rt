@@ -13,7 +13,7 @@ ghost use Rattle.machine.specs.Outsides.{empty_wake, hand_wake, offered_by, hold
 use processor::{Peeked, Step, alt_state, notify_wake, peek, state_word, swap, undo, wake};
 
 // An offer's answer beside the machine.
-#[derive(Drop)]
+#[derive(Clone, Copy)]
 pub struct Offered {
     pub machine: model::Machine,
     pub answer: model::OfferAnswer,

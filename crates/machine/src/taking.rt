@@ -14,7 +14,7 @@ use channel::receive;
 use processor::{Peeked, Step};
 
 // A take's answer beside the machine.
-#[derive(Drop)]
+#[derive(Clone, Copy)]
 pub struct Took {
     pub machine: model::Machine,
     pub answer: model::TakeAnswer,

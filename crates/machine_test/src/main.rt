@@ -2,6 +2,8 @@
 //
 // Lent are the first bytes of some code and the first words of a memory of 4,100 words, all of them 7 before. An answer is document 01's
 // number, 11 with the size needed, or `started` with what the machine keeps of the start. The whole memory follows, as runs of equal words.
+#![tactic(auto)]
+
 ghost use Rattle.std.specs.Prelude.{◌+◌, ◌<◌, ◌≤◌, length};
 ghost use Rattle.model.specs.Limits.{code_limit, word_limit};
 
@@ -65,7 +67,7 @@ fn print_answer(answer: model::StartAnswer, setup: model::Setup) {
 }
 
 // What a start is lent and asked.
-#[derive(Drop)]
+#[derive(Clone, Copy)]
 struct Case {
     code: usize,
     memory: usize,

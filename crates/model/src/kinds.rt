@@ -2,7 +2,7 @@
 // specs/Reader.antt and, for the code, in crate `numbers`; and how an operator's sides are brought in.
 
 // Statements.
-#[derive(Drop)]
+#[derive(Clone, Copy)]
 pub enum StmtKind {
     Skip,
     Stop,
@@ -21,7 +21,7 @@ pub enum StmtKind {
 }
 
 // Expressions.
-#[derive(Drop)]
+#[derive(Clone, Copy)]
 pub enum ExprKind {
     Constant,
     Variable,
@@ -30,7 +30,7 @@ pub enum ExprKind {
 }
 
 // Guards.
-#[derive(Drop)]
+#[derive(Clone, Copy)]
 pub enum GuardKind {
     Input,
     Skip,
@@ -38,7 +38,7 @@ pub enum GuardKind {
 }
 
 // Operators.
-#[derive(Drop)]
+#[derive(Clone, Copy)]
 pub enum Operator {
     Plus,
     Minus,
@@ -52,7 +52,7 @@ pub enum Operator {
 
 // How two sides are brought in: left first, then right (document 01); right first, then left; or the right value is stored while left
 // follows (document 02, order 2).
-#[derive(Drop)]
+#[derive(Clone, Copy)]
 pub enum Order {
     LeftFirst,
     RightFirst,

@@ -1,11 +1,13 @@
 // The types that the calls of document 01 take and answer, the kinds of its table, its limits and the words that its machine tells apart.
 // What the calls do is defined in specs/.
+#![tactic(auto)]
+
 pub mod constants;
 pub mod kinds;
 pub mod limits;
 
 // Fault (refusal 12): what was at fault, with its number.
-#[derive(Drop)]
+#[derive(Clone, Copy)]
 pub enum FaultKind {
     Function(u32),
     Operation(u32),
@@ -15,7 +17,7 @@ pub enum FaultKind {
 }
 
 // How a run stood, with the instructions that it executed.
-#[derive(Drop)]
+#[derive(Clone, Copy)]
 pub enum Outcome {
     Ended(u64),
     Waiting(u64),
@@ -24,7 +26,7 @@ pub enum Outcome {
 }
 
 // A run's answer: refusals 16, for a clock that the last one given is after, and 11, with the size needed.
-#[derive(Drop)]
+#[derive(Clone, Copy)]
 pub enum RunAnswer {
     Ran(Outcome),
     EarlierClock,
@@ -32,7 +34,7 @@ pub enum RunAnswer {
 }
 
 // A start's answer: refusals 15, 3, 10 and 11, the last with the size needed.
-#[derive(Drop)]
+#[derive(Clone, Copy)]
 pub enum StartAnswer {
     Started,
     BadSlice,
@@ -42,7 +44,7 @@ pub enum StartAnswer {
 }
 
 // An offer's answer: refusals 11, 12, 13 and 14.
-#[derive(Drop)]
+#[derive(Clone, Copy)]
 pub enum OfferAnswer {
     Offered,
     Short(u64),
@@ -52,7 +54,7 @@ pub enum OfferAnswer {
 }
 
 // A take's answer: the value, none, or refusals 11, 12 and 13.
-#[derive(Drop)]
+#[derive(Clone, Copy)]
 pub enum TakeAnswer {
     Taken(u32),
     Nothing,
@@ -62,7 +64,7 @@ pub enum TakeAnswer {
 }
 
 // The fault that a machine keeps, if any.
-#[derive(Drop)]
+#[derive(Clone, Copy)]
 pub enum Kept {
     Nothing,
     Fault(FaultKind),
@@ -71,7 +73,7 @@ pub enum Kept {
 // What the bytes change: the queue, the gathered operand, the registers, the slice's count, and the place of the next byte.
 // `queued` counts only while `running`: a processor that is free with a process queued takes it at once.
 // The order is that of the fastest code: a fault's number shares the place of the first two fields where a byte is answered.
-#[derive(Drop)]
+#[derive(Clone, Copy)]
 pub struct Cpu {
     pub front: u32,
     pub back: u32,
@@ -87,7 +89,7 @@ pub struct Cpu {
 }
 
 // What the start fixed: the code's length, W, the channel counts and the slice.
-#[derive(Drop)]
+#[derive(Clone, Copy)]
 pub struct Setup {
     pub code: u32,
     pub base: u32,
@@ -97,7 +99,7 @@ pub struct Setup {
 }
 
 // The last clock word given, whether one was given at all, and the front of the timer queue, NotProcess where it is empty.
-#[derive(Drop)]
+#[derive(Clone, Copy)]
 pub struct Timer {
     pub clock: u32,
     pub given: bool,
@@ -105,7 +107,7 @@ pub struct Timer {
 }
 
 // The machine: up to eight held offers, one for each outside input.
-#[derive(Drop)]
+#[derive(Clone, Copy)]
 pub struct Machine {
     pub cpu: Cpu,
     pub setup: Setup,
@@ -116,7 +118,7 @@ pub struct Machine {
 }
 
 // A program's facts: words with outside channels, outside channels, live processes.
-#[derive(Drop)]
+#[derive(Clone, Copy)]
 pub struct Facts {
     pub words: u32,
     pub inputs: u32,
@@ -125,14 +127,14 @@ pub struct Facts {
 }
 
 // A reading's answer: the facts, or a refusal's number and place.
-#[derive(Drop)]
+#[derive(Clone, Copy)]
 pub enum Reading {
     Accepted(Facts),
     Refused(u32, usize),
 }
 
 // A compilation's answer: the code's length, or a refusal's number and what it returns.
-#[derive(Drop)]
+#[derive(Clone, Copy)]
 pub enum Compiled {
     Code(usize),
     Refused(u32, usize),

@@ -53,7 +53,7 @@ pub const LAST_GUARD: u64 = 2;
 pub const LAST_OPERATOR: u64 = 7;
 
 // A statement without statements inside.
-#[derive(Drop)]
+#[derive(Clone, Copy)]
 pub enum Simple {
     Skip,
     Stop,
@@ -65,14 +65,14 @@ pub enum Simple {
 }
 
 // What a declaration declares.
-#[derive(Drop)]
+#[derive(Clone, Copy)]
 pub enum Declared {
     Variables,
     Channels,
 }
 
 // What stands before the statement of each part: nothing, a condition, or a guard.
-#[derive(Drop)]
+#[derive(Clone, Copy)]
 pub enum Head {
     Nothing,
     Condition,
@@ -80,7 +80,7 @@ pub enum Head {
 }
 
 // How the parts of a statement are counted: a count from 0 to a number is read, or there are so many without a count.
-#[derive(Drop)]
+#[derive(Clone, Copy)]
 pub enum Count {
     UpTo(u64),
     Fixed(u32),
@@ -88,7 +88,7 @@ pub enum Count {
 
 // What is behind a kind: names or an expression; a count of names and a statement; so many branches of a PAR; or so many parts, one after
 // the other.
-#[derive(Drop)]
+#[derive(Clone, Copy)]
 pub enum Shape {
     Simple(Simple),
     Declares(Declared),

@@ -1,18 +1,20 @@
 // The numbers of a table, counts, kinds and names.
+#![tactic(auto)]
+
 ghost use Rattle.std.specs.Prelude.{◌≡◌, ◌+◌, ◌<◌};
 ghost use Rattle.numbers.specs.Items.{groups_at, between_at, name_at, deep_at, value_at};
 
 pub mod kinds;
 
 // A number and the place after it; Bad: cut short, too long or too large.
-#[derive(Drop)]
+#[derive(Clone, Copy)]
 pub enum NumberRead {
     Number(u64, usize),
     Bad,
 }
 
 // A number that may stand where it stands, and the place after it; or a refusal's number and place.
-#[derive(Drop)]
+#[derive(Clone, Copy)]
 pub enum Item {
     Item(u64, usize),
     Refused(u32, usize),
@@ -116,7 +118,7 @@ pub fn read_deep(table: &[u8], at: usize) -> Item
 }
 
 // A number of a table that was read before, and the place after it.
-#[derive(Drop)]
+#[derive(Clone, Copy)]
 pub struct Value {
     pub value: u32,
     pub next: usize,

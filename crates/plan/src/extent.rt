@@ -9,7 +9,7 @@ use model::kinds::{GuardKind, StmtKind};
 use numbers::kinds::{Head, Shape, Simple};
 
 // The place after a part, and the words that it needs.
-#[derive(Drop)]
+#[derive(Clone, Copy)]
 pub struct Extent {
     pub next: usize,
     pub need: u32,

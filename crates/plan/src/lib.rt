@@ -1,5 +1,7 @@
 // The plan of a table: what is known of its expressions and statements before their code is made. It has an entry at the first place of
 // each: of an expression the place after it, its registers and its stored values; of a statement the place after it and its words.
+#![tactic(auto)]
+
 ghost use Rattle.std.specs.Prelude.{◌≡◌};
 ghost use Rattle.plan.specs.Extents.{table_plan};
 

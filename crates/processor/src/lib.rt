@@ -1,4 +1,6 @@
 // The processor: the machine's words, its registers, processes, the queue, and held offers (document 01, "The machine").
+#![tactic(auto)]
+
 mod memory;
 mod offer;
 mod outside;

@@ -6,14 +6,14 @@ ghost use Rattle.processor.specs.Seen.{Works, Finds, looked, written, undone};
 use word::less;
 
 // What a byte came to: the registers after it, or the fault that kept it from beginning.
-#[derive(Drop)]
+#[derive(Clone, Copy)]
 pub enum Step {
     Done(model::Cpu),
     Fault(model::FaultKind),
 }
 
 // A word, or the fault.
-#[derive(Drop)]
+#[derive(Clone, Copy)]
 pub enum Peeked {
     Value(u32),
     Fault(model::FaultKind),

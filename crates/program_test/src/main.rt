@@ -8,6 +8,8 @@
 // a sum over the lent memory (in hexadecimal). A refused table has the refusal's number and place. Every program is run twice: by runs of
 // 1, 2, 4, 8 and so on instructions until one is not spent, and by a single run. The two must agree, another run must execute nothing,
 // and words beyond the machine's memory must be kept. If not, `wrong` says what.
+#![tactic(auto)]
+
 use lines::{print, write};
 
 // The instructions after which a program is left.
@@ -19,7 +21,7 @@ const WORDS: usize = model::limits::MEMORY + 4;
 const KEPT: u32 = 7;
 
 // How a program stood at last: the kind of the answer, the instructions, and the sum over its memory.
-#[derive(Drop)]
+#[derive(Clone, Copy)]
 struct Finish {
     kind: u64,
     total: u64,

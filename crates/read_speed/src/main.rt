@@ -1,5 +1,7 @@
 // Reads the table of standard input a hundred times, for measuring, and writes the memory words that it needs, or a refusal's number and
 // place. speed/tables.py makes tables for it.
+#![tactic(auto)]
+
 
 // Reads the table ten times.
 fn read_ten(table: &[u8]) -> model::Reading {

@@ -1,4 +1,6 @@
 // The bench program's text (document 01, "The bench program"), handed out piece by piece.
+#![tactic(auto)]
+
 mod opening;
 mod piece;
 mod stage;

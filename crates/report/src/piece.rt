@@ -4,7 +4,7 @@ ghost use Rattle.model.specs.Bench.{digits, decimal, newline, hex_digit, out_lin
 ghost use Rattle.report.specs.Texts.{text_in, Adds, signed_text};
 
 // Bytes, of which the first ones are the text.
-#[derive(Drop)]
+#[derive(Clone, Copy)]
 pub struct Piece {
     pub bytes: [u8; 64],
     pub length: usize,

@@ -4,7 +4,7 @@ ghost use Rattle.report.specs.Texts.{at as standing};
 
 // What comes next: a line of the head, a byte of the code, a run, a take from an output (and whether one before it in the round gave a
 // value), a refusal, or nothing.
-#[derive(Drop)]
+#[derive(Clone, Copy)]
 pub enum Stage {
     Bytes,
     Words,
@@ -17,7 +17,7 @@ pub enum Stage {
 }
 
 // The machine, the stage, the instructions so far, the rounds that are left, and what was compiled: outside outputs, bytes and words.
-#[derive(Drop)]
+#[derive(Clone, Copy)]
 pub struct Report {
     pub machine: model::Machine,
     pub stage: Stage,

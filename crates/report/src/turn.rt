@@ -10,7 +10,7 @@ use crate::piece::{Piece, code_byte, line, nothing, out_line, push, push_text, r
 use crate::stage::{Report, Stage, at};
 
 // A piece of the text, the report after it, and whether there may be more.
-#[derive(Drop)]
+#[derive(Clone, Copy)]
 pub struct Turn {
     pub report: Report,
     pub piece: Piece,

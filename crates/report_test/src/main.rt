@@ -2,6 +2,8 @@
 //
 // A line of the text is one table in hexadecimal, two digits to a byte; '#' begins a comment up to the end of the line. A line without a
 // digit is no table.
+#![tactic(auto)]
+
 
 // Answers a line's table, if it has one. What is written is compared with the expected text, so a write that fails shows there.
 fn answer_line(numbers: &[u64]) {

@@ -9,6 +9,8 @@
 //
 // A line of the output has the answer (11 with the size needed), the registers and the setup in the order of the input, the held offers
 // as input=value, the kept fault, and as address=value the words lent that are no longer what they were. Numbers are hexadecimal.
+#![tactic(auto)]
+
 
 // The numbers that say a machine. Behind them come the budget, the clock, the words lent and the code bytes lent.
 const MACHINE: usize = 37;

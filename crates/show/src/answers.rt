@@ -2,7 +2,7 @@
 use lines::{print_hex, write};
 
 // How a run stood, by a number, and the instructions that it executed: 0 is spent, 1 ended, 2 waiting, 3 fault and 4 refusal 11.
-#[derive(Drop)]
+#[derive(Clone, Copy)]
 pub struct Standing {
     pub kind: u64,
     pub count: u64,

@@ -2,7 +2,7 @@
 use crate::answers::run_standing;
 
 // How far a program has come: its machine, the kind of the last run's answer, and the instructions of all runs.
-#[derive(Drop)]
+#[derive(Clone, Copy)]
 pub struct Course {
     pub machine: model::Machine,
     pub kind: u64,

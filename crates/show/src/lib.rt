@@ -1,4 +1,6 @@
 // Calls of a machine with their answers as text, machines and memories, for the test programs.
+#![tactic(auto)]
+
 mod answers;
 mod calls;
 mod course;

@@ -3,6 +3,8 @@
 //
 // Each code is the compiler's for the Occam told above it. A line of the byte string has the instructions of the comment's line; 20, 60 and
 // their like are prefixes.
+#![tactic(auto)]
+
 
 use lines::print;
 

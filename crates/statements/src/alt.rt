@@ -13,7 +13,7 @@ use model::kinds::GuardKind;
 const ALT_WORDS: u32 = 5;
 
 // The place after a guard's expressions, the index after its code so far, and its kind.
-#[derive(Drop)]
+#[derive(Clone, Copy)]
 pub struct Guard {
     pub at: usize,
     pub here: u32,
@@ -21,7 +21,7 @@ pub struct Guard {
 }
 
 // The index of an ALT's disabling, and that of its ALTEND.
-#[derive(Drop)]
+#[derive(Clone, Copy)]
 pub struct Front {
     pub disable: u32,
     pub choice: u32,

@@ -1,4 +1,6 @@
 // The code of statements as a list of instructions: the scheme's list of an accepted table (document 01, "Workspace and code").
+#![tactic(auto)]
+
 ghost use Rattle.statements.specs.Tables.{Generates};
 
 mod alt;

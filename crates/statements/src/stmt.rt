@@ -16,7 +16,7 @@ use numbers::kinds::{Count, Declared, Head, Shape};
 
 // The branches of a PAR from one on: its place, the index of its code, that of its start, the words that it runs below, and how many there
 // are from it on.
-#[derive(Drop)]
+#[derive(Clone, Copy)]
 struct Rest {
     at: usize,
     here: u32,
@@ -26,7 +26,7 @@ struct Rest {
 }
 
 // What a PAR begins with: the index left for LDC end, that of its user, and that of the starts.
-#[derive(Drop)]
+#[derive(Clone, Copy)]
 struct Fork {
     gap: u32,
     user: u32,
@@ -34,7 +34,7 @@ struct Fork {
 }
 
 // A guard of an ALT: its place, the index of its disabling, the index of its branch, and that of ALTEND.
-#[derive(Drop)]
+#[derive(Clone, Copy)]
 struct Turn {
     at: usize,
     disable: u32,
@@ -43,7 +43,7 @@ struct Turn {
 }
 
 // How the parts of a statement are laid out in the table.
-#[derive(Drop)]
+#[derive(Clone, Copy)]
 struct Form {
     head: Head,
     count: Count,

@@ -7,14 +7,14 @@ ghost use Rattle.numbers.specs.Items.{with_item};
 use model::kinds::ExprKind;
 
 // What is counted of an expression: the place after it, the registers that it needs and the values that it stores (document 02, order 2).
-#[derive(Drop)]
+#[derive(Clone, Copy)]
 pub struct Term {
     pub next: usize,
     pub registers: u32,
     pub stored: u32,
 }
 
-#[derive(Drop)]
+#[derive(Clone, Copy)]
 pub enum ExprRead {
     Expr(Term),
     Refused(u32, usize),

@@ -1,4 +1,6 @@
 // Reading a program table (document 01, "The program table", "When a call is turned down").
+#![tactic(auto)]
+
 ghost use Rattle.std.specs.Prelude.{◌≡◌};
 ghost use Rattle.model.specs.Accept.{accept, answer_of};
 ghost use Rattle.model.specs.Answers.{refused_reading};

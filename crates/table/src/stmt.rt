@@ -18,7 +18,7 @@ use model::kinds::{GuardKind, StmtKind};
 use numbers::kinds::{Declared, Head, Shape, Simple};
 
 // How many names are in scope: variables, channels with the outside ones, outside inputs and outputs.
-#[derive(Drop)]
+#[derive(Clone, Copy)]
 pub struct Names {
     pub variables: u64,
     pub channels: u64,
@@ -28,7 +28,7 @@ pub struct Names {
 
 // What is counted of a statement: the place after it, words needed, live processes, and one more than the place of the first PAR with a
 // clash, 0 for none.
-#[derive(Drop)]
+#[derive(Clone, Copy)]
 pub struct Part {
     pub next: usize,
     pub words: u32,
@@ -36,21 +36,21 @@ pub struct Part {
     pub clash: usize,
 }
 
-#[derive(Drop)]
+#[derive(Clone, Copy)]
 pub enum StmtRead {
     Stmt(Part),
     Refused(u32, usize),
 }
 
 // What stands before a part's statement: the place after it, and the words that it asks for.
-#[derive(Drop)]
+#[derive(Clone, Copy)]
 pub enum HeadRead {
     Head(usize, u32),
     Refused(u32, usize),
 }
 
 // What is counted over the parts of a statement: the most and the sum of words and of processes.
-#[derive(Drop)]
+#[derive(Clone, Copy)]
 pub struct Sum {
     pub next: usize,
     pub most: u32,
@@ -60,7 +60,7 @@ pub struct Sum {
     pub clash: usize,
 }
 
-#[derive(Drop)]
+#[derive(Clone, Copy)]
 pub enum SumRead {
     Sum(Sum),
     Refused(u32, usize),

@@ -4,6 +4,8 @@
 // A line of the text is one table in hexadecimal, two digits to a byte; what is no digit stands between bytes. '#' begins a comment
 // up to the end of the line. A line that begins with '#' is no table; any other without a digit is the empty table. A table is
 // answered at its line's end, so the last line has one too.
+#![tactic(auto)]
+
 use lines::{print, write};
 
 // A byte that no code has: there is no direct function 9. The lent buffers are of these, as long as the longest code.

@@ -1,4 +1,6 @@
 // The clock's operations and the timer queue (document 02, order 4).
+#![tactic(auto)]
+
 mod alt;
 mod sleep;
 mod walk;

@@ -6,14 +6,14 @@ use processor::{Peeked, peek, time_link_word, time_word};
 use word::after;
 
 // Where a walk is to stop: at a process whose time is after this one, or at this process.
-#[derive(Drop)]
+#[derive(Clone, Copy)]
 pub enum Until {
     Later(u32),
     Is(u32),
 }
 
 // Whether a walk stops at a process.
-#[derive(Drop)]
+#[derive(Clone, Copy)]
 pub enum Tested {
     Yes,
     No,
@@ -21,7 +21,7 @@ pub enum Tested {
 }
 
 // What comes of a process on the way: the walk stops, or goes on to the next one.
-#[derive(Drop)]
+#[derive(Clone, Copy)]
 pub enum Passed {
     Stops,
     On(u32),
@@ -29,7 +29,7 @@ pub enum Passed {
 }
 
 // A place in the timer queue: the process there, NotProcess at the end, and the one before, if it is not the first.
-#[derive(Drop)]
+#[derive(Clone, Copy)]
 pub struct Place {
     pub first: bool,
     pub before: u32,
@@ -37,7 +37,7 @@ pub struct Place {
 }
 
 // Where a walk stopped.
-#[derive(Drop)]
+#[derive(Clone, Copy)]
 pub enum Walked {
     At(Place),
     Fault(model::FaultKind),

@@ -7,21 +7,21 @@ use processor::{Peeked, Step, enqueue, peek, state_word, swap, time_link_word, t
 use word::after;
 
 // The registers and the front of the timer queue.
-#[derive(Drop)]
+#[derive(Clone, Copy)]
 pub struct Awake {
     pub cpu: model::Cpu,
     pub front: u32,
 }
 
 // What waking came to.
-#[derive(Drop)]
+#[derive(Clone, Copy)]
 pub enum Woken {
     Done(Awake),
     Fault(model::FaultKind),
 }
 
 // Whether a sleeper's time has come.
-#[derive(Drop)]
+#[derive(Clone, Copy)]
 pub enum Due {
     Yes,
     No,

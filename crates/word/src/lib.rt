@@ -1,4 +1,6 @@
 // Arithmetic on words of 32 bits (document 01, "The machine").
+#![tactic(auto)]
+
 ghost use Rattle.std.specs.Prelude.{◌≡◌, ◌+◌, ◌*◌};
 ghost use Rattle.model.specs.Word.{low, less as less_of, after as after_of, truth};
 ghost use Rattle.model.specs.Execute.{above as above_of};

@@ -21,7 +21,7 @@ rising-from : {lo mid hi : ℕ} {ls : List Entry} → lo ≤ mid → Rising hi m
 rising-from h (level r) = level (le_trans h r)
 rising-from h (rise r q) = rise (le_trans h r) q
 
-rising-append : {lo mid hi : ℕ} {xs ys : List Entry} → Rising mid lo xs → Rising hi mid ys → Rising hi lo (xs ++ ys)
+rising-append : {mid lo hi : ℕ} {xs ys : List Entry} → Rising mid lo xs → Rising hi mid ys → Rising hi lo (xs ++ ys)
 rising-append (level r) q = rising-from r q
 rising-append (rise r t) q = rise r (rising-append t q)
 
@@ -67,13 +67,13 @@ data Right (at : ℕ → ℕ) : List Entry → Type 0 where
   right : {l : Entry} {ls : List Entry} → at l.place ≡ l.workspace → Right at ls → Right at (l ∷ ls)
 
 -- what agrees from the first place on is right too
-right-from : {at at₂ : ℕ → ℕ} {lo hi : ℕ} {ls : List Entry} → Rising hi lo ls
+right-from : {at at₂ : ℕ → ℕ} {hi lo : ℕ} {ls : List Entry} → Rising hi lo ls
     → ((q : ℕ) → lo ≤ q → at₂ q ≡ at q) → Right at ls → Right at₂ ls
 right-from (level r) same all_right = all_right
 right-from (rise {l = l} r t) same (right e h) = right (same l.place r ∙ e) (right-from t (λ q le. same q (omega arith)) h)
 
 -- places that go up differ, so that each look-up finds its own entry
-looked-up : {lo hi : ℕ} {ls : List Entry} → Rising hi lo ls → Right (λ q. workspace_of q ls) ls
+looked-up : {hi lo : ℕ} {ls : List Entry} → Rising hi lo ls → Right (λ q. workspace_of q ls) ls
 unfolding workspace_of
 looked-up (level r) = all_right
 looked-up (rise {l = l} r t) =

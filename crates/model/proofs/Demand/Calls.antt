@@ -386,7 +386,8 @@ module _ (L : Loaded) where
       by_bool (keeps xs (call L.code c m memory).moments)
       (λ k.
       segments_of (call_sim c m memory s k)
-      ++ run-from cs (call L.code c m memory).machine (call L.code c m memory).memory (next_of (call_sim c m memory s k)))
+      ++ run-from {xs = watches_after xs (call L.code c m memory).moments} cs (call L.code c m memory).machine (call L.code c m memory).memory
+      (next_of (call_sim c m memory s k)))
       (λ k. [])
 
   run-first : {xs : List Watch} (c : Call) (cs : List Call) (m : Machine) (memory : List ℕ) (s : Sim xs m memory)
@@ -407,7 +408,7 @@ module _ (L : Loaded) where
       let k = keeps-front xs r.moments (history L.code (cs ++ c ∷ []) r.machine r.memory) kept in
       let on-kept = keeps-behind xs r.moments (history L.code (cs ++ c ∷ []) r.machine r.memory) kept in
       let t = call_sim d m memory s k in
-      let (more, e) = run-grows cs c r.machine r.memory (next_of t) on-kept in (
+      let (more, e) = run-grows {xs = watches_after xs r.moments} cs c r.machine r.memory (next_of t) on-kept in (
         more,
         run-first d (cs ++ c ∷ []) m memory s k ∙ ap (λ l. segments_of t ++ l) e ∙ sym (append_assoc (segments_of t) _ more)
             ∙ ap (λ l. l ++ more) (sym (run-first d cs m memory s k)),
@@ -431,5 +432,5 @@ module _ (L : Loaded) where
       let k = keeps-front xs r.moments (history L.code cs r.machine r.memory) kept in
       let t = call_sim c m memory s k in
       subst (λ l. Linked (history L.code (c ∷ cs) m memory) (state_of s) l (left_of s)) (sym (run-first c cs m memory s k))
-      (link t (run-matches cs r.machine r.memory (next_of t)
+      (link t (run-matches {xs = watches_after xs r.moments} cs r.machine r.memory (next_of t)
       (keeps-behind xs r.moments (history L.code cs r.machine r.memory) kept)))

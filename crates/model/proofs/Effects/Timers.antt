@@ -28,8 +28,8 @@ Once (w ∷ ts) = ((v : ℕ) → Memᴰ v ts → w ≢ v) × Once ts
 -- a memory that agrees on the words, from where its word a leads
 pub chain-stable : {μ ν : Mem} {a b : ℕ} {ts : List ℕ} → ν a ≡ μ b → ((w : ℕ) → Memᴰ w ts → ν (time_link_word w) ≡ μ (time_link_word w))
     → Chain μ b ts → Chain ν a ts
-chain-stable e h (ends z) = ends (e ∙ z)
-chain-stable e h (next {w} z c) = next (e ∙ z) (chain-stable (h w (Memᴰ.head refl)) (λ v m. h v (Memᴰ.tail m)) c)
+chain-stable {a} e h (ends z) = ends (e ∙ z)
+chain-stable {a} e h (next {w} z c) = next (e ∙ z) (chain-stable {a = time_link_word w} (h w (Memᴰ.head refl)) (λ v m. h v (Memᴰ.tail m)) c)
 
 pub sorted-stable : (μ ν : Mem) (c : ℕ) (ts : List ℕ) → ((w : ℕ) → Memᴰ w ts → ν (time_word w) ≡ μ (time_word w)) → Sorted c μ ts
     → Sorted c ν ts

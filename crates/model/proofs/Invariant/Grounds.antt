@@ -98,7 +98,7 @@ module _ (L : Loaded) where
       ⊎_elim (λ o. elim o [ an-input k h e w ↦ omega arith | an-output k h e w ↦ omega arith ]) (λ k. omega arith) (channel-at n c m)
 
   pub small_size : size L ≤ word_limit
-  small_size = L.words_Small
+  small_size = L.words_small
 
   -- the code is small
   pub code-end : whole (S L) ≡ length L.code

@@ -234,6 +234,7 @@ module _ (L : Loaded) where
   -- the link word of a process in the timer queue is a name, or none
   chain-linked : {μ : Mem} {a : ℕ} {ts : List ℕ} → Chain μ a ts → ((v : ℕ) → Memᴰ v ts → v ≤ word_limit) → (w : ℕ) → Memᴰ w ts
       → Linked μ w
+  chain-linked (ends z) small w m = elim m [ ]
   chain-linked {μ} {a} (next e c) small w m =
       ⊎_elim (λ f. subst (Linked μ) (sym f) (by _ c (λ v n. small v (Memᴰ.tail n))))
       (λ n. chain-linked c (λ v k. small v (Memᴰ.tail k)) w n) (Memᴰ.cases_cons m)

@@ -10,6 +10,7 @@ use lib.Dec.{eqb}
 use borrow.Author.Tests.{eq-eqb, ne_eqb, eqb-true, eqb-false}
 use Rattle.model.specs.Syntax.{Site}
 use Rattle.model.specs.Occam.{Frame, Process, before, finished, at_output, look, State, frames_of, to_read, has_read, at_wait}
+use Rattle.model.specs.Occam.{at_input, at_stop, at_alt, in_par}
 use Rattle.model.proofs.Cases.{never, by_bool}
 use Rattle.model.proofs.Quiet.Ways.{Mem}
 use Rattle.model.proofs.Quiet.Setting.{whole}
@@ -79,6 +80,12 @@ settled-off (before s k) h = refl
 settled-off (to_read x k) h = refl
 settled-off (has_read x v k) h = refl
 settled-off finished h = refl
+settled-off (at_input c x k) h = elim h [ ]
+settled-off (at_output c v k) h = elim h [ ]
+settled-off (at_stop k) h = elim h [ ]
+settled-off (at_alt gs k) h = elim h [ ]
+settled-off (at_wait tm k) h = elim h [ ]
+settled-off (in_par ps k) h = elim h [ ]
 
 pub skips-off : {p q : Process} → Skips p q → Settled q → is_alt p ≡ false
 skips-off {q = q} s-none h = settled-off q h
@@ -90,6 +97,12 @@ settled-leaf (before s k) h = l-before
 settled-leaf (to_read x k) h = l-to-read
 settled-leaf (has_read x v k) h = l-has-read
 settled-leaf finished h = l-finished
+settled-leaf (at_input c x k) h = elim h [ ]
+settled-leaf (at_output c v k) h = elim h [ ]
+settled-leaf (at_stop k) h = elim h [ ]
+settled-leaf (at_alt gs k) h = elim h [ ]
+settled-leaf (at_wait tm k) h = elim h [ ]
+settled-leaf (in_par ps k) h = elim h [ ]
 
 module _ (L : Loaded) where
   -- different processes have different workspaces

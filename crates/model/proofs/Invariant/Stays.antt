@@ -217,7 +217,7 @@ module _ (S : Setting) (b : Part) (i : Info) (high : b.top < 2 ^ 32) (sits : Sit
     guard-unready w o (skip_guard e) f d u = sym (true_same b i.vars intact.reads e f) ∙ u
     guard-unready w o (time_guard e t) f d u = tt
 
-    pub noticed-stays : {gs hs : Guards} {w : ℕ} → Own b (name_of w) → FineGuards S.word b i.vars i.chans vw gs
+    pub noticed-stays : {w : ℕ} {gs hs : Guards} → Own b (name_of w) → FineGuards S.word b i.vars i.chans vw gs
         → Noticed st S.word μ w gs hs → Noticed st' S.word ν w gs hs
     noticed-stays o f n-none = n-none
     noticed-stays {w} o f (n-later {g} u n) = n-later (guard-unready w o g f.0 f.1 u) (noticed-stays o f.3 n)
@@ -320,10 +320,10 @@ module _ (S : Setting) (b : Part) (i : Info) (high : b.top < 2 ^ 32) (sits : Sit
           (ap (after (now st')) (sym (value_same b i.vars intact.reads t (c.0, c.1, tt {0}))) ∙ onto.past
           (eval st.store t) small g o p)
 
-      pub picks-stays : {k : List Frame} {gs : Guards} {b' t : ℕ} {p : Process} → FineGuards S.word b i.vars i.chans vw gs
-          → Guarding T st gs no_guard w → Picks T st k gs b' t p → Picks T' st' k gs b' t p
-      picks-stays f (e-later g r) (p-first h) = p-first (λ o. ready-stays f.0 f.1 g o (h (onto.less o)))
-      picks-stays f (e-later g r) (p-later h) = p-later (picks-stays f.3 r h)
+      pub picks-stays : {k : List Frame} {gs : Guards} {b' t : ℕ} {p : Process} → Picks T st k gs b' t p
+          → FineGuards S.word b i.vars i.chans vw gs → Guarding T st gs no_guard w → Picks T' st' k gs b' t p
+      picks-stays (p-first h) f (e-later g r) = p-first (λ o. ready-stays f.0 f.1 g o (h (onto.less o)))
+      picks-stays (p-later h) f (e-later g r) = p-later (picks-stays h f.3 r)
 
     pub disabling-stays : {T T' : Times} {k : List Frame} {gs hs : Guards} {choice w : ℕ} → Onto T T' w (now st) (now st') → vw ≡ w + 1
         → FineGuards S.word b i.vars i.chans vw gs
@@ -334,7 +334,7 @@ module _ (S : Setting) (b : Part) (i : Info) (high : b.top < 2 ^ 32) (sits : Sit
         record {
           marks = marked-stays w g d.marks;
           state = x ∙ d.state;
-          chosen = ⊎_elim (λ c. let (t, p, h, z) = c in inl (t, p, picks-stays onto f d.known h, e ∙ z))
+          chosen = ⊎_elim (λ c. let (t, p, h, z) = c in inl (t, p, picks-stays onto h f d.known, e ∙ z))
               (λ c. inr (e ∙ c.0, found-stays same_w words g c.1)) d.chosen;
           times = λ z.
               let (link, time) = words (omega (arith, same_w, timed-fine S.word b i.vars i.chans vw gs f z)) in

@@ -91,9 +91,9 @@ module _ (S : Setting) where
       → At S (c + (j + j)) f × At S (suc (c + (j + j))) (plain stl j)
   unfolding initialise
   init-at f zero g j h = absurd (omega arith)
-  init-at {c} f (suc n) g j h =
+  init-at {c} {c'} f (suc n) g j h =
       let (g₁, g₂) = cut (initialise f n) (c + (n + n)) (omega (arith, initialise-length f n)) g in
-      by (ℕ_discrete j n) (λ l. init-at f n g₁ j l) g₂
+      by (ℕ_discrete j n) (λ l. init-at {c' = c + (n + n)} f n g₁ j l) g₂
     where
       two : {c' : ℕ} → Seg S.xs (c + (n + n)) (f ∷ plain stl n ∷ []) c' → At S (c + (n + n)) f × At S (suc (c + (n + n))) (plain stl n)
       two (at p (at q nil)) = (p, q)

@@ -74,11 +74,13 @@ unready word μ w u (is-sent e s) = (u e).1 s
 unready word μ w u (is-skip e) = never (cc (u, e))
 
 pub noticed-unready : {st : State} {word : Site → ℕ} {μ : Mem} {w : ℕ} {gs : Guards} → Noticed st word μ w gs no_guard → AnyPresent st gs → ⊥
+noticed-unready n-none p = elim p [ ]
 noticed-unready {word} {μ} {w} (n-later u n) (a_first r) = unready word μ w u r
 noticed-unready (n-later u n) (a-later h) = noticed-unready n h
 
 pub noticed-marked : {st : State} {word : Site → ℕ} {μ : Mem} {w : ℕ} {gs : Guards} {c : Site} → Noticed st word μ w gs no_guard
     → Guarded st.store c gs → μ (word c) ≡ name_of w
+noticed-marked n-none p = elim p [ ]
 noticed-marked (n-later u n) (g-first e) = (u e).0
 noticed-marked (n-later u n) (g-later h) = noticed-marked n h
 

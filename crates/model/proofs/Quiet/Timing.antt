@@ -76,6 +76,7 @@ module _ (σ : Store) where
 
   -- of all times of a list
   pub each_all : {P : ℕ → Type 0} {gs : Guards} → EachTime P gs no_guard → (u : ℕ) → Timely u gs → P u
+  each_all e-none u m = elim m [ ]
   each_all {P} (e-later h r) u (t-first z e) = subst P e (h z)
   each_all (e-later h r) u (t-later m) = each_all r u m
 
@@ -145,7 +146,7 @@ untimed-of P st (time_guard e t) h = never (cc)
 
 pub bringing-past : (T : Times) (st : State) {gs : Guards} (g : Guard) {s : Stmt} {hs : Guards} {μ : Mem} {w : ℕ} → is_timed g ≡ false
     → Bringing T st gs (guard g s hs) μ w → Bringing T st gs hs μ w
-bringing-past T st g e (not_set z n) = not_set z (each-past st.store g n (untimed-of _ st g e))
+bringing-past T st g e (not_set z n) = not_set z (each-past st.store g n (untimed-of (λ u. ⊥) st g e))
 bringing-past T st g e (is_set z l) =
     is_set z
     (record {
@@ -154,7 +155,7 @@ bringing-past T st g e (is_set z l) =
       small = l.small;
       one = l.one;
       knows = l.knows;
-      least = each-past st.store g l.least (untimed-of _ st g e);
+      least = each-past st.store g l.least (untimed-of (λ u. T.sure → after l.tm u ≡ false) st g e);
     })
 
 -- from one context and clock to another: what is known of times stays known, and what is past stays past

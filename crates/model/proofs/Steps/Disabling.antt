@@ -146,6 +146,7 @@ module _ (L : Loaded) {s : World} {st : State} {μ : Mem} {t : Tree (S L) (root 
   -- what is found stays so then
   pub found-kept : (ν : Mem) → SameTimes ν → (hs : Guards) → FineGuards (S L).word b i.vars i.chans (space s + 1) hs
       → AnyFound st μ (space s) hs → AnyFound st ν (space s) hs
+  found-kept ν same no_guard fine m = elim m [ ]
   found-kept ν same (guard g x hs) fine (f-first (finds-present h)) = f-first (finds-present h)
   found-kept ν same (guard (time_guard e u) x hs) fine (f-first (finds-time h y z)) =
       let (f, g) = same (omega (arith, fine.1.2)) in

@@ -47,6 +47,7 @@ use Rattle.model.proofs.Steps.Meets.{rest_below, real-below, clean-below, chan-a
 later-few : {ss : Stmts} {s r : Stmt} {d b k e f : ℕ} → Later (stmt s ss) d b k r e f → k ≤ how_many ss
 unfolding how_many
 later-few l-here = omega arith
+later-few (l-next {ss = no_stmt} h) = elim h [ ]
 later-few (l-next {ss = stmt x xs} h) = omega (arith, later-few h)
 
 -- different branches are at different paths

@@ -143,19 +143,19 @@ module _ {end : ℕ} where
   deep-reads at = next (number-reads at) λ to n h g. turned
 
   -- what follows an expression's kind, where the expressions inside are read as they should be
-  expr-of : {sc : Scope} {inner : Reader Expr} → ((at : ℕ) → Sound end Expr at (λ to e. WellExpr sc e) (inner at))
+  expr-of : (sc : Scope) {inner : Reader Expr} → ((at : ℕ) → Sound end Expr at (λ to e. WellExpr sc e) (inner at))
       → (k : ExprKind) (at : ℕ) → Sound end Expr at (λ to e. WellExpr sc e) (expr_of sc inner k at)
   unfolding expr_of
-  expr-of h Constant at = next (number-reads at) λ to n le g. done g.1
-  expr-of {sc} h Variable at = next (variable-reads sc at) λ to x le g. done g
-  expr-of h Not at = next (h at) λ to e le g. done g
-  expr-of h Binary at =
+  expr-of sc h Constant at = next (number-reads at) λ to n le g. done g.1
+  expr-of sc h Variable at = next (variable-reads sc at) λ to x le g. done g
+  expr-of sc h Not at = next (h at) λ to e le g. done g
+  expr-of sc h Binary at =
       next (one-reads operators at) λ to₁ op le₁ g. next (h to₁) λ to₂ l le₂ gl. next (h to₂) λ to₃ r le₃ gr. done (gl, gr)
 
   expr-reads : (d : ℕ) (sc : Scope) (at : ℕ) → Sound end Expr at (λ to e. WellExpr sc e) (read_expr d sc at)
   unfolding read_expr
   expr-reads zero sc at = deep-reads at
-  expr-reads (suc d) sc at = next (one-reads expr_kinds at) λ to k le g. expr-of (expr-reads d sc) k to
+  expr-reads (suc d) sc at = next (one-reads expr_kinds at) λ to k le g. expr-of sc (expr-reads d sc) k to
 
   -- so many parts, where each part read extends what is read after it
   many-reads : {A L : Type 0} {empty : L} {more : A → L → L} {part : Reader A} (Q : (n at to : ℕ) → L → Type 0)
