@@ -17,6 +17,7 @@
 // the kept fault; and a sum over the memory's 4,200 words. Numbers are hexadecimal, but for those of refusals.
 #![tactic(auto)]
 
+use std::io::Stdout;
 
 // The code's room: longer than any code and than a start takes.
 const BYTES: usize = model::limits::CODE + 256;
@@ -35,16 +36,16 @@ struct List {
 }
 
 // Begins an answer: one after the first stands behind a comma.
-fn begin_answer(list: List) {
+fn begin_answer(out: Stdout, list: List) {
     if !list.first {
-        lines::write(b", ");
+        lines::write(out, b", ");
     }
 }
 
 // A list after a call without an answer: so many numbers further.
 fn onward(list: List, numbers: usize) -> List {
     let mut further = list;
-    further.next = std::num::wrapping_add_usize(list.next, numbers);
+    further.next = list.next.wrapping_add(numbers);
     further
 }
 
@@ -65,10 +66,10 @@ fn lending(list: List, bytes: usize, words: usize) -> List {
 }
 
 // A list after a start, whose answer is written.
-fn started(list: List, begun: machine::Begun, numbers: usize) -> List {
+fn started(out: Stdout, list: List, begun: machine::Begun, numbers: usize) -> List {
     let machine = begun.machine;
     let answer = begun.answer;
-    show::print_start(answer);
+    show::print_start(out, answer);
     answered(list, machine, numbers)
 }
 
@@ -76,10 +77,7 @@ fn started(list: List, begun: machine::Begun, numbers: usize) -> List {
 fn load_code(numbers: &[u64], list: List, code: &mut [u8]) -> List {
     let bytes = lines::front(lines::rest(numbers, 2), lines::at(numbers, 1));
     let count = lines::to_bytes(bytes, code);
-    onward(
-        lending(list, count, list.words),
-        std::num::wrapping_add_usize(count, 2),
-    )
+    onward(lending(list, count, list.words), count.wrapping_add(2))
 }
 
 // Call 1: what is lent.
@@ -90,7 +88,7 @@ fn lend(numbers: &[u64], list: List) -> List {
 }
 
 // Call 2: a start.
-fn call_start(numbers: &[u64], list: List, code: &[u8], memory: &mut [u32]) -> List {
+fn call_start(out: Stdout, numbers: &[u64], list: List, code: &[u8], memory: &mut [u32]) -> List {
     let begun = machine::start(
         code,
         memory,
@@ -99,13 +97,14 @@ fn call_start(numbers: &[u64], list: List, code: &[u8], memory: &mut [u32]) -> L
         lines::word(numbers, 3),
         lines::word(numbers, 4),
     );
-    started(list, begun, 5)
+    started(out, list, begun, 5)
 }
 
 // Call 4: a run.
-fn call_run(numbers: &[u64], list: List, code: &[u8], memory: &mut [u32]) -> List {
+fn call_run(out: Stdout, numbers: &[u64], list: List, code: &[u8], memory: &mut [u32]) -> List {
     let before = list.machine;
     let machine = show::run(
+        out,
         before,
         code,
         memory,
@@ -116,9 +115,10 @@ fn call_run(numbers: &[u64], list: List, code: &[u8], memory: &mut [u32]) -> Lis
 }
 
 // Call 5: an offer.
-fn call_offer(numbers: &[u64], list: List, memory: &mut [u32]) -> List {
+fn call_offer(out: Stdout, numbers: &[u64], list: List, memory: &mut [u32]) -> List {
     let before = list.machine;
     let machine = show::offer(
+        out,
         before,
         memory,
         lines::word(numbers, 1),
@@ -128,25 +128,26 @@ fn call_offer(numbers: &[u64], list: List, memory: &mut [u32]) -> List {
 }
 
 // Call 6: a take.
-fn call_take(numbers: &[u64], list: List, memory: &mut [u32]) -> List {
+fn call_take(out: Stdout, numbers: &[u64], list: List, memory: &mut [u32]) -> List {
     let before = list.machine;
-    let machine = show::take(before, memory, lines::word(numbers, 1));
+    let machine = show::take(out, before, memory, lines::word(numbers, 1));
     answered(list, machine, 2)
 }
 
 // A call over lent code and memory.
-fn call_machine(numbers: &[u64], list: List, code: &[u8], memory: &mut [u32]) -> List {
-    begin_answer(list);
+fn call_machine(out: Stdout, numbers: &[u64], list: List, code: &[u8], memory: &mut [u32]) -> List {
+    begin_answer(out, list);
     match lines::at(numbers, 0) {
-        2 => call_start(numbers, list, code, memory),
-        4 => call_run(numbers, list, code, memory),
-        5 => call_offer(numbers, list, memory),
-        _ => call_take(numbers, list, memory),
+        2 => call_start(out, numbers, list, code, memory),
+        4 => call_run(out, numbers, list, code, memory),
+        5 => call_offer(out, numbers, list, memory),
+        _ => call_take(out, numbers, list, memory),
     }
 }
 
 // Starts a program that was compiled into the front of the code.
 fn start_program(
+    out: Stdout,
     list: List,
     code: &[u8],
     memory: &mut [u32],
@@ -155,19 +156,20 @@ fn start_program(
     numbers: usize,
 ) -> List {
     let begun = show::start_program(code, memory, facts, slice);
-    started(lending(list, code.len(), list.words), begun, numbers)
+    started(out, lending(list, code.len(), list.words), begun, numbers)
 }
 
 // A list after the refusal of a table.
-fn refused(list: List, number: u32, place: usize, numbers: usize) -> List {
+fn refused(out: Stdout, list: List, number: u32, place: usize, numbers: usize) -> List {
     let machine = list.machine;
-    lines::print(b"refused ", number as u64);
-    lines::print_hex(b" at ", place as u64);
+    lines::print(out, b"refused ", number as u64);
+    lines::print_hex(out, b" at ", place as u64);
     answered(list, machine, numbers)
 }
 
 // Compiles an accepted table and starts it.
 fn compile(
+    out: Stdout,
     list: List,
     table: &[u8],
     code: &mut [u8],
@@ -179,16 +181,17 @@ fn compile(
     match compiler::compile_into(table, code) {
         model::Compiled::Code(length) => {
             if length <= code.len() {
-                return start_program(list, &code[0..length], memory, facts, slice, numbers);
+                return start_program(out, list, &code[0..length], memory, facts, slice, numbers);
             }
             onward(list, numbers)
         }
-        model::Compiled::Refused(number, place) => refused(list, number, place, numbers),
+        model::Compiled::Refused(number, place) => refused(out, list, number, place, numbers),
     }
 }
 
 // Reads a table, compiles it and starts it.
 fn read(
+    out: Stdout,
     list: List,
     table: &[u8],
     code: &mut [u8],
@@ -198,42 +201,55 @@ fn read(
 ) -> List {
     match table::read(table) {
         model::Reading::Accepted(facts) => compile(
-            list, table, code, memory, facts, slice, numbers,
+            out, list, table, code, memory, facts, slice, numbers,
         ),
-        model::Reading::Refused(number, place) => refused(list, number, place, numbers),
+        model::Reading::Refused(number, place) => refused(out, list, number, place, numbers),
     }
 }
 
 // Call 3: a table.
-fn call_table(numbers: &[u64], list: List, code: &mut [u8], memory: &mut [u32]) -> List {
+fn call_table(
+    out: Stdout,
+    numbers: &[u64],
+    list: List,
+    code: &mut [u8],
+    memory: &mut [u32],
+) -> List {
     let mut table = [0; lines::NUMBERS];
     let bytes = lines::front(lines::rest(numbers, 3), lines::at(numbers, 2));
     let count = lines::to_bytes(bytes, &mut table);
-    begin_answer(list);
+    begin_answer(out, list);
     read(
+        out,
         list,
         &table[0..count],
         code,
         memory,
         lines::word(numbers, 1),
-        std::num::wrapping_add_usize(count, 3),
+        count.wrapping_add(3),
     )
 }
 
 // A call that is lent memory.
-fn call_lent(numbers: &[u64], list: List, code: &mut [u8], memory: &mut [u32]) -> List {
+fn call_lent(
+    out: Stdout,
+    numbers: &[u64],
+    list: List,
+    code: &mut [u8],
+    memory: &mut [u32],
+) -> List {
     let bytes = list.bytes;
     if lines::at(numbers, 0) == 3 {
-        return call_table(numbers, list, code, memory);
+        return call_table(out, numbers, list, code, memory);
     }
     if bytes > code.len() {
         return onward(list, numbers.len());
     }
-    call_machine(numbers, list, &code[0..bytes], memory)
+    call_machine(out, numbers, list, &code[0..bytes], memory)
 }
 
 // One call, whose number is the first. A number that is no call ends the list.
-fn call(numbers: &[u64], list: List, code: &mut [u8], memory: &mut [u32]) -> List {
+fn call(out: Stdout, numbers: &[u64], list: List, code: &mut [u8], memory: &mut [u32]) -> List {
     let words = list.words;
     let kind = lines::at(numbers, 0);
     if kind == 0 {
@@ -245,7 +261,7 @@ fn call(numbers: &[u64], list: List, code: &mut [u8], memory: &mut [u32]) -> Lis
     if kind > 6 || words > memory.len() {
         return onward(list, numbers.len());
     }
-    call_lent(numbers, list, code, &mut memory[0..words])
+    call_lent(out, numbers, list, code, &mut memory[0..words])
 }
 
 // A list before its first call.
@@ -260,11 +276,17 @@ fn begin() -> List {
 }
 
 // Makes the calls of a list, over code and memory. There are no more calls than numbers.
-fn make_calls(numbers: &[u64], code: &mut [u8], memory: &mut [u32]) -> model::Machine {
+fn make_calls(out: Stdout, numbers: &[u64], code: &mut [u8], memory: &mut [u32]) -> model::Machine {
     let mut list = begin();
     let mut turns = numbers.len();
     while turns > 0 && list.next < numbers.len() {
-        list = call(lines::rest(numbers, list.next as u64), list, code, memory);
+        list = call(
+            out,
+            lines::rest(numbers, list.next as u64),
+            list,
+            code,
+            memory,
+        );
         turns -= 1;
     }
     let machine = list.machine;
@@ -272,26 +294,27 @@ fn make_calls(numbers: &[u64], code: &mut [u8], memory: &mut [u32]) -> model::Ma
 }
 
 // Answers a line's list, if it has one.
-fn answer(numbers: &[u64]) {
+fn answer(out: Stdout, numbers: &[u64]) {
     let mut code = [0x99; BYTES];
     let mut memory = [0; WORDS];
     if numbers.len() == 0 {
         return;
     }
     show::fill(&mut memory);
-    let machine = make_calls(numbers, &mut code, &mut memory);
-    show::print_machine(machine, false);
-    lines::print_hex(b" / ", show::sum(&memory));
-    lines::write(b"\n");
+    let machine = make_calls(out, numbers, &mut code, &mut memory);
+    show::print_machine(out, machine, false);
+    lines::print_hex(out, b" / ", show::sum(&memory));
+    lines::write(out, b"\n");
 }
 
 // Answers the lines of standard input.
-fn main() {
+fn main(rt: HostRuntime) {
+    let out = rt.stdout();
     let mut characters = [0; lines::CHARACTERS];
     let mut numbers = [0; lines::NUMBERS];
     let mut line = lines::begin(16);
     while line.left > 0 {
-        line = lines::next_line(line, &mut characters, &mut numbers);
-        answer(lines::row(line, &numbers));
+        line = lines::next_line(rt.stdin(), rt.stderr(), line, &mut characters, &mut numbers);
+        answer(out, lines::row(line, &numbers));
     }
 }

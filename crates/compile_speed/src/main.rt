@@ -2,7 +2,6 @@
 // returns. speed/tables.py makes tables for it.
 #![tactic(auto)]
 
-
 // Compiles the table into a buffer of the largest size.
 fn compile_once(table: &[u8]) -> model::Compiled {
     let mut out = [0; model::limits::CODE];
@@ -38,15 +37,16 @@ fn compile_hundred(table: &[u8]) -> model::Compiled {
 }
 
 // Reads into room for the longest table and one byte more, so that a longer input is refused and not cut off.
-fn main() {
+fn main(rt: HostRuntime) {
+    let out = rt.stdout();
     let mut table = [0; model::limits::TABLE + 1];
-    let n = io::read_full(0, &mut table);
+    let n = lines::read_full(rt.stdin(), &mut table);
     match compile_hundred(&table[..n]) {
-        model::Compiled::Code(size) => lines::print(b"bytes ", size as u64),
+        model::Compiled::Code(size) => lines::print(out, b"bytes ", size as u64),
         model::Compiled::Refused(number, returned) => {
-            lines::print(b"refused ", number as u64);
-            lines::print(b" with ", returned as u64);
+            lines::print(out, b"refused ", number as u64);
+            lines::print(out, b" with ", returned as u64);
         }
     }
-    lines::write(b"\n");
+    lines::write(out, b"\n");
 }

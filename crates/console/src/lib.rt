@@ -3,6 +3,8 @@
 
 ghost use Rattle.std.specs.Prelude.{◌≤◌};
 
+use std::io::Stdout;
+
 // A piece has 64 bytes.
 fn shown(length: usize) -> usize
     ensures { result ≤ 64 }
@@ -14,14 +16,14 @@ fn shown(length: usize) -> usize
 }
 
 // Writes a piece of the text, and answers whether all of it was taken.
-fn write(piece: report::Piece) -> bool {
+fn write(out: Stdout, piece: report::Piece) -> bool {
     let bytes = piece.bytes;
     let n = shown(piece.length);
-    io::write_all(libc::STDOUT_FILENO, &bytes[..n])
+    out.write_all(&bytes[..n]).is_ok()
 }
 
 // Writes the text that is still to come, up to the first write that fails, and answers whether none did.
-fn print(start: report::Report, code: &[u8], memory: &mut [u32]) -> bool {
+fn print(out: Stdout, start: report::Report, code: &[u8], memory: &mut [u32]) -> bool {
     let mut report = start;
     loop {
         let turn = report::next(report, code, memory);
@@ -29,7 +31,7 @@ fn print(start: report::Report, code: &[u8], memory: &mut [u32]) -> bool {
             return true;
         }
         let piece = turn.piece;
-        if !write(piece) {
+        if !write(out, piece) {
             return false;
         }
         report = turn.report;
@@ -38,9 +40,9 @@ fn print(start: report::Report, code: &[u8], memory: &mut [u32]) -> bool {
 
 // Writes what the bench program prints for a table, and answers whether all of it was written; after a write that fails nothing more is.
 // What is written are the pieces that `report` promises; a contract cannot speak of what a call of the system wrote, so there is none here.
-pub fn print_report(table: &[u8]) -> bool {
+pub fn print_report(out: Stdout, table: &[u8]) -> bool {
     let mut code = [0; model::limits::CODE];
     let mut memory = [0; model::limits::MEMORY];
     let opened = report::open(table, &mut code, &mut memory);
-    print(opened, &code, &mut memory)
+    print(out, opened, &code, &mut memory)
 }

@@ -3,10 +3,11 @@
 // Numbers are hexadecimal; what is no digit stands between them, and '#' begins a comment up to the end of the line. A number ends after
 // as many digits as the caller says, at the latest, and after 16: with 2 a line is a row of bytes, with or without spaces. What stands
 // behind the last line's end is no line.
-ghost use Rattle.std.specs.Prelude.{◌<◌};
+ghost use Rattle.std.specs.Prelude.{◌<◌, ◌≤◌, length};
 
 use crate::numbers::front;
 use crate::{CHARACTERS, NUMBERS};
+use std::io::{Read, Stderr, Stdin};
 
 // A line, and how far the text is read.
 #[derive(Clone, Copy)]
@@ -140,13 +141,22 @@ fn take_character(line: Line, numbers: &mut [u64; NUMBERS], character: u8) -> Li
 
 // Reads the next part of the text. Where nothing is left the text is over; so it is after a read that fails, which is said on standard
 // error.
-fn read_part(line: Line, characters: &mut [u8; CHARACTERS]) -> Line {
+fn read_part(
+    mut input: Stdin,
+    errors: Stderr,
+    line: Line,
+    characters: &mut [u8; CHARACTERS],
+) -> Line {
     let mut longer = line;
-    let got = libc::read(libc::STDIN_FILENO, characters);
-    if got < 0 {
-        io::write_all(libc::STDERR_FILENO, b"lines: cannot read standard input\n");
-    }
-    let n = io::count(got, characters);
+    let n = match input.read(characters) {
+        Ok(n) => n,
+        Err(_) => {
+            let _written = errors
+                .write_all(b"lines: cannot read standard input\n")
+                .is_ok();
+            0
+        }
+    };
     longer.next = 0;
     longer.end = n;
     longer.whole = n == 0;
@@ -155,10 +165,16 @@ fn read_part(line: Line, characters: &mut [u8; CHARACTERS]) -> Line {
 }
 
 // The next character, or the next part of the text.
-fn go_on(line: Line, characters: &mut [u8; CHARACTERS], numbers: &mut [u64; NUMBERS]) -> Line {
+fn go_on(
+    input: Stdin,
+    errors: Stderr,
+    line: Line,
+    characters: &mut [u8; CHARACTERS],
+    numbers: &mut [u64; NUMBERS],
+) -> Line {
     let next = line.next;
     if next >= line.end || next >= CHARACTERS {
-        return read_part(line, characters);
+        return read_part(input, errors, line, characters);
     }
     let mut longer = line;
     longer.next = next + 1;
@@ -184,6 +200,8 @@ fn counted(line: Line, last: Line) -> Line
 // The line after another, with its numbers at the front of `numbers`; those for which there is no room are dropped. The characters are the
 // same for all lines of a text. The loop counts its turns down, from a number that no line uses up.
 pub fn next_line(
+    input: Stdin,
+    errors: Stderr,
     last: Line,
     characters: &mut [u8; CHARACTERS],
     numbers: &mut [u64; NUMBERS],
@@ -194,7 +212,7 @@ pub fn next_line(
     let mut line = new_line(last);
     let mut turns = u64::MAX;
     while turns > 0 && !line.whole {
-        line = go_on(line, characters, numbers);
+        line = go_on(input, errors, line, characters, numbers);
         turns -= 1;
     }
     counted(line, last)
@@ -204,4 +222,22 @@ pub fn next_line(
 pub fn row(line: Line, numbers: &[u64; NUMBERS]) -> &[u64] {
     let all = &numbers[..];
     front(all, line.count as u64)
+}
+
+// Reads until the room is full, the input ends or a read fails, and answers how many bytes stand at the front of the room.
+pub fn read_full(mut input: Stdin, room: &mut [u8]) -> usize
+    ensures { result ≤ length room.new }
+{
+    let mut n = 0;
+    while n < room.len() {
+        let more = match input.read(&mut room[n..]) {
+            Ok(more) => more,
+            Err(_) => 0,
+        };
+        if more == 0 {
+            break;
+        }
+        n += more;
+    }
+    n
 }

@@ -8,6 +8,7 @@ ghost use Rattle.std.specs.Prelude.{◌+◌, ◌<◌, ◌≤◌, length};
 ghost use Rattle.model.specs.Limits.{code_limit, word_limit};
 
 use lines::print;
+use std::io::Stdout;
 
 // The code's room: a byte longer than a start takes.
 const BYTES: usize = model::limits::CODE + 1;
@@ -31,38 +32,38 @@ fn same_until(memory: &[u32], from: usize) -> usize
 }
 
 // Writes how many words have a value.
-fn print_run(count: usize, value: u32) {
-    print(b" ", count as u64);
-    print(b"*", value as u64);
+fn print_run(out: Stdout, count: usize, value: u32) {
+    print(out, b" ", count as u64);
+    print(out, b"*", value as u64);
 }
 
 // Writes a memory as runs of equal words.
-fn print_runs(memory: &[u32]) {
+fn print_runs(out: Stdout, memory: &[u32]) {
     let mut i = 0;
     while i < memory.len() {
         let end = same_until(memory, i);
-        print_run(end - i, memory[i]);
+        print_run(out, end - i, memory[i]);
         i = end;
     }
 }
 
 // Writes what a start keeps.
-fn print_setup(setup: model::Setup) {
-    print(b"started code ", setup.code as u64);
-    print(b" w ", setup.base as u64);
-    print(b" in ", setup.inputs as u64);
-    print(b" out ", setup.outputs as u64);
-    print(b" slice ", setup.slice as u64);
+fn print_setup(out: Stdout, setup: model::Setup) {
+    print(out, b"started code ", setup.code as u64);
+    print(out, b" w ", setup.base as u64);
+    print(out, b" in ", setup.inputs as u64);
+    print(out, b" out ", setup.outputs as u64);
+    print(out, b" slice ", setup.slice as u64);
 }
 
 // Writes a start's answer.
-fn print_answer(answer: model::StartAnswer, setup: model::Setup) {
+fn print_answer(out: Stdout, answer: model::StartAnswer, setup: model::Setup) {
     match answer {
-        model::StartAnswer::Started => print_setup(setup),
-        model::StartAnswer::BadSlice => print(b"", 15),
-        model::StartAnswer::BadCount => print(b"", 3),
-        model::StartAnswer::TooLarge => print(b"", 10),
-        model::StartAnswer::Short(size) => print(b"11 ", size),
+        model::StartAnswer::Started => print_setup(out, setup),
+        model::StartAnswer::BadSlice => print(out, b"", 15),
+        model::StartAnswer::BadCount => print(out, b"", 3),
+        model::StartAnswer::TooLarge => print(out, b"", 10),
+        model::StartAnswer::Short(size) => print(out, b"11 ", size),
     }
 }
 
@@ -78,18 +79,18 @@ struct Case {
 }
 
 // Writes what a start is lent and asked.
-fn print_case(case: Case) {
-    print(b"", case.code as u64);
-    print(b" ", case.memory as u64);
-    print(b" ", case.w as u64);
-    print(b" ", case.inputs as u64);
-    print(b" ", case.outputs as u64);
-    print(b" ", case.slice as u64);
-    lines::write(b": ");
+fn print_case(out: Stdout, case: Case) {
+    print(out, b"", case.code as u64);
+    print(out, b" ", case.memory as u64);
+    print(out, b" ", case.w as u64);
+    print(out, b" ", case.inputs as u64);
+    print(out, b" ", case.outputs as u64);
+    print(out, b" ", case.slice as u64);
+    lines::write(out, b": ");
 }
 
 // Starts a machine over the first bytes and the first words, and writes the answer.
-fn answer(bytes: &[u8], words: &mut [u32], case: Case)
+fn answer(out: Stdout, bytes: &[u8], words: &mut [u32], case: Case)
     requires { (case.code ≤ length bytes.now) × (case.memory ≤ length words.old) }
 {
     let code = case.code;
@@ -105,11 +106,11 @@ fn answer(bytes: &[u8], words: &mut [u32], case: Case)
     let machine = begun.machine;
     let setup = machine.setup;
     let answer = begun.answer;
-    print_answer(answer, setup);
+    print_answer(out, answer, setup);
 }
 
 // Writes a start's line.
-fn start(code: usize, memory: usize, w: u32, inputs: u32, outputs: u32, slice: u32)
+fn start(out: Stdout, code: usize, memory: usize, w: u32, inputs: u32, outputs: u32, slice: u32)
     requires { (code ≤ code_limit + 1) × (memory ≤ word_limit + 4) }
 {
     let case = Case {
@@ -122,81 +123,82 @@ fn start(code: usize, memory: usize, w: u32, inputs: u32, outputs: u32, slice: u
     };
     let bytes = [0; BYTES];
     let mut words = [7; WORDS];
-    print_case(case);
-    answer(&bytes, &mut words, case);
-    print_runs(&words);
-    lines::write(b"\n");
+    print_case(out, case);
+    answer(out, &bytes, &mut words, case);
+    print_runs(out, &words);
+    lines::write(out, b"\n");
 }
 
 // The slice: 1 to 65,535.
-fn slices() {
-    start(7, 8, 5, 1, 1, 0);
-    start(7, 8, 5, 1, 1, 1);
-    start(7, 8, 5, 1, 1, 65535);
-    start(7, 8, 5, 1, 1, 65536);
-    start(7, 8, 5, 1, 1, 4294967295);
+fn slices(out: Stdout) {
+    start(out, 7, 8, 5, 1, 1, 0);
+    start(out, 7, 8, 5, 1, 1, 1);
+    start(out, 7, 8, 5, 1, 1, 65535);
+    start(out, 7, 8, 5, 1, 1, 65536);
+    start(out, 7, 8, 5, 1, 1, 4294967295);
 }
 
 // Channel counts: 0 to 8 each.
-fn counts() {
-    start(7, 20, 3, 8, 0, 32);
-    start(7, 20, 3, 9, 0, 32);
-    start(7, 20, 3, 0, 8, 32);
-    start(7, 20, 3, 0, 9, 32);
-    start(7, 20, 3, 9, 9, 32);
-    start(7, 20, 3, 4294967295, 1, 32);
+fn counts(out: Stdout) {
+    start(out, 7, 20, 3, 8, 0, 32);
+    start(out, 7, 20, 3, 9, 0, 32);
+    start(out, 7, 20, 3, 0, 8, 32);
+    start(out, 7, 20, 3, 0, 9, 32);
+    start(out, 7, 20, 3, 9, 9, 32);
+    start(out, 7, 20, 3, 4294967295, 1, 32);
 }
 
 // Words with outside channels: at most 4,096, summed wide.
-fn words() {
-    start(7, 4100, 4080, 8, 8, 32);
-    start(7, 4100, 4081, 8, 8, 32);
-    start(7, 4096, 4096, 0, 0, 32);
-    start(7, 4100, 4097, 0, 0, 32);
-    start(7, 4100, 4294967280, 8, 8, 32);
-    start(7, 4100, 4294967295, 0, 0, 32);
+fn words(out: Stdout) {
+    start(out, 7, 4100, 4080, 8, 8, 32);
+    start(out, 7, 4100, 4081, 8, 8, 32);
+    start(out, 7, 4096, 4096, 0, 0, 32);
+    start(out, 7, 4100, 4097, 0, 0, 32);
+    start(out, 7, 4100, 4294967280, 8, 8, 32);
+    start(out, 7, 4100, 4294967295, 0, 0, 32);
 }
 
 // Code bytes: at most 16,384.
-fn codes() {
-    start(0, 4, 2, 1, 0, 32);
-    start(16384, 4, 2, 1, 0, 32);
-    start(16385, 4, 2, 1, 0, 32);
+fn codes(out: Stdout) {
+    start(out, 0, 4, 2, 1, 0, 32);
+    start(out, 16384, 4, 2, 1, 0, 32);
+    start(out, 16385, 4, 2, 1, 0, 32);
 }
 
 // Memory: as many words as are needed, or more.
-fn memories() {
-    start(7, 7, 5, 1, 1, 32);
-    start(7, 6, 5, 1, 1, 32);
-    start(7, 0, 0, 0, 0, 32);
-    start(7, 0, 0, 0, 1, 32);
-    start(7, 4095, 4080, 8, 8, 32);
-    start(7, 4100, 2, 1, 2, 32);
+fn memories(out: Stdout) {
+    start(out, 7, 7, 5, 1, 1, 32);
+    start(out, 7, 6, 5, 1, 1, 32);
+    start(out, 7, 0, 0, 0, 0, 32);
+    start(out, 7, 0, 0, 0, 1, 32);
+    start(out, 7, 4095, 4080, 8, 8, 32);
+    start(out, 7, 4100, 2, 1, 2, 32);
 }
 
 // Two causes at a time: 15 before 3, 10 and 11.
-fn slice_first() {
-    start(7, 20, 3, 9, 0, 0);
-    start(7, 4100, 4097, 0, 0, 65536);
-    start(16385, 20, 3, 0, 0, 0);
-    start(7, 2, 3, 0, 0, 65536);
+fn slice_first(out: Stdout) {
+    start(out, 7, 20, 3, 9, 0, 0);
+    start(out, 7, 4100, 4097, 0, 0, 65536);
+    start(out, 16385, 20, 3, 0, 0, 0);
+    start(out, 7, 2, 3, 0, 0, 65536);
 }
 
 // Then 3 before 10 and 11, and 10 before 11.
-fn then_counts() {
-    start(7, 4100, 4097, 0, 9, 32);
-    start(16385, 20, 3, 9, 0, 32);
-    start(7, 2, 3, 0, 9, 32);
-    start(7, 2, 4097, 0, 0, 32);
-    start(16385, 2, 3, 0, 0, 32);
+fn then_counts(out: Stdout) {
+    start(out, 7, 4100, 4097, 0, 9, 32);
+    start(out, 16385, 20, 3, 9, 0, 32);
+    start(out, 7, 2, 3, 0, 9, 32);
+    start(out, 7, 2, 4097, 0, 0, 32);
+    start(out, 16385, 2, 3, 0, 0, 32);
 }
 
-fn main() {
-    slices();
-    counts();
-    words();
-    codes();
-    memories();
-    slice_first();
-    then_counts();
+fn main(rt: HostRuntime) {
+    let out = rt.stdout();
+    slices(out);
+    counts(out);
+    words(out);
+    codes(out);
+    memories(out);
+    slice_first(out);
+    then_counts(out);
 }

@@ -11,6 +11,7 @@
 #![tactic(auto)]
 
 use lines::{print, write};
+use std::io::Stdout;
 
 // The instructions after which a program is left.
 const LIMIT: u64 = model::limits::BENCH_BUDGET;
@@ -29,9 +30,9 @@ struct Finish {
 }
 
 // Writes that something does not hold, and what. No run should come here.
-fn wrong(what: &[u8]) {
-    write(b" wrong ");
-    write(what);
+fn wrong(out: Stdout, what: &[u8]) {
+    write(out, b" wrong ");
+    write(out, what);
 }
 
 // Whether all words are as they were lent.
@@ -82,11 +83,17 @@ fn run_in_a_way(
 }
 
 // Runs a started program, and once more: that run executes nothing.
-fn run_to_end(machine: model::Machine, code: &[u8], memory: &mut [u32], by_steps: bool) -> Finish {
+fn run_to_end(
+    out: Stdout,
+    machine: model::Machine,
+    code: &[u8],
+    memory: &mut [u32],
+    by_steps: bool,
+) -> Finish {
     let course = run_in_a_way(machine, code, memory, by_steps);
     let again = show::go_on(course, code, memory, budget(course.total));
     if again.total != course.total || again.kind != course.kind {
-        wrong(b"run after the last");
+        wrong(out, b"run after the last");
     }
     Finish {
         kind: course.kind,
@@ -96,85 +103,92 @@ fn run_to_end(machine: model::Machine, code: &[u8], memory: &mut [u32], by_steps
 }
 
 // Starts a program over lent memory and runs it.
-fn start(code: &[u8], memory: &mut [u32], facts: model::Facts, by_steps: bool) -> Finish {
+fn start(
+    out: Stdout,
+    code: &[u8],
+    memory: &mut [u32],
+    facts: model::Facts,
+    by_steps: bool,
+) -> Finish {
     let begun = show::start_program(code, memory, facts, model::limits::BENCH_SLICE);
     let machine = begun.machine;
     let answer = begun.answer;
     match answer {
         model::StartAnswer::Started => {}
-        _ => wrong(b"start"),
+        _ => wrong(out, b"start"),
     }
-    run_to_end(machine, code, memory, by_steps)
+    run_to_end(out, machine, code, memory, by_steps)
 }
 
 // Runs a program in one of the two ways, with more words lent than it needs.
-fn execute(code: &[u8], facts: model::Facts, by_steps: bool) -> Finish {
+fn execute(out: Stdout, code: &[u8], facts: model::Facts, by_steps: bool) -> Finish {
     let mut memory = [KEPT; WORDS];
-    let done = start(code, &mut memory, facts, by_steps);
+    let done = start(out, code, &mut memory, facts, by_steps);
     let words = facts.words as usize;
     if words > WORDS {
-        wrong(b"words");
+        wrong(out, b"words");
         return done;
     }
     if !is_kept(&memory[words..]) {
-        wrong(b"words beyond");
+        wrong(out, b"words beyond");
     }
     done
 }
 
 // Runs a compiled program in both ways, and writes its line.
-fn answer_code(code: &[u8], facts: model::Facts) {
-    print(b"bytes ", code.len() as u64);
-    print(b" words ", facts.words as u64);
-    let steps = execute(code, facts, true);
-    let single = execute(code, facts, false);
-    write(b" ");
-    show::print_kind(steps.kind);
-    print(b" ", steps.total);
-    lines::print_word(b" sum ", steps.sum);
+fn answer_code(out: Stdout, code: &[u8], facts: model::Facts) {
+    print(out, b"bytes ", code.len() as u64);
+    print(out, b" words ", facts.words as u64);
+    let steps = execute(out, code, facts, true);
+    let single = execute(out, code, facts, false);
+    write(out, b" ");
+    show::print_kind(out, steps.kind);
+    print(out, b" ", steps.total);
+    lines::print_word(out, b" sum ", steps.sum);
     if steps.kind != single.kind || steps.total != single.total || steps.sum != single.sum {
-        wrong(b"single run");
+        wrong(out, b"single run");
     }
 }
 
 // Compiles an accepted table and runs it.
-fn answer_accepted(table: &[u8], facts: model::Facts) {
+fn answer_accepted(out: Stdout, table: &[u8], facts: model::Facts) {
     let mut buffer = [0; model::limits::CODE];
     match compiler::compile_into(table, &mut buffer) {
         model::Compiled::Code(length) => {
             if length <= model::limits::CODE {
-                answer_code(&buffer[0..length], facts);
+                answer_code(out, &buffer[0..length], facts);
             }
         }
-        model::Compiled::Refused(number, place) => lines::print_refusal(number, place),
+        model::Compiled::Refused(number, place) => lines::print_refusal(out, number, place),
     }
 }
 
 // Answers a table.
-fn answer(table: &[u8]) {
+fn answer(out: Stdout, table: &[u8]) {
     match table::read(table) {
-        model::Reading::Accepted(facts) => answer_accepted(table, facts),
-        model::Reading::Refused(number, place) => lines::print_refusal(number, place),
+        model::Reading::Accepted(facts) => answer_accepted(out, table, facts),
+        model::Reading::Refused(number, place) => lines::print_refusal(out, number, place),
     }
-    write(b"\n");
+    write(out, b"\n");
 }
 
 // Answers a line's table, if it has one.
-fn answer_line(numbers: &[u64]) {
+fn answer_line(out: Stdout, numbers: &[u64]) {
     let mut table = [0; lines::NUMBERS];
     let end = lines::to_bytes(numbers, &mut table);
     if end > 0 {
-        answer(&table[0..end]);
+        answer(out, &table[0..end]);
     }
 }
 
 // Answers the lines of standard input.
-fn main() {
+fn main(rt: HostRuntime) {
+    let out = rt.stdout();
     let mut characters = [0; lines::CHARACTERS];
     let mut numbers = [0; lines::NUMBERS];
     let mut line = lines::begin(2);
     while line.left > 0 {
-        line = lines::next_line(line, &mut characters, &mut numbers);
-        answer_line(lines::row(line, &numbers));
+        line = lines::next_line(rt.stdin(), rt.stderr(), line, &mut characters, &mut numbers);
+        answer_line(out, lines::row(line, &numbers));
     }
 }

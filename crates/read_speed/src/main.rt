@@ -2,7 +2,6 @@
 // place. speed/tables.py makes tables for it.
 #![tactic(auto)]
 
-
 // Reads the table ten times.
 fn read_ten(table: &[u8]) -> model::Reading {
     table::read(table);
@@ -32,12 +31,13 @@ fn read_hundred(table: &[u8]) -> model::Reading {
 }
 
 // Reads into room for the longest table and one byte more, so that a longer input is refused and not cut off.
-fn main() {
+fn main(rt: HostRuntime) {
+    let out = rt.stdout();
     let mut table = [0; model::limits::TABLE + 1];
-    let n = io::read_full(0, &mut table);
+    let n = lines::read_full(rt.stdin(), &mut table);
     match read_hundred(&table[..n]) {
-        model::Reading::Accepted(facts) => lines::print(b"words ", facts.words as u64),
-        model::Reading::Refused(number, place) => lines::print_refusal(number, place),
+        model::Reading::Accepted(facts) => lines::print(out, b"words ", facts.words as u64),
+        model::Reading::Refused(number, place) => lines::print_refusal(out, number, place),
     }
-    lines::write(b"\n");
+    lines::write(out, b"\n");
 }

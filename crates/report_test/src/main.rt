@@ -4,23 +4,25 @@
 // digit is no table.
 #![tactic(auto)]
 
+use std::io::Stdout;
 
 // Answers a line's table, if it has one. What is written is compared with the expected text, so a write that fails shows there.
-fn answer_line(numbers: &[u64]) {
+fn answer_line(out: Stdout, numbers: &[u64]) {
     let mut table = [0; lines::NUMBERS];
     let end = lines::to_bytes(numbers, &mut table);
     if end > 0 {
-        console::print_report(&table[0..end]);
+        console::print_report(out, &table[0..end]);
     }
 }
 
 // Answers the lines of standard input.
-fn main() {
+fn main(rt: HostRuntime) {
+    let out = rt.stdout();
     let mut characters = [0; lines::CHARACTERS];
     let mut numbers = [0; lines::NUMBERS];
     let mut line = lines::begin(2);
     while line.left > 0 {
-        line = lines::next_line(line, &mut characters, &mut numbers);
-        answer_line(lines::row(line, &numbers));
+        line = lines::next_line(rt.stdin(), rt.stderr(), line, &mut characters, &mut numbers);
+        answer_line(out, lines::row(line, &numbers));
     }
 }

@@ -11,6 +11,7 @@
 // as input=value, the kept fault, and as address=value the words lent that are no longer what they were. Numbers are hexadecimal.
 #![tactic(auto)]
 
+use std::io::Stdout;
 
 // The numbers that say a machine. Behind them come the budget, the clock, the words lent and the code bytes lent.
 const MACHINE: usize = 37;
@@ -141,38 +142,40 @@ fn load(named: &[u64], words: &mut [u32]) {
 }
 
 // Writes a word, if it is no longer what it was.
-fn print_change(i: usize, before: u32, after: u32) {
+fn print_change(out: Stdout, i: usize, before: u32, after: u32) {
     if before != after {
-        show::print_value(i, after);
+        show::print_value(out, i, after);
     }
 }
 
 // Writes the words that are no longer what they were.
-fn print_changes(before: &[u32], after: &[u32]) {
+fn print_changes(out: Stdout, before: &[u32], after: &[u32]) {
     let mut i = 0;
     while i < before.len() && i < after.len() {
-        print_change(i, before[i], after[i]);
+        print_change(out, i, before[i], after[i]);
         i += 1;
     }
 }
 
 // Runs a case, and writes its line. `before` and `memory` are the same words.
-fn run(numbers: &[u64], code: &[u8], before: &[u32], memory: &mut [u32]) {
+fn run(out: Stdout, numbers: &[u64], code: &[u8], before: &[u32], memory: &mut [u32]) {
     let left = show::run(
+        out,
         machine(numbers),
         code,
         memory,
         lines::at(numbers, MACHINE),
         lines::word(numbers, MACHINE + 1),
     );
-    show::print_machine(left, true);
-    lines::write(b" /");
-    print_changes(before, memory);
-    lines::write(b"\n");
+    show::print_machine(out, left, true);
+    lines::write(out, b" /");
+    print_changes(out, before, memory);
+    lines::write(out, b"\n");
 }
 
 // Puts the words of a case into both memories, and runs it.
 fn load_and_run(
+    out: Stdout,
     numbers: &[u64],
     code: &[u8],
     named: &[u64],
@@ -181,11 +184,11 @@ fn load_and_run(
 ) {
     load(named, before);
     load(named, memory);
-    run(numbers, code, before, memory);
+    run(out, numbers, code, before, memory);
 }
 
 // Lends a case its code and its memory. The numbers that are code and those that name words are given apart.
-fn lend(numbers: &[u64], codes: &[u64], named: &[u64], words: usize) {
+fn lend(out: Stdout, numbers: &[u64], codes: &[u64], named: &[u64], words: usize) {
     let mut code = [0; BYTES];
     let mut before = [0; WORDS];
     let mut memory = [0; WORDS];
@@ -194,6 +197,7 @@ fn lend(numbers: &[u64], codes: &[u64], named: &[u64], words: usize) {
         return;
     }
     load_and_run(
+        out,
         numbers,
         &code[0..end],
         named,
@@ -203,7 +207,7 @@ fn lend(numbers: &[u64], codes: &[u64], named: &[u64], words: usize) {
 }
 
 // Answers a line's case, if it has one: finds its code's bytes and the words that it names.
-fn answer(numbers: &[u64]) {
+fn answer(out: Stdout, numbers: &[u64]) {
     if numbers.len() == 0 {
         return;
     }
@@ -211,6 +215,7 @@ fn answer(numbers: &[u64]) {
     let length = lines::at(numbers, MACHINE + 3);
     let rest = lines::rest(numbers, MACHINE as u64 + 4);
     lend(
+        out,
         numbers,
         lines::front(rest, length),
         lines::rest(rest, length),
@@ -219,12 +224,13 @@ fn answer(numbers: &[u64]) {
 }
 
 // Answers the lines of standard input.
-fn main() {
+fn main(rt: HostRuntime) {
+    let out = rt.stdout();
     let mut characters = [0; lines::CHARACTERS];
     let mut numbers = [0; lines::NUMBERS];
     let mut line = lines::begin(16);
     while line.left > 0 {
-        line = lines::next_line(line, &mut characters, &mut numbers);
-        answer(lines::row(line, &numbers));
+        line = lines::next_line(rt.stdin(), rt.stderr(), line, &mut characters, &mut numbers);
+        answer(out, lines::row(line, &numbers));
     }
 }

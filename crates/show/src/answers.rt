@@ -1,5 +1,6 @@
 // Answers as text. Numbers are hexadecimal, but for those of refusals.
 use lines::{print_hex, write};
+use std::io::Stdout;
 
 // How a run stood, by a number, and the instructions that it executed: 0 is spent, 1 ended, 2 waiting, 3 fault and 4 refusal 11.
 #[derive(Clone, Copy)]
@@ -36,91 +37,91 @@ pub fn run_standing(answer: model::RunAnswer) -> Standing {
 }
 
 // Writes a kind.
-pub fn print_kind(kind: u64) {
+pub fn print_kind(out: Stdout, kind: u64) {
     match kind {
-        0 => write(b"spent"),
-        1 => write(b"ended"),
-        2 => write(b"waiting"),
-        3 => write(b"fault"),
-        4 => write(b"short"),
-        _ => write(b"earlier clock"),
+        0 => write(out, b"spent"),
+        1 => write(out, b"ended"),
+        2 => write(out, b"waiting"),
+        3 => write(out, b"fault"),
+        4 => write(out, b"short"),
+        _ => write(out, b"earlier clock"),
     }
 }
 
 // Writes what was at fault.
-pub fn print_fault(kind: model::FaultKind) {
+pub fn print_fault(out: Stdout, kind: model::FaultKind) {
     match kind {
-        model::FaultKind::Function(number) => print_hex(b"function ", number as u64),
-        model::FaultKind::Operation(number) => print_hex(b"operation ", number as u64),
-        model::FaultKind::Count(number) => print_hex(b"count ", number as u64),
-        model::FaultKind::Word(number) => print_hex(b"word ", number as u64),
-        model::FaultKind::Place(number) => print_hex(b"place ", number as u64),
+        model::FaultKind::Function(number) => print_hex(out, b"function ", number as u64),
+        model::FaultKind::Operation(number) => print_hex(out, b"operation ", number as u64),
+        model::FaultKind::Count(number) => print_hex(out, b"count ", number as u64),
+        model::FaultKind::Word(number) => print_hex(out, b"word ", number as u64),
+        model::FaultKind::Place(number) => print_hex(out, b"place ", number as u64),
     }
 }
 
 // Writes refusal 11, with the size needed.
-fn print_short(size: u64) {
-    print_hex(b"11 ", size);
+fn print_short(out: Stdout, size: u64) {
+    print_hex(out, b"11 ", size);
 }
 
 // Writes a start's answer.
-pub fn print_start(answer: model::StartAnswer) {
+pub fn print_start(out: Stdout, answer: model::StartAnswer) {
     match answer {
-        model::StartAnswer::Started => write(b"started"),
-        model::StartAnswer::BadSlice => write(b"15"),
-        model::StartAnswer::BadCount => write(b"3 0"),
-        model::StartAnswer::TooLarge => write(b"10 0"),
-        model::StartAnswer::Short(size) => print_short(size),
+        model::StartAnswer::Started => write(out, b"started"),
+        model::StartAnswer::BadSlice => write(out, b"15"),
+        model::StartAnswer::BadCount => write(out, b"3 0"),
+        model::StartAnswer::TooLarge => write(out, b"10 0"),
+        model::StartAnswer::Short(size) => print_short(out, size),
     }
 }
 
 // Writes how a run stood, with its instructions and what was at fault.
-fn print_outcome(outcome: model::Outcome) {
+fn print_outcome(out: Stdout, outcome: model::Outcome) {
     let stands = outcome_standing(outcome);
-    print_kind(stands.kind);
-    print_hex(b" ", stands.count);
+    print_kind(out, stands.kind);
+    print_hex(out, b" ", stands.count);
     match outcome {
         model::Outcome::Fault(_, kind) => {
-            write(b" ");
-            print_fault(kind);
+            write(out, b" ");
+            print_fault(out, kind);
         }
         _ => {}
     }
 }
 
 // Writes a run's answer.
-pub fn print_run(answer: model::RunAnswer) {
+pub fn print_run(out: Stdout, answer: model::RunAnswer) {
     match answer {
-        model::RunAnswer::Ran(outcome) => print_outcome(outcome),
-        model::RunAnswer::EarlierClock => write(b"16"),
-        model::RunAnswer::Short(size) => print_short(size),
+        model::RunAnswer::Ran(outcome) => print_outcome(out, outcome),
+        model::RunAnswer::EarlierClock => write(out, b"16"),
+        model::RunAnswer::Short(size) => print_short(out, size),
     }
 }
 
 // Writes a fault that an offer or a take answers.
-fn print_faulted(kind: model::FaultKind) {
-    write(b"fault ");
-    print_fault(kind);
+fn print_faulted(out: Stdout, kind: model::FaultKind) {
+    write(out, b"fault ");
+    print_fault(out, kind);
 }
 
 // Writes an offer's answer.
-pub fn print_offer(answer: model::OfferAnswer) {
+pub fn print_offer(out: Stdout, answer: model::OfferAnswer) {
     match answer {
-        model::OfferAnswer::Offered => write(b"offered"),
-        model::OfferAnswer::Short(size) => print_short(size),
-        model::OfferAnswer::Fault(kind) => print_faulted(kind),
-        model::OfferAnswer::NoChannel => write(b"13"),
-        model::OfferAnswer::Held => write(b"14"),
+        model::OfferAnswer::Offered => write(out, b"offered"),
+        model::OfferAnswer::Short(size) => print_short(out, size),
+        model::OfferAnswer::Fault(kind) => print_faulted(out, kind),
+        model::OfferAnswer::NoChannel => write(out, b"13"),
+        model::OfferAnswer::Held => write(out, b"14"),
     }
 }
 
 // Writes a take's answer.
-pub fn print_take(answer: model::TakeAnswer) {
+pub fn print_take(out: Stdout, answer: model::TakeAnswer) {
     match answer {
-        model::TakeAnswer::Taken(value) => print_hex(b"taken ", value as u64),
-        model::TakeAnswer::Nothing => write(b"none"),
-        model::TakeAnswer::Short(size) => print_short(size),
-        model::TakeAnswer::Fault(kind) => print_faulted(kind),
-        model::TakeAnswer::NoChannel => write(b"13"),
+        model::TakeAnswer::Taken(value) => print_hex(out, b"taken ", value as u64),
+        model::TakeAnswer::Nothing => write(out, b"none"),
+        model::TakeAnswer::Short(size) => print_short(out, size),
+        model::TakeAnswer::Fault(kind) => print_faulted(out, kind),
+        model::TakeAnswer::NoChannel => write(out, b"13"),
     }
 }

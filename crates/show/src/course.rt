@@ -16,8 +16,8 @@ pub fn start_program(
     facts: model::Facts,
     slice: u32,
 ) -> machine::Begun {
-    let channels = std::num::wrapping_add_u32(facts.inputs, facts.outputs);
-    let w = std::num::wrapping_sub_u32(facts.words, channels);
+    let channels = facts.inputs.wrapping_add(facts.outputs);
+    let w = facts.words.wrapping_sub(channels);
     machine::start(code, memory, w, facts.inputs, facts.outputs, slice)
 }
 
@@ -40,6 +40,6 @@ pub fn go_on(course: Course, code: &[u8], memory: &mut [u32], budget: u64) -> Co
     Course {
         machine: machine,
         kind: stands.kind,
-        total: std::num::wrapping_add_u64(course.total, stands.count),
+        total: course.total.wrapping_add(stands.count),
     }
 }

@@ -1,5 +1,6 @@
 // Words of memory.
 use lines::print_hex;
+use std::io::Stdout;
 
 // Makes every word 7700 and its address: what words hold before the first call.
 pub fn fill(words: &mut [u32]) {
@@ -7,7 +8,7 @@ pub fn fill(words: &mut [u32]) {
     let mut i = 0;
     while i < words.len() {
         words[i] = value;
-        value = std::num::wrapping_add_u32(value, 1);
+        value = value.wrapping_add(1);
         i += 1;
     }
 }
@@ -29,7 +30,7 @@ pub fn sum(words: &[u32]) -> u64 {
 }
 
 // Writes a word's address, or an offer's input, with its value.
-pub fn print_value(i: usize, value: u32) {
-    print_hex(b" ", i as u64);
-    print_hex(b"=", value as u64);
+pub fn print_value(out: Stdout, i: usize, value: u32) {
+    print_hex(out, b" ", i as u64);
+    print_hex(out, b"=", value as u64);
 }

@@ -5,19 +5,19 @@
 // their like are prefixes.
 #![tactic(auto)]
 
-
 use lines::print;
+use std::io::Stdout;
 
 // Writes a word.
-fn print_word(word: u32) {
-    print(b" ", word as u64);
+fn print_word(out: Stdout, word: u32) {
+    print(out, b" ", word as u64);
 }
 
 // Writes words.
-fn print_words(memory: &[u32]) {
+fn print_words(out: Stdout, memory: &[u32]) {
     let mut i = 0;
     while i < memory.len() {
-        print_word(memory[i]);
+        print_word(out, memory[i]);
         i += 1;
     }
 }
@@ -37,15 +37,15 @@ fn spent(answer: model::RunAnswer) -> u64 {
 }
 
 // Starts a machine over a code with W = 20 and no outside channels, runs it, and writes the answer and the memory.
-fn measure(name: &[u8], code: &[u8]) {
+fn measure(out: Stdout, name: &[u8], code: &[u8]) {
     let mut memory = [0; 20];
     let begun = machine::start(code, &mut memory, 20, 0, 0, model::limits::BENCH_SLICE);
     let ran = machine::run(begun.machine, code, &mut memory, 10000000, 0);
     let answer = ran.answer;
-    lines::write(name);
-    print(b" spent ", spent(answer));
-    print_words(&memory);
-    lines::write(b"\n");
+    lines::write(out, name);
+    print(out, b" spent ", spent(answer));
+    print_words(out, &memory);
+    lines::write(out, b"\n");
 }
 
 // Arithmetic and jumps alone. VAR i, s:
@@ -57,8 +57,9 @@ fn measure(name: &[u8], code: &[u8]) {
 // LDL 1; LDL 0; GT; CJ 8; LDL 1; LDL 0; DIFF; STL 1; J 11
 // LDC 1; CJ 4; J 2; STOPP
 // LDL 0; LDC 1; SUM; STL 0; J -53; AJW 2
-fn arithmetic() {
+fn arithmetic(out: Stdout) {
     measure(
+        out,
         b"arithmetic",
         b"\x60\xbe\x40\xd0\x40\xd1\
         \x70\x60\x4f\xf9\x20\x20\x22\xad\
@@ -84,8 +85,9 @@ fn arithmetic() {
 // AJW 2; LDL 2; LDL 3; XOR; STL 2; J 11
 // LDC 1; CJ 4; J 2; STOPP
 // LDL 1; LDC 1; SUM; STL 1; J -121; AJW 1; AJW 3
-fn mixed() {
+fn mixed(out: Stdout) {
     measure(
+        out,
         b"mixed",
         b"\x60\xbd\x40\xd0\x40\xd1\x40\xd2\x60\xbf\x24\xf2\xd0\
         \x71\x60\x4f\xf9\x20\x20\x27\xa1\
@@ -116,8 +118,9 @@ fn mixed() {
 // LDLP 0; LDLP 9; LDC 4; IN
 // LDL 1; LDL 0; SUM; STL 1; J -18
 // AJW 2; LDLP 5; ENDP; AJW 2; AJW 1
-fn communication() {
+fn communication(out: Stdout) {
     measure(
+        out,
         b"communication",
         b"\x60\xbf\x24\xf2\xd0\
         \x60\xbe\x20\x20\x24\x44\x21\xfb\xd0\x42\xd1\x20\x20\x21\x4f\x60\x1b\xfd\
@@ -154,8 +157,9 @@ fn communication() {
 // AJW 1; LDLP 0; LDLP 14; LDC 4; IN; LDL 1; LDL 0; SUM; STL 1; J 14
 // AJW 1; LDLP 0; LDLP 15; LDC 4; IN; LDL 1; LDL 0; XOR; STL 1; J 0
 // J -75; AJW 2; LDLP 10; ENDP; AJW 2; AJW 2
-fn alternative() {
+fn alternative(out: Stdout) {
     measure(
+        out,
         b"alternative",
         b"\x60\xbe\x24\xf2\xd0\x24\xf2\xd1\
         \x60\xbe\x20\x20\x29\x4d\x21\xfb\xd0\x43\xd1\
@@ -177,9 +181,10 @@ fn alternative() {
     );
 }
 
-fn main() {
-    arithmetic();
-    mixed();
-    communication();
-    alternative();
+fn main(rt: HostRuntime) {
+    let out = rt.stdout();
+    arithmetic(out);
+    mixed(out);
+    communication(out);
+    alternative(out);
 }

@@ -7,40 +7,41 @@
 #![tactic(auto)]
 
 use lines::{print, write};
+use std::io::Stdout;
 
 // A byte that no code has: there is no direct function 9. The lent buffers are of these, as long as the longest code.
 const BLANK: u8 = 0x99;
 
 // Writes that a promise is broken, and which. No run should come here.
-fn wrong(what: &[u8]) {
-    write(b"wrong ");
-    write(what);
-    write(b"\n");
+fn wrong(out: Stdout, what: &[u8]) {
+    write(out, b"wrong ");
+    write(out, what);
+    write(out, b"\n");
 }
 
 // Writes a refusal's line.
-fn print_refusal(number: u32, place: usize) {
-    lines::print_refusal(number, place);
-    write(b"\n");
+fn print_refusal(out: Stdout, number: u32, place: usize) {
+    lines::print_refusal(out, number, place);
+    write(out, b"\n");
 }
 
 // Writes what the reader says of an accepted table.
-fn print_facts(facts: model::Facts) {
-    print(b"words ", facts.words as u64);
-    print(b" in ", facts.inputs as u64);
-    print(b" out ", facts.outputs as u64);
-    print(b" processes ", facts.processes as u64);
-    write(b"\n");
+fn print_facts(out: Stdout, facts: model::Facts) {
+    print(out, b"words ", facts.words as u64);
+    print(out, b" in ", facts.inputs as u64);
+    print(out, b" out ", facts.outputs as u64);
+    print(out, b" processes ", facts.processes as u64);
+    write(out, b"\n");
 }
 
 // Writes a table's code.
-fn print_code(code: &[u8]) {
-    write(b"code");
+fn print_code(out: Stdout, code: &[u8]) {
+    write(out, b"code");
     if code.len() > 0 {
-        write(b" ");
+        write(out, b" ");
     }
-    lines::print_bytes(b"", code);
-    write(b"\n");
+    lines::print_bytes(out, b"", code);
+    write(out, b"\n");
 }
 
 // Whether all bytes are as they were lent.
@@ -67,7 +68,7 @@ fn is_compiled(table: &[u8], lent: &mut [u8], code: &[u8]) -> bool {
 }
 
 // With a byte less room than the code needs the answer is 11 and the code's length.
-fn check_short(table: &[u8], length: usize, buffer: &mut [u8]) {
+fn check_short(out: Stdout, table: &[u8], length: usize, buffer: &mut [u8]) {
     if length == 0 {
         return;
     }
@@ -76,92 +77,95 @@ fn check_short(table: &[u8], length: usize, buffer: &mut [u8]) {
         return;
     }
     if !is_refused(table, &mut buffer[0..room], 11, length) {
-        wrong(b"short room");
+        wrong(out, b"short room");
     }
 }
 
 // Code needs no more than its own room.
-fn check_room(table: &[u8], code: &[u8], buffer: &mut [u8]) {
+fn check_room(out: Stdout, table: &[u8], code: &[u8], buffer: &mut [u8]) {
     let length = code.len();
     if length > buffer.len() {
         return;
     }
     if !is_compiled(table, &mut buffer[0..length], code) {
-        wrong(b"room");
+        wrong(out, b"room");
     }
 }
 
 // Writes a table's code, which is the front of the buffer, and checks the rest of the buffer and the room.
-fn answer_code(table: &[u8], buffer: &[u8], length: usize) {
+fn answer_code(out: Stdout, table: &[u8], buffer: &[u8], length: usize) {
     if length > buffer.len() {
-        wrong(b"length");
+        wrong(out, b"length");
         return;
     }
     let mut other = [BLANK; model::limits::CODE];
-    print_code(&buffer[0..length]);
+    print_code(out, &buffer[0..length]);
     if !is_blank(&buffer[length..]) {
-        wrong(b"rest");
+        wrong(out, b"rest");
     }
-    check_short(table, length, &mut other);
-    check_room(table, &buffer[0..length], &mut other);
+    check_short(out, table, length, &mut other);
+    check_room(out, table, &buffer[0..length], &mut other);
 }
 
 // Writes why an accepted table is not compiled. The buffer is as it was lent, and the refusal comes before the test of the room.
-fn answer_uncompiled(table: &[u8], buffer: &[u8], number: u32, place: usize) {
-    print_refusal(number, place);
+fn answer_uncompiled(out: Stdout, table: &[u8], buffer: &[u8], number: u32, place: usize) {
+    print_refusal(out, number, place);
     if !is_blank(buffer) {
-        wrong(b"rest");
+        wrong(out, b"rest");
     }
     if !is_refused(table, &mut [], number, place) {
-        wrong(b"refusal without room");
+        wrong(out, b"refusal without room");
     }
 }
 
 // Compiles an accepted table, and writes its code or the refusal.
-fn answer_accepted(table: &[u8]) {
+fn answer_accepted(out: Stdout, table: &[u8]) {
     let mut buffer = [BLANK; model::limits::CODE];
     match compiler::compile_into(table, &mut buffer) {
-        model::Compiled::Code(length) => answer_code(table, &buffer, length),
-        model::Compiled::Refused(number, place) => answer_uncompiled(table, &buffer, number, place),
+        model::Compiled::Code(length) => answer_code(out, table, &buffer, length),
+        model::Compiled::Refused(number, place) => answer_uncompiled(
+            out, table, &buffer, number, place,
+        ),
     }
 }
 
 // Writes the reader's refusal, which is the compiler's too.
-fn answer_refused(table: &[u8], number: u32, place: usize) {
+fn answer_refused(out: Stdout, table: &[u8], number: u32, place: usize) {
     let mut buffer = [BLANK; model::limits::CODE];
-    print_refusal(number, place);
+    print_refusal(out, number, place);
     if !is_refused(table, &mut buffer, number, place) {
-        wrong(b"refusal");
+        wrong(out, b"refusal");
     }
 }
 
 // Writes the answers to a table.
-fn answer(table: &[u8]) {
+fn answer(out: Stdout, table: &[u8]) {
     match table::read(table) {
         model::Reading::Accepted(facts) => {
-            print_facts(facts);
-            answer_accepted(table);
+            print_facts(out, facts);
+            answer_accepted(out, table);
         }
-        model::Reading::Refused(number, place) => answer_refused(table, number, place),
+        model::Reading::Refused(number, place) => answer_refused(out, table, number, place),
     }
 }
 
 // Answers a line's table, if it has one: a line that is all comment has none, any other without a number has the empty table.
-fn answer_line(line: lines::Line, numbers: &[u64]) {
+fn answer_line(out: Stdout, line: lines::Line, numbers: &[u64]) {
     let mut table = [0; lines::NUMBERS];
     let end = lines::to_bytes(numbers, &mut table);
     if !line.remark {
-        answer(&table[0..end]);
+        answer(out, &table[0..end]);
     }
 }
 
 // Answers the lines of standard input.
-fn main() {
+fn main(rt: HostRuntime) {
+    let out = rt.stdout();
     let mut characters = [0; lines::CHARACTERS];
     let mut numbers = [0; lines::NUMBERS];
     let mut line = lines::begin(2);
     while line.left > 0 {
-        line = lines::next_line(line, &mut characters, &mut numbers);
-        answer_line(line, lines::row(line, &numbers));
+        line = lines::next_line(rt.stdin(), rt.stderr(), line, &mut characters, &mut numbers);
+        answer_line(out, line, lines::row(line, &numbers));
     }
 }

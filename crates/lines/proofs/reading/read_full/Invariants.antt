@@ -1,0 +1,9 @@
+-- The measure is the room that is left.
+use Rattle.std.proofs.Common.{◌-◌, ◌≤◌, length}
+use Rattle.lines.proofs.reading.read_full.Given as goal
+
+abbrev pub invariant-loop-n : goal.invariant-loop-n
+invariant-loop-n l = l.n ≤ length l.room
+
+abbrev pub decreases-loop-n : goal.decreases-loop-n
+decreases-loop-n l = length l.room - l.n
