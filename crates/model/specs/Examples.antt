@@ -140,7 +140,8 @@ timed_statements =
 -- expressions that need 1, 2 and 3 registers, and hold no value, one and two
 abbrev expressions : List Expr
 expressions =
-    constant 0 ∷ variable x ∷ NOT (variable x) ∷ sum_of 1 2 ∷ binary PLUS (constant 1) (sum_of 2 3) ∷ sum_of_four ∷ NOT sum_of_four ∷ stores_one
+    constant 0 ∷ variable x ∷ NOT (variable x) ∷ sum_of 1 2 ∷ binary PLUS (constant 1) (sum_of 2 3) ∷ sum_of_four ∷ NOT sum_of_four
+    ∷ stores_one
     ∷ stores_two ∷ []
 
 -- so many copies of a part of a table, one behind the other

@@ -222,7 +222,8 @@ look (i ∷ path) p = elim (branch_at i (branches_of p)) [ none ↦ none | some 
 -- another process in its place
 unfoldable pub put : List ℕ → Process → Process → Process
 put [] q p = q
-put (i ∷ path) q p = elim (branch_at i (branches_of p)) [ none ↦ p | some b ↦ in_par (set_branch i (put path q b) (branches_of p)) (frames_of p) ]
+put (i ∷ path) q p = elim (branch_at i (branches_of p))
+    [ none ↦ p | some b ↦ in_par (set_branch i (put path q b) (branches_of p)) (frames_of p) ]
 
 -- the outermost process, the variables, for each outside input the offer that waits there, and the last clock word given, if one was
 pub record State : Type 0 where

@@ -1,5 +1,6 @@
 -- One byte, a start, and a run with a budget and a clock (01, "The machine", "When a call is turned down"; 02, order 4).
-use Rattle.std.specs.Prelude.{ℕ, zero, suc, ◌+◌, ◌/◌, min, Bool, true, false, cond, not, ◌&&◌, List, [], ◌++◌, length, get_or, drop, replicate, ltb, leb, eqb}
+use Rattle.std.specs.Prelude.{ℕ, zero, suc, ◌+◌, ◌/◌, min, Bool, true, false, cond, not, ◌&&◌, List, [], ◌++◌, length, get_or, drop}
+use Rattle.std.specs.Prelude.{replicate, ltb, leb, eqb}
 use Rattle.std.proofs.Math.Option.{Option, none, some}
 use Rattle.model.specs.Word.{low, after, not_process}
 use Rattle.model.specs.Limits.{code_limit, word_limit, channel_limit, slice_limit}

@@ -1,6 +1,6 @@
 -- The clock and the timer queue (02, order 4; the guide's LDTIMER, TIN, TALT, ENBT, TALTWT and DIST).
 -- Words are touched in the order written, and each touch sees those before it.
-use Rattle.std.specs.Prelude.{ℕ, zero, suc, ◌+◌, ◌^◌, Bool, true, false, cond, ◌||◌, List, [], ◌∷◌, leb, eqb}
+use Rattle.std.specs.Prelude.{ℕ, zero, suc, ◌+◌, ◌^◌, Bool, false, cond, ◌||◌, List, [], ◌∷◌, leb, eqb}
 use Rattle.std.proofs.Math.Option.{Option, none, some}
 use Rattle.model.specs.Word.{after, not_process}
 use Rattle.model.specs.Limits.{word_limit}

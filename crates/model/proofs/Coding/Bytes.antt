@@ -102,7 +102,8 @@ module _ (code : List ℕ) (off : ℕ → ℕ) (i : ℕ) (x : Instruction) (s : 
     (small : length code < 2 ^ 31)
     (whole : s.machine.setup.code ≡ length code) (runs : s.machine.cpu.running ≡ true) (from : off i ≤ place_in s)
     (upto : place_in s < off (suc i)) where
-  went_on : (o b : ℕ) → get_or code (place_in s) 0 ≡ b → b / 16 ≢ function_code opr → Reads off x o (slice (suc (place_in s)) (off (suc i)) code)
+  went_on : (o b : ℕ) → get_or code (place_in s) 0 ≡ b → b / 16 ≢ function_code opr
+      → Reads off x o (slice (suc (place_in s)) (off (suc i)) code)
       → act b s ≡ done tt (with_cpu (gathering o (advance s.machine.cpu)) s) → Dec (suc (place_in s) < off (suc i)) → Turn code off i x s
   unfolding decode
   went_on o b eb still r e (yes h) =

@@ -22,7 +22,8 @@ use Rattle.model.specs.Layout.{base, word_of}
 use Rattle.model.specs.Code.{Fits, AllFit, nil-fits, cons-fits}
 use Rattle.model.specs.Scheme.{operator_code, initialise, sides_code, wrapped, alt_words, whole_size, how_many, size, size_all, size_par}
 use Rattle.model.specs.Scheme.{size_ends, size_pairs, size_enable, input_size, enable_code, disable_code, guard_input, size_disable}
-use Rattle.model.specs.Scheme.{size_branches, expr_code, whole_code, guard_code, code, code_all, code_par, code_starts, code_ends, code_pairs}
+use Rattle.model.specs.Scheme.{size_branches, expr_code, whole_code, guard_code, code, code_all, code_par, code_starts, code_ends}
+use Rattle.model.specs.Scheme.{code_pairs}
 use Rattle.model.specs.Scheme.{both_code, code_enable, code_disable, code_branches, scheme}
 use Rattle.model.proofs.Cases.{of-cond}
 use Rattle.model.proofs.Tables.WellFormed.{WellExpr, Well, WellAll, WellPairs, WellGuard, WellGuards, WellProgram, outermost}
@@ -95,10 +96,12 @@ module _ (word : Site → ℕ) (count : ℕ) where
   whole-fits sc w e f few =
       wrapped-fits count (temporaries e) 0 w (λ v. expr_code word v 0 e) few (omega arith) (λ v. expr-fits sc v 0 e f (omega arith))
 
-  guard-fits : (sc : Scope) (w : ℕ) (e : Expr) → WellExpr sc e → guard_words (temporaries e) ≤ word_limit → AllFit count (guard_code word w e)
+  guard-fits : (sc : Scope) (w : ℕ) (e : Expr) → WellExpr sc e → guard_words (temporaries e) ≤ word_limit
+      → AllFit count (guard_code word w e)
   guard-fits sc w e f few =
       let held : temporaries e ≤ word_limit = omega (arith, held-few (temporaries e)) in
-      wrapped-fits count (temporaries e) alt_words w (λ v. expr_code word v 0 e) held (omega arith) (λ v. expr-fits sc v 0 e f (omega arith))
+      wrapped-fits count (temporaries e) alt_words w (λ v. expr_code word v 0 e) held (omega arith)
+      (λ v. expr-fits sc v 0 e f (omega arith))
 
   both-fits : (sc : Scope) (w : ℕ) (t e : Expr) → WellExpr sc t → WellExpr sc e → guard_words (both_hold t e) ≤ word_limit
       → AllFit count (both_code word w t e)
@@ -156,7 +159,8 @@ module _ (word : Site → ℕ) (count : ℕ) where
   mutual
     unfolding code size need how_many operation_code
 
-    pub code_fits : (sc : Scope) (w i : ℕ) (s : Stmt) → Well sc s → need s ≤ word_limit → i + size s ≤ count → AllFit count (code word w i s)
+    pub code_fits : (sc : Scope) (w i : ℕ) (s : Stmt) → Well sc s → need s ≤ word_limit → i + size s ≤ count
+        → AllFit count (code word w i s)
     code_fits sc w i SKIP h hn hi = nil-fits
     code_fits sc w i STOP h hn hi = omega arith ▸ nil-fits
     code_fits sc w i (assign x e) h hn hi = whole-fits sc w e h.1 (omega arith) ⊕ omega arith ▸ nil-fits

@@ -15,7 +15,8 @@ use Rattle.model.specs.declared.kinds.Order.{Order}
 use Rattle.model.specs.declared.kinds.Order.TheVariants.{LeftFirst, RightFirst, RightStored}
 use Rattle.model.specs.Instruction.{Instruction}
 use Rattle.model.specs.Scheme.{operator_code, operator_size, initialise, sides_code, sides_size, expr_size, wrapped, wrap_size, whole_size}
-use Rattle.model.specs.Scheme.{alt_words, how_many, size, size_all, size_par, size_ends, size_pairs, size_enable, size_disable, size_branches}
+use Rattle.model.specs.Scheme.{alt_words, how_many, size, size_all, size_par, size_ends, size_pairs, size_enable, size_disable}
+use Rattle.model.specs.Scheme.{size_branches}
 use Rattle.model.specs.Scheme.{expr_code, whole_code, guard_code, code, code_all, code_par, code_starts, code_ends, code_pairs, code_enable}
 use Rattle.model.specs.Scheme.{code_disable, code_branches, enable_size, disable_size, input_size, enable_code, disable_code, guard_input}
 use Rattle.model.specs.Scheme.{both_size, both_code}

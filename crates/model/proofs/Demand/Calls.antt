@@ -386,7 +386,8 @@ module _ (L : Loaded) where
       by_bool (keeps xs (call L.code c m memory).moments)
       (λ k.
       segments_of (call_sim c m memory s k)
-      ++ run-from {xs = watches_after xs (call L.code c m memory).moments} cs (call L.code c m memory).machine (call L.code c m memory).memory
+      ++ run-from {xs = watches_after xs (call L.code c m memory).moments} cs (call L.code c m memory).machine
+      (call L.code c m memory).memory
       (next_of (call_sim c m memory s k)))
       (λ k. [])
 
@@ -419,7 +420,8 @@ module _ (L : Loaded) where
 
   link : {xs : List Watch} {c : Call} {m : Machine} {memory : List ℕ} {st : State} {n : ℕ} {ms : List Moment} {gs : List Segment}
       (r : Simulated xs c m memory st n)
-      → Linked ms (state_of (next_of r)) gs (left_of (next_of r)) → Linked ((call L.code c m memory).moments ++ ms) st (segments_of r ++ gs) n
+      → Linked ms (state_of (next_of r)) gs (left_of (next_of r))
+      → Linked ((call L.code c m memory).moments ++ ms) st (segments_of r ++ gs) n
   link (simulated gs s c) (linked d) = linked (chain-append c d)
 
   pub run-matches : {xs : List Watch} (cs : List Call) (m : Machine) (memory : List ℕ) (s : Sim xs m memory)

@@ -22,7 +22,7 @@ use Rattle.model.proofs.Quiet.Timing.{onto_same}
 use Rattle.model.proofs.Invariant.Trees.{Tree, bytes_left, bytes-few}
 use Rattle.model.proofs.Effects.OneWord.{cpu_of}
 use Rattle.model.proofs.Effects.Queues.{Queue, empty, some, links-stable}
-use Rattle.model.proofs.Invariant.Kernel.{Loaded, S, root, size, setup, Real, sits-at}
+use Rattle.model.proofs.Invariant.Kernel.{Loaded, S, root, size, Real, sits-at}
 use Rattle.model.proofs.Invariant.Running.{Inv, runs, starts, idle}
 use Rattle.model.proofs.Invariant.Reals.{links-in, offer-world}
 use Rattle.model.proofs.Outside.Bystanders.{SameRegs, now-stays, starts-stays, part-high}

@@ -21,7 +21,7 @@ use Rattle.model.proofs.Cases.{never}
 use Rattle.model.proofs.Quiet.Ways.{Mem, upd, upd_same, upd_other, front_word}
 use Rattle.model.proofs.Quiet.Stretches.{seg-whole}
 use Rattle.model.proofs.Quiet.Setting.{whole}
-use Rattle.model.proofs.Occam.Paths.{leaf-begin, look-nil, live-begin, left, is_alt, off-begin}
+use Rattle.model.proofs.Occam.Paths.{leaf-begin, look-nil, live-begin, is_alt, off-begin}
 use Rattle.model.proofs.Words.Parts.{need-two, Part}
 use Rattle.model.proofs.Quiet.Continuations.{Scoped, Cont, c-end, cont-placed}
 use Rattle.model.proofs.Words.FineParts.{outside_names}

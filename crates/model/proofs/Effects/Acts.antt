@@ -46,7 +46,8 @@ resume-at {w} s d h e = rw (d) (resume-in w s h ∙ rw (e))
 -- joining behind those that are queued
 pub enqueue-behind-in : (w f k : ℕ) (s : World) → (cpu_of s).queued ≡ true → (cpu_of s).front ≡ name_of f → (cpu_of s).back ≡ name_of k
     → link_word k < size_of s
-    → enqueue (name_of w) (cpu_of s) s ≡ done tt (with_cpu (queueing (name_of f) (name_of w) true (cpu_of s)) (stored (link_word k) (name_of w) s))
+    → enqueue (name_of w) (cpu_of s) s ≡ done tt (with_cpu (queueing (name_of f) (name_of w) true (cpu_of s))
+    (stored (link_word k) (name_of w) s))
 enqueue-behind-in w f k s q d e h =
     let at : link_word (space_of (cpu_of s).back) ≡ link_word k = ap (λ n. link_word (space_of n)) e ∙ ap link_word (name_back k) in
     when_true _ _ _ s q (rw (poke-at {v = name_of w} s at refl h, d))
@@ -76,7 +77,8 @@ release-last w p s q f k h e =
 
 -- the front gets the processor, and the one that it links to is the front
 pub release-more : (w k g p : ℕ) (s : World) → (cpu_of s).queued ≡ true → (cpu_of s).front ≡ name_of w → (cpu_of s).back ≡ name_of k → w ≢ k
-    → link_word w < size_of s → get_or s.memory (link_word w) 0 ≡ name_of g → resume_word w < size_of s → get_or s.memory (resume_word w) 0 ≡ p
+    → link_word w < size_of s → get_or s.memory (link_word w) 0 ≡ name_of g → resume_word w < size_of s
+    → get_or s.memory (resume_word w) 0 ≡ p
     → release s ≡ done tt (taken w p g k true s)
 unfolding release take_front
 release-more w k g p s q f b n l m h e =
@@ -229,7 +231,8 @@ exec-out-alt c v w p x t s ea eb ew ep hw hc d ex n hx dx et h hr ht =
 pub exec-out-receiver : (c v w x t : ℕ) (s : World) → (cpu_of s).a ≡ v → (cpu_of s).b ≡ c → (cpu_of s).workspace ≡ w
     → w < size_of s → c < size_of s → c ≢ w → get_or s.memory c 0 ≡ name_of x → name_of x ≢ not_process
     → state_word x < size_of s → state_word x ≢ w → get_or s.memory (state_word x) 0 ≡ t → is_alt_state t ≡ false → t < size_of s
-    → execute opr (operation_code I.outword) s ≡ ◌>>◌ (join (name_of x)) (communicate c v) (stored c not_process (stored t v (stored w v s)))
+    → execute opr (operation_code I.outword) s ≡ ◌>>◌ (join (name_of x)) (communicate c v)
+    (stored c not_process (stored t v (stored w v s)))
 unfolding execute operate operation_of operation_code coded output_word deliver received
 exec-out-receiver c v w x t s ea eb ew hw hc d ex n hx dx et h ht =
     rw (

@@ -1,7 +1,7 @@
 -- Going along a timer queue to one of its processes, and the queue without it.
 use Prim.Native.Nat.{ℕ, ◌<◌}
 use mathlib.Core.Path.{◌≡◌, refl, sym, ap, ◌∙◌}
-use mathlib.Core.Logic.{◌≢◌, ◌⊎◌, ⊎_elim}
+use mathlib.Core.Logic.{◌≢◌, ⊎_elim}
 use mathlib.Core.Bool.{cond}
 use mathlib.Core.List.{List, [], ◌∷◌, Memᴰ}
 use mathlib.Core.Option.{Option, some}
@@ -30,7 +30,8 @@ unfolding stop_by
 stop-found w b [] m = absurd (mathlib.Core.List.Memᴰ.not-nil m)
 stop-found w b (v ∷ ts) m =
     by_bool (eqb v w) (λ e. rw e (ap name_of (eqb-true v w e)))
-    (λ e. rw e (stop-found w (some (name_of v)) ts (⊎_elim (λ f. absurd (eqb-false v w e (sym f))) (λ n. n) (mathlib.Core.List.Memᴰ.cases_cons m))))
+    (λ e. rw e (stop-found w (some (name_of v)) ts
+    (⊎_elim (λ f. absurd (eqb-false v w e (sym f))) (λ n. n) (mathlib.Core.List.Memᴰ.cases_cons m))))
 
 -- its link is the first one or that of another in the queue
 pub leave-link : (w : ℕ) (b : Option ℕ) (ts : List ℕ) (P : ℕ → Type 0) → P (link_of b)
@@ -53,7 +54,8 @@ unfolding without
 without_in w [] v m = m
 without_in w (u ∷ ts) v m =
     by_bool (eqb u w) (λ e. mathlib.Core.List.Memᴰ.tail (rw e at m))
-    (λ e. ⊎_elim (λ f. mathlib.Core.List.Memᴰ.head f) (λ n. mathlib.Core.List.Memᴰ.tail (without_in w ts v n)) (mathlib.Core.List.Memᴰ.cases_cons (rw e at m)))
+    (λ e. ⊎_elim (λ f. mathlib.Core.List.Memᴰ.head f) (λ n. mathlib.Core.List.Memᴰ.tail (without_in w ts v n))
+    (mathlib.Core.List.Memᴰ.cases_cons (rw e at m)))
 
 pub without_not : (w : ℕ) (ts : List ℕ) → Once ts → Memᴰ w (without w ts) → ⊥
 unfolding without
@@ -68,7 +70,8 @@ in_without w [] v m d = m
 in_without w (u ∷ ts) v m d =
     by_bool (eqb u w)
     (λ e. rw e (⊎_elim (λ f. absurd (d (f ∙ eqb-true u w e))) (λ n. n) (mathlib.Core.List.Memᴰ.cases_cons m)))
-    (λ e. rw e (⊎_elim (λ f. mathlib.Core.List.Memᴰ.head f) (λ n. mathlib.Core.List.Memᴰ.tail (in_without w ts v n d)) (mathlib.Core.List.Memᴰ.cases_cons m)))
+    (λ e. rw e (⊎_elim (λ f. mathlib.Core.List.Memᴰ.head f) (λ n. mathlib.Core.List.Memᴰ.tail (in_without w ts v n d))
+    (mathlib.Core.List.Memᴰ.cases_cons m)))
 
 pub once-without : (w : ℕ) (ts : List ℕ) → Once ts → Once (without w ts)
 unfolding without
@@ -108,6 +111,7 @@ chain-without μ w (v ∷ ts) b a e m (next z c) off inj o =
     (λ x y k n. inj x y (mathlib.Core.List.Memᴰ.tail k) (mathlib.Core.List.Memᴰ.tail n)) o.1 in
     let st = stop_at w (some (name_of v)) ts in
     let off-a : a ≢ link_of st.before =
-    leave-link w (some (name_of v)) ts (λ y. a ≢ y) (λ q. off v (mathlib.Core.List.Memᴰ.head refl) (sym (q ∙ ap time_link_word (name_back v))))
+    leave-link w (some (name_of v)) ts (λ y. a ≢ y) (λ q. off v (mathlib.Core.List.Memᴰ.head refl) (sym (q
+    ∙ ap time_link_word (name_back v))))
     (λ u n d q. off u (mathlib.Core.List.Memᴰ.tail n) (sym q)) in
     rw h (next (upd_other μ (link_of st.before) (μ (time_link_word w)) a off-a ∙ z) rest))

@@ -44,7 +44,8 @@ pub exec-stl : (n a : ℕ) (s : World) → low ((cpu_of s).workspace + n) ≡ a 
 unfolding execute store_local
 exec-stl n a s e h = rw (e, poke-in a _ s h)
 
-pub exec-cj-jumps : (n : ℕ) (s : World) → (cpu_of s).a ≡ 0 → execute cj n s ≡ done tt (with_cpu (goto (low ((cpu_of s).place + n)) (cpu_of s)) s)
+pub exec-cj-jumps : (n : ℕ) (s : World) → (cpu_of s).a ≡ 0 → execute cj n s
+    ≡ done tt (with_cpu (goto (low ((cpu_of s).place + n)) (cpu_of s)) s)
 unfolding execute conditional_jump
 exec-cj-jumps n s e = rw (eq-eqb _ _ e)
 

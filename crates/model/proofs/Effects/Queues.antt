@@ -140,7 +140,8 @@ last-in w [] = Memᴰ.head refl
 last-in w (v ∷ vs) = Memᴰ.tail (last-in v vs)
 
 -- joining the queue, whoever has the processor
-pub enqueue-queue : {ws : List ℕ} (w : ℕ) (s : World) → LinksIn s ws → Queue s ws → enqueue (name_of w) (cpu_of s) s ≡ done tt (joined w ws s)
+pub enqueue-queue : {ws : List ℕ} (w : ℕ) (s : World) → LinksIn s ws → Queue s ws → enqueue (name_of w) (cpu_of s) s
+    ≡ done tt (joined w ws s)
 enqueue-queue w s h (empty q) = enqueue-empty (name_of w) s q
 enqueue-queue {ws = []} w s h (some q f k l) = absurd (links-some l)
 enqueue-queue {ws = v ∷ vs} w s h (some q f k l) =

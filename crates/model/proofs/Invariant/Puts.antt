@@ -59,7 +59,8 @@ module _ (L : Loaded) {st : State} {t : Tree (S L) (root L) st.process} {path : 
         label = moved.same other d ∙ h.label;
       }
 
-  pub other-before : {other : List ℕ} {p : Process} {c : Part} {k : Info} → path ≢ other → LeafAt L (putting path r st) tree_then other p c k
+  pub other-before : {other : List ℕ} {p : Process} {c : Part} {k : Info} → path ≢ other
+      → LeafAt L (putting path r st) tree_then other p c k
       → LeafAt L st t other p c k
   other-before {other} d h = elim (look-after path other r st.process at.found h.found h.leaf) [
     | into rest e f ↦ absurd (d (sym (e ∙ append-to-nil (leaf-found rest r leaf f).0)))

@@ -20,7 +20,7 @@ use Rattle.model.specs.Demand.{Segment, steps, talk_of}
 use Rattle.model.proofs.Coding.Bytes.{Standing}
 use Rattle.model.proofs.Quiet.Ways.{regs_of, Mem}
 use Rattle.model.proofs.Quiet.Setting.{At}
-use Rattle.model.proofs.Quiet.CodeParts.{inside, up, rises-le}
+use Rattle.model.proofs.Quiet.CodeParts.{up, rises-le}
 use Rattle.model.proofs.Words.Parts.{Part, joins, part_of}
 use Rattle.model.proofs.Quiet.Marks.{Settled}
 use Rattle.model.proofs.Quiet.Arrivals.{Goes, Comes}

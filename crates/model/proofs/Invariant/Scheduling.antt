@@ -303,7 +303,8 @@ module _ (L : Loaded) where
             none-sends = λ d m g z y. y;
           }
 
-  linked-mirror : {s : World} {st : State} {μ : Mem} {ws : List ℕ} (v w : ℕ) → Real L s st μ ws → link_word v < size L → (a : ℕ) → a < size L
+  linked-mirror : {s : World} {st : State} {μ : Mem} {ws : List ℕ} (v w : ℕ) → Real L s st μ ws → link_word v < size L → (a : ℕ)
+      → a < size L
       → get_or (set s.memory (link_word v) w) a 0 ≡ upd μ (link_word v) w a
   linked-mirror {s} {μ = μ} v w real h a k = by (ℕ_discrete a (link_word v))
     where

@@ -7,7 +7,7 @@ use mathlib.Core.Bool.{Bool, cond, not, true}
 use mathlib.Core.List.{List, Memᴰ}
 use lib.Dec.{eqb}
 use Rattle.model.specs.Syntax.{Site, Expr, constant, variable, NOT, binary, Pairs, no_pair, pair, Guard, input_guard, skip_guard}
-use Rattle.model.specs.Syntax.{condition, Guards, time_guard, no_guard, guard, timed}
+use Rattle.model.specs.Syntax.{condition, Guards, time_guard, no_guard, timed}
 use Rattle.model.specs.Machine.{resume_word, link_word, state_word, name_of, time_word, time_link_word}
 use Rattle.model.specs.Occam.{Store, eval, is_true, Frame, Process, first_true, deny, operate, State, Sender, Ready, by-input, by-skip}
 use Rattle.model.specs.Occam.{now, by-time}
@@ -26,7 +26,6 @@ use Rattle.model.proofs.Quiet.Onwards.{guarded-fine}
 use Rattle.model.proofs.Quiet.Timing.{Times, Timely, t-first, t-later, OfTime, EachTime, e-none, e-later, each_all, Least, Bringing}
 use Rattle.model.proofs.Quiet.Timing.{not_set, is_set, Dozing, no-time, until, Passed, p-unset, p-set, p-linked, Guarding}
 use Rattle.model.proofs.Quiet.Timing.{linked-same, Onto}
-use Rattle.model.proofs.Cases.{never}
 use Rattle.model.proofs.Invariant.Trees.{Info, Sits}
 use Rattle.model.proofs.Invariant.Leaves.{Unmarked, MarkedOnly, Resumes, Waits, Held, h-queued, h-woken, h-input, h-output, h-stop}
 use Rattle.model.proofs.Invariant.Leaves.{h-wait, Asleep, h-asleep}

@@ -125,7 +125,8 @@ skip-moves {st} path e s-none = same-state (put-found path st.process e)
 skip-moves {st} path e (s-skip {k} {q} s) =
     one_more q path SKIP k e refl (skip-moves {st = putting path (resume k) st} path (look-put-same path st.process (resume k) e) s)
 skip-moves {st} path e (s-par {p} {k} {q} s) =
-    one_more q path (PAR p no_stmt) k e refl (skip-moves {st = putting path (resume k) st} path (look-put-same path st.process (resume k) e) s)
+    one_more q path (PAR p no_stmt) k e refl (skip-moves {st = putting path (resume k) st} path
+    (look-put-same path st.process (resume k) e) s)
 
 -- moves without communications and events after others
 pub trace-then : {st st₁ st₂ : State} {g h : Segment} {cs : List Communication} {es : List Event}

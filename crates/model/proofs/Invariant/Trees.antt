@@ -317,7 +317,8 @@ module _ (S : Setting) where
   mutual
     unfolding label_at label_in branch_at look
 
-    pub owner_of : {a : Part} {p : Process} (t : Tree a p) (path : List ℕ) {q : Process} → look path p ≡ some q → Owner a (label_at t) path q
+    pub owner_of : {a : Part} {p : Process} (t : Tree a p) (path : List ℕ) {q : Process} → look path p ≡ some q
+        → Owner a (label_at t) path q
     owner_of {a} (t-leaf l n m) [] e = subst (Owner a (label_at (t-leaf l n m)) []) (cc)
         (owner a (t-leaf l n m) (inside-refl a) refl (λ rest. refl))
     owner_of (t-leaf l n m) (i ∷ path) e = never (cc (leaf-ends i path l, e))
@@ -505,7 +506,8 @@ module _ (S : Setting) where
       rw z (begun_label w (d + need s) ss h (need-next s ss d l) i e)
 
   -- the names in scope of a branch that was just started
-  begun-scope : {vars chans : List Site} (w d : ℕ) (ss : Stmts) (h : Scoped S w vars chans) (l : d + sum_need ss ≤ w) (i : ℕ) (path : List ℕ)
+  begun-scope : {vars chans : List Site} (w d : ℕ) (ss : Stmts) (h : Scoped S w vars chans) (l : d + sum_need ss ≤ w) (i : ℕ)
+      (path : List ℕ)
       {b : Part} {j : Info} → label_in (begun w d ss h l) i path ≡ some (alone b j) → (j.vars ≡ vars) × (j.chans ≡ chans)
   unfolding label_at label_in begun branches
   begun-scope w d no_stmt h l i path e = never (cc)
@@ -514,7 +516,8 @@ module _ (S : Setting) where
   begun-scope w d (stmt s ss) h l zero (n ∷ path) e = never (cc)
   begun-scope w d (stmt s ss) h l (suc i) path e = begun-scope w (d + need s) ss h (need-next s ss d l) i path e
 
-  begun-alone : {vars chans : List Site} (w d : ℕ) (ss : Stmts) (h : Scoped S w vars chans) (l : d + sum_need ss ≤ w) (i : ℕ) (path : List ℕ)
+  begun-alone : {vars chans : List Site} (w d : ℕ) (ss : Stmts) (h : Scoped S w vars chans) (l : d + sum_need ss ≤ w) (i : ℕ)
+      (path : List ℕ)
       {a : Part} {vs cs : List Site} {v n : ℕ} → label_in (begun w d ss h l) i path ≡ some (parted a vs cs v n) → ◌≡◌ {A = ℕ} 0 1
   unfolding label_at label_in begun branches
   begun-alone w d no_stmt h l i path e = cc
@@ -734,7 +737,8 @@ module _ (S : Setting) where
       v : Rebuilt t path z (put path r p)
       v = rebuild t path z at_b
 
-      with_part : (c : Part) (u : Tree c q) → ((rest : List ℕ) → label_at t (path ++ rest) ≡ label_at u rest) → Kept t path b i (put path r p)
+      with_part : (c : Part) (u : Tree c q) → ((rest : List ℕ) → label_at t (path ++ rest) ≡ label_at u rest)
+          → Kept t path b i (put path r p)
       with_part c u h =
           record {
             tree = v.tree;

@@ -14,7 +14,7 @@ use Rattle.model.specs.Occam.{Store, store, Process, State, Sender, process, out
 use Rattle.model.proofs.Cases.{never, by_bool}
 use Rattle.model.proofs.Tables.Sites.{same_refl, same-eq}
 use Rattle.model.proofs.Quiet.Ways.{upd, upd_same, upd_other, Mem, front_word}
-use Rattle.model.proofs.Occam.Paths.{left, leaves-apart, same-path, is_alt}
+use Rattle.model.proofs.Occam.Paths.{leaves-apart, same-path, is_alt}
 use Rattle.model.proofs.Words.Parts as Parts
 use Rattle.model.proofs.Words.Parts.{Part}
 use Rattle.model.proofs.Quiet.Marks.{Own}

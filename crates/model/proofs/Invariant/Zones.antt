@@ -177,7 +177,8 @@ module _ (S : Setting) where
   mutual
     unfolding label_at label_in
 
-    pub zone-under : {a : Part} {p : Process} (t : Tree S a p) (path : List ℕ) {l : Label} → label_at S t path ≡ some l → Under a (zone_of l)
+    pub zone-under : {a : Part} {p : Process} (t : Tree S a p) (path : List ℕ) {l : Label} → label_at S t path ≡ some l
+        → Under a (zone_of l)
     zone-under {a} (t-leaf q i h) [] e =
         subst (λ l. Under a (zone_of l)) (some_same e)
         (placed-under a.bottom a.top h.placed (omega (arith, h.placed.room)) (omega arith) (omega arith))
@@ -286,7 +287,8 @@ module _ (S : Setting) where
   mutual
     unfolding label_at label_in
 
-    zone-distinct : {a : Part} {p : Process} (t : Tree S a p) (path : List ℕ) {l : Label} → label_at S t path ≡ some l → Distinct (zone_of l)
+    zone-distinct : {a : Part} {p : Process} (t : Tree S a p) (path : List ℕ) {l : Label} → label_at S t path ≡ some l
+        → Distinct (zone_of l)
     zone-distinct (t-leaf q i h) [] e = subst (λ l. Distinct (zone_of l)) (some_same e) (distinct i.w h.placed.scoped)
     zone-distinct (t-leaf q i h) (j ∷ path) e = never (cc)
     zone-distinct (t-par {w} c f) [] e = subst (λ l. Distinct (zone_of l)) (some_same e) (distinct (w + 2) c.placed.scoped)

@@ -12,7 +12,8 @@ use Rattle.model.specs.Instruction.{eqc, stl, opr, ldtimer, tin, dist, enbt, tal
 use Rattle.model.specs.Machine.{World, with_timer, Act, ◌>>=◌, ◌>>◌, return, fault, registers, set_registers, setup, timer, set_front}
 use Rattle.model.specs.Machine.{communicate}
 use Rattle.model.specs.Machine.{read_clock, memory_size, peek, poke, test_place, release, enqueue, join, held_at}
-use Rattle.model.specs.Alternative.{notify, begin_alt, set_ready, enable_ready, enable_channel, enable_skip, wait_alt, select, disable_ready}
+use Rattle.model.specs.Alternative.{notify, begin_alt, set_ready, enable_ready, enable_channel, enable_skip, wait_alt, select}
+use Rattle.model.specs.Alternative.{disable_ready}
 use Rattle.model.specs.Alternative.{disable_channel, disable_skip, end_alt}
 use Rattle.model.specs.Execute.{jump, load_local, store_local, conditional_jump, start_process, end_process, stop_process, wait_at}
 use Rattle.model.specs.Execute.{drop_offer, receive, received, input_word, input_message, deliver, output_word, operate, execute}

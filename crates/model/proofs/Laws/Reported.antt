@@ -21,7 +21,8 @@ use Rattle.model.specs.Execute.{receive, received}
 use Rattle.model.specs.Run.{land, byte, ended, waits, run_from, short_memory, After, unchanged, world_of, finished, fresh, blank}
 use Rattle.model.specs.Run.{cleared, start, waking, beginning, earlier_clock}
 use Rattle.model.specs.Outside.{output_word_of, looking, taken, taking, took as took_by, take}
-use Rattle.model.specs.Bench.{line, code_line, out_line, took_one, takes, bench_budget, bench_slice, on_takes, on_run, rounds, of_compilation}
+use Rattle.model.specs.Bench.{line, code_line, out_line, took_one, takes, bench_budget, bench_slice, on_takes, on_run, rounds}
+use Rattle.model.specs.Bench.{of_compilation}
 use Rattle.model.specs.Bench.{bench, bench_clock}
 use Rattle.model.specs.Laws.{Out, out_lines, Standing, ended as stood_ended, waiting, spent, fault, standing_name, Report, one-refusal}
 use Rattle.model.specs.Laws.{full, counted, Took, AlwaysReports}

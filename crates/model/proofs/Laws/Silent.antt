@@ -103,7 +103,8 @@ still (joins w) s = of-join w s
 
 of-begins : (r : Cpu) (s : World) → Still s (begins r s)
 of-begins r s =
-    onward s ((do wake_sleepers; settle) s) _ (onward s (wake_sleepers s) _ (still (of-wake_sleepers (λ r q h e. tt)) s) (λ a t. of-settle t))
+    onward s ((do wake_sleepers; settle) s) _ (onward s (wake_sleepers s) _ (still (of-wake_sleepers (λ r q h e. tt)) s)
+    (λ a t. of-settle t))
     (λ a t. either r.running (return tt) land t refl (still of-land t))
 
 pub beginning-silent : (c : ℕ) (s : World) {t : World} → beginning c s ≡ done tt t → t.talk ≡ s.talk

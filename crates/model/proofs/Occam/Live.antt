@@ -170,7 +170,8 @@ most-branch (input_guard e c x) s k = omega (arith, most-begin (SEQ (stmt (input
 most-branch (skip_guard e) s k = most-begin s k
 most-branch (time_guard e t) s k = most-begin s k
 
-most-choice : {st : State} {k : List Frame} {gs : Guards} {p : Process} → Choice st k gs p → most p ≤ max (guard_processes gs) (most_after k)
+most-choice : {st : State} {k : List Frame} {gs : Guards} {p : Process} → Choice st k gs p
+    → most p ≤ max (guard_processes gs) (most_after k)
 unfolding guard_processes
 most-choice {k} (first-guard {g} {s} r) = omega (arith, most-branch g s k)
 most-choice (later-guard c) = omega (arith, most-choice c)

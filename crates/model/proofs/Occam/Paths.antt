@@ -18,7 +18,8 @@ use Rattle.model.specs.Demand.{live_in}
 use Rattle.model.proofs.Cases.{never, by-option, is_none}
 
 -- a branch that is set is the one found there
-pub branch-set-same : (i : ℕ) (bs : Branches) {b : Process} (r : Process) → branch_at i bs ≡ some b → branch_at i (set_branch i r bs) ≡ some r
+pub branch-set-same : (i : ℕ) (bs : Branches) {b : Process} (r : Process) → branch_at i bs ≡ some b → branch_at i (set_branch i r bs)
+    ≡ some r
 unfolding branch_at set_branch
 branch-set-same i no_branch r e = never (cc)
 branch-set-same zero (branch p bs) r e = refl
@@ -565,7 +566,8 @@ pub closed-more : (i : ℕ) (bs : Branches) (k : List Frame) {b : Process} → b
 closed-more i bs k e d = rw (more-over i bs e d) refl
 
 -- after a branch's end nothing is found in it
-pub look-end-same : (path : List ℕ) (i : ℕ) (rest : List ℕ) (p : Process) {bs : Branches} {k : List Frame} → look path p ≡ some (in_par bs k)
+pub look-end-same : (path : List ℕ) (i : ℕ) (rest : List ℕ) (p : Process) {bs : Branches} {k : List Frame} → look path p
+    ≡ some (in_par bs k)
     → look (path ++ i ∷ rest) (put path (in_par (end_branch i bs) k) p) ≡ none
 look-end-same path i rest p {bs} {k} e =
     look-put-below path (i ∷ rest) (in_par (end_branch i bs) k) p e ∙ look-out i rest (in_par (end_branch i bs) k) (branch-end-same i bs)

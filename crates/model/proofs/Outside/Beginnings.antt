@@ -59,7 +59,8 @@ begins-busy s u e run run' =
     ∙ ap (λ (r : Result (Unit {0})). next r (λ x. tested)) (when_true (cpu_of u).running (return tt) release u run' refl)
     ∙ when_true (cpu_of s).running (return tt) land u run refl
 
-begins-free : (s u v : World) → wake_sleepers s ≡ done tt u → (cpu_of s).running ≡ false → (cpu_of u).running ≡ false → release u ≡ done tt v
+begins-free : (s u v : World) → wake_sleepers s ≡ done tt u → (cpu_of s).running ≡ false → (cpu_of u).running ≡ false → release u
+    ≡ done tt v
     → land v ≡ done tt v → begins (cpu_of s) s ≡ done tt v
 begins-free s u v e stop stop' gone lands =
     let tested : Act (Unit {0}) = cond (cpu_of s).running (return tt) land in

@@ -10,7 +10,7 @@ use Rattle.model.specs.Limits.{word_limit}
 use Rattle.model.specs.Syntax.{Site, input_of, Guards}
 use Rattle.model.specs.Machine.{state_word, time_link_word, time_word, name_of}
 use Rattle.model.specs.Alternative.{enabling, ready}
-use Rattle.model.specs.Occam.{store, Frame, Process, State, Sender, offers}
+use Rattle.model.specs.Occam.{Frame, Process, State, Sender}
 use Rattle.model.proofs.Quiet.Names.{name_back, name-injective}
 use Rattle.model.proofs.Quiet.Ways.{upd_other, upd, Regs, Mem, way-stable}
 use Rattle.model.proofs.Quiet.Continuations.{Placed, cont-low, cont-placed}

@@ -13,13 +13,12 @@ use lib.Dec.{eqb}
 use borrow.Author.Tests.{eq-eqb, ne_eqb, eqb-true}
 use Rattle.model.specs.Word.{not_process}
 use Rattle.model.specs.Syntax.{Site, input_of}
-use Rattle.model.specs.Layout.{base}
 use Rattle.model.specs.Machine.{World, done, with_offers, join, state_word, name_of}
 use Rattle.model.specs.Alternative.{is_alt_state, notify}
 use Rattle.model.specs.Execute.{deliver}
 use Rattle.model.specs.Run.{land}
 use Rattle.model.specs.Outside.{offering}
-use Rattle.model.specs.Occam.{store, State, Sender, process, outside, offers}
+use Rattle.model.specs.Occam.{State, Sender, process, outside}
 use Rattle.model.proofs.Cases.{never, by_bool}
 use Rattle.model.proofs.Quiet.Names.{name_back}
 use Rattle.model.proofs.Quiet.Ways.{Mem}
@@ -45,7 +44,8 @@ offer-holds k v c s at h empty l = waking-does _ s (holding k v s) (rw (peek-at 
 -- an ALT is
 pub offer-tells : (k v c p t : ℕ) (s u : World) → s.machine.setup.base + k ≡ c → c < size_of s → get_or s.memory c 0 ≡ name_of p
     → name_of p ≢ not_process
-    → state_word p < size_of s → get_or s.memory (state_word p) 0 ≡ t → is_alt_state t ≡ true → notify (name_of p) t (holding k v s) ≡ done tt u
+    → state_word p < size_of s → get_or s.memory (state_word p) 0 ≡ t → is_alt_state t ≡ true → notify (name_of p) t (holding k v s)
+    ≡ done tt u
     → land u ≡ done tt u → offering k v s ≡ done tt u
 unfolding offering
 offer-tells k v c p t s u at h name n hs state alt told l =

@@ -12,13 +12,12 @@ use borrow.Author.Tests.{eq-eqb}
 use Rattle.model.specs.Word.{not_process}
 use Rattle.model.specs.Limits.{word_limit}
 use Rattle.model.specs.Syntax.{Site, input_of, Guards, no_guard, timed}
-use Rattle.model.specs.Layout.{base}
 use Rattle.model.specs.Scheme.{size_enable}
 use Rattle.model.specs.Machine.{World, done, resume_word, state_word, time_link_word, time_word, name_of}
 use Rattle.model.specs.Alternative.{is_alt_state, notify, waiting, ready, none_selected}
 use Rattle.model.specs.Run.{land}
 use Rattle.model.specs.Outside.{offering}
-use Rattle.model.specs.Occam.{store, Frame, Process, at_input, at_alt, resume, State, over-channel, process, outside, receives, offers}
+use Rattle.model.specs.Occam.{store, Frame, Process, at_input, at_alt, resume, State, over-channel, receives, offers}
 use Rattle.model.specs.Occam.{Outside, offered}
 use Rattle.model.specs.Demand as Demand
 use Rattle.model.specs.declared.Setup.{Setup}

@@ -11,7 +11,6 @@ use lib.ListN.{get_or}
 use borrow.Author.Tests.{ne_eqb}
 use Rattle.model.specs.Word.{not_process}
 use Rattle.model.specs.Syntax.{Site, output_of}
-use Rattle.model.specs.Layout.{base}
 use Rattle.model.specs.Machine.{World, done, Act, return, join, resume_word, state_word, name_of, talks}
 use Rattle.model.specs.Execute.{receive, received}
 use Rattle.model.specs.Run.{land, waking}

@@ -1,5 +1,5 @@
 -- The outside wakes a process that waited: it joins the queue, or gets the processor at once where that is free.
-use Prim.Native.Nat.{ℕ, zero, suc, ◌+◌, ◌≤◌, ◌<◌}
+use Prim.Native.Nat.{ℕ, zero, suc, ◌≤◌, ◌<◌}
 use native.Mathlib.Omega.{arith}
 use native.Mathlib.Decide.{ℕ_discrete}
 use mathlib.Core.Path.{◌≡◌, refl, sym, ap, ◌∙◌, subst}
@@ -15,7 +15,7 @@ use Rattle.model.specs.Reader.{numbered}
 use Rattle.model.specs.Usage.{same}
 use Rattle.model.specs.Machine.{Talk, World, done, return, test_place, join, resume_word, name_of, talks}
 use Rattle.model.specs.Run.{land}
-use Rattle.model.specs.Occam.{store, Frame, Process, Branches, at_output, frames_of, put, resume, State, Sender, process, Communication}
+use Rattle.model.specs.Occam.{store, Frame, Process, Branches, at_output, frames_of, put, resume, State, Sender, Communication}
 use Rattle.model.specs.Occam.{over-channel, Event, now}
 use Rattle.model.specs.Demand.{Segment, live_in, talk_of}
 use Rattle.model.proofs.Cases.{never, by_bool}

@@ -536,7 +536,8 @@ module _ (S : Setting) (a : Part) where
           let down : low (r.w + minus 1) ≡ w - 1 = rw q (omega (arith, f.0, wide c v)) in
           quiet (moving (minus 1)) t.lowers (quiet-ajw (minus 1))
           (arrived (onto (moving (minus 1) r) down
-          (subst (λ n. Point S a σ vars chans (before (ALT gs) k) hi μ n (set_w (w - 1) (moving (minus 1) r))) one (pt-alt t' same))) bound))
+          (subst (λ n. Point S a σ vars chans (before (ALT gs) k) hi μ n (set_w (w - 1) (moving (minus 1) r))) one (pt-alt t' same)))
+          bound))
 
       time-comes : (x : Site) → Seg S.xs i (code S.word w i (TIME x)) i' → Fine S.word a vars chans w (TIME x)
           → Comes vars chans hi (to_read x k) i w

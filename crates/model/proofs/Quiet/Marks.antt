@@ -18,7 +18,8 @@ use Rattle.model.specs.Code.{operand_in}
 use Rattle.model.specs.Alternative.{enabling, ready, none_selected}
 use Rattle.model.specs.Machine.{state_word, time_link_word, time_word, name_of, space_of}
 use Rattle.model.specs.Timer.{time_set}
-use Rattle.model.specs.Occam.{Store, eval, is_true, Frame, in_while, Process, before, at_input, at_output, at_stop, at_alt, in_par, finished}
+use Rattle.model.specs.Occam.{Store, eval, is_true, Frame, in_while, Process, before, at_input, at_output, at_stop, at_alt, in_par}
+use Rattle.model.specs.Occam.{finished}
 use Rattle.model.specs.Occam.{resume, begin, first_true, State, Sender, branch_of, Ready, to_read, has_read, at_wait}
 use Rattle.model.proofs.Quiet.Names.{name_back}
 use Rattle.model.proofs.Quiet.Ways.{Regs, Mem}

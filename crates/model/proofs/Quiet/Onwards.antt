@@ -10,11 +10,12 @@ use lib.ListN.{length, length-append}
 use Rattle.model.specs.Word.{low, less, minus, after}
 use Rattle.model.specs.Code.{function_in, operand_in}
 use Rattle.model.specs.Counts.{temporaries, both_hold, need, sum_need}
-use Rattle.model.specs.Syntax.{Site, Expr, Stmt, input, ALT, Stmts, no_stmt, stmt, Guard, input_guard, skip_guard, time_guard, Guards}
+use Rattle.model.specs.Syntax.{Site, Expr, Stmt, ALT, Stmts, no_stmt, stmt, Guard, input_guard, skip_guard, time_guard, Guards}
 use Rattle.model.specs.Syntax.{no_guard, guard, timed}
 use Rattle.model.specs.Instruction.{ldc, ldlp, ajw, Instruction, plain, distance, operation}
 use Rattle.model.specs.Instruction as I
-use Rattle.model.specs.Scheme.{size, size_enable, size_ends, alt_words, local, guard_code, both_code, code, code_all, code_starts, code_ends}
+use Rattle.model.specs.Scheme.{size, size_enable, size_ends, alt_words, local, guard_code, both_code, code, code_all, code_starts}
+use Rattle.model.specs.Scheme.{code_ends}
 use Rattle.model.specs.Scheme.{code_enable, code_disable, code_branches, input_size, enable_code, disable_code, guard_input}
 use Rattle.model.specs.Machine.{state_word, time_link_word, time_word, name_of}
 use Rattle.model.specs.Timer.{time_set}
@@ -73,7 +74,8 @@ unready : {st : State} (word : Site → ℕ) (μ : Mem) (w : ℕ) {g : Guard} �
 unready word μ w u (is-sent e s) = (u e).1 s
 unready word μ w u (is-skip e) = never (cc (u, e))
 
-pub noticed-unready : {st : State} {word : Site → ℕ} {μ : Mem} {w : ℕ} {gs : Guards} → Noticed st word μ w gs no_guard → AnyPresent st gs → ⊥
+pub noticed-unready : {st : State} {word : Site → ℕ} {μ : Mem} {w : ℕ} {gs : Guards} → Noticed st word μ w gs no_guard → AnyPresent st gs
+    → ⊥
 noticed-unready n-none p = elim p [ ]
 noticed-unready {word} {μ} {w} (n-later u n) (a_first r) = unready word μ w u r
 noticed-unready (n-later u n) (a-later h) = noticed-unready n h

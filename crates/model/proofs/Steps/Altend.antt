@@ -247,7 +247,8 @@ module _ (L : Loaded) (Q : (w t clock : ℕ) → Type 0) (T : Times) (near : T.s
         some-function e = cc
 
     module _ {st : State} {μ : Mem} {t : Tree (S L) (root L) st.process} {path : List ℕ} {q : Process} {b : Part} {i : Info}
-        {ws : List ℕ} {at : ℕ} {x : Instruction} (real : Real L s st μ ws) (run : (cpu_of s).running ≡ true) (leaf : LeafAt L st t path q b i)
+        {ws : List ℕ} {at : ℕ} {x : Instruction} (real : Real L s st μ ws) (run : (cpu_of s).running
+        ≡ true) (leaf : LeafAt L st t path q b i)
         (e : At (S L) at x) (h : Standing L.code L.off at x (cpu_of s).place (cpu_of s).operand) where
       abbrev now-ready : World
       now-ready = ready L real run leaf e h

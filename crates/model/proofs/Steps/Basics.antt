@@ -22,7 +22,7 @@ use Rattle.model.proofs.Cases.{never, by_bool}
 use Rattle.model.proofs.Quiet.Ways.{upd_other, upd, Mem}
 use Rattle.model.proofs.Quiet.Stretches.{Seg, seg-length}
 use Rattle.model.proofs.Quiet.Setting.{whole}
-use Rattle.model.proofs.Quiet.CodeParts.{inside, rises-le}
+use Rattle.model.proofs.Quiet.CodeParts.{rises-le}
 use Rattle.model.proofs.Occam.Paths.{Leaf, l-stop, leaf-resume, leaf-begin, live-resume, live-begin, silent-resume, silent-begin}
 use Rattle.model.proofs.Occam.Paths.{is_alt, off-resume, off-begin}
 use Rattle.model.proofs.Words.Parts.{Part, Fine, Target, Within}

@@ -307,7 +307,8 @@ module _ (L : Loaded) {s : World} {st : State} {μ : Mem} {t : Tree (S L) (root 
         (A.rest.chans (node L A.leaf) y mine)
 
     -- nobody sends on a channel that no sender is at and no offer is held for
-    pub unsent : Silent q → ((n : ℕ) → y ≡ input_of n → st.offers n ≡ none) → (μ ((S L).word y) ≡ not_process) ⊎ (μ ((S L).word y) ≡ name_of w)
+    pub unsent : Silent q → ((n : ℕ) → y ≡ input_of n → st.offers n ≡ none)
+        → (μ ((S L).word y) ≡ not_process) ⊎ (μ ((S L).word y) ≡ name_of w)
         → Sender st y → ⊥
     unsent silently no-offer here sd =
         ⊎_elim at-word (λ f. let (n, v, e, o) = f in never (cc (no-offer n e, o)))
@@ -500,7 +501,8 @@ module _ (L : Loaded) {s : World} {st : State} {μ : Mem} {t : Tree (S L) (root 
       enbc-free (is_ours f) =
           passes
           (executes
-          (exec-enbc-marked ((S L).word y) (space s) s a chan refl free (chan-size L A c y mine) (chan-holds L A c y mine f) (w-some L A c)))
+          (exec-enbc-marked ((S L).word y) (space s) s a chan refl free (chan-size L A c y mine) (chan-holds L A c y mine f)
+          (w-some L A c)))
           (λ h. (f, unsent L A c y mine inputs before-silent no-offer (inr f)))
       enbc-free (is-sent f h o sd out) =
           enbc-ready a sd

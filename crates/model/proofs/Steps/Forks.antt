@@ -146,7 +146,8 @@ module _ (L : Loaded) {st : State} {t : Tree (S L) (root L) st.process} {path : 
 
       by : Compared path other → P (zone_of l)
       by (equal e) =
-          let z = some_same (sym fork-here ∙ ap (label_at (S L) fork_tree) e ∙ h.label) in subst (λ y. P (zone_of y)) z (g _ _ refl refl here)
+          let z = some_same (sym fork-here ∙ ap (label_at (S L) fork_tree) e
+          ∙ h.label) in subst (λ y. P (zone_of y)) z (g _ _ refl refl here)
       by (below m rest e) = under m rest l (sym (forked.below (m ∷ rest)) ∙ ap (label_at (S L) fork_tree) (sym e) ∙ h.label)
       by (above m rest e) = f other l (record { label = sym (forked.above other m rest e) ∙ h.label })
       by (apart a) = f other l (record { label = sym (forked.aside other a) ∙ h.label })

@@ -26,7 +26,6 @@ use Rattle.model.proofs.Cases.{never, by_bool}
 use Rattle.model.proofs.Quiet.Names.{name-given}
 use Rattle.model.proofs.Quiet.Ways.{upd_same, upd_other, upd, Mem}
 use Rattle.model.proofs.Quiet.Setting.{whole}
-use Rattle.model.proofs.Quiet.CodeParts.{inside}
 use Rattle.model.proofs.Occam.Paths.{l-input, l-output, leaf-resume, live-resume, silent-resume, same-path, look-put-same}
 use Rattle.model.proofs.Occam.Paths.{put-put-same, Apart, apart-sym as path-apart-sym, leaves-apart, look-put-other, put-put-apart}
 use Rattle.model.proofs.Occam.Paths.{off-resume}
@@ -38,7 +37,7 @@ use Rattle.model.proofs.Invariant.Trees.{Info, Sits, Tree, bytes_left}
 use Rattle.model.proofs.Invariant.Leaves.{member, Unmarked, Waits, h-input}
 use Rattle.model.proofs.Effects.OneWord.{cpu_of, stored}
 use Rattle.model.proofs.Effects.Acts.{dropped, parked, exec-in-held, exec-in-wait, exec-in-sender}
-use Rattle.model.proofs.Invariant.Kernel.{Loaded, S, root, size, setup, LeafAt, Rest, Lined, Real, node, part_small, sits-at}
+use Rattle.model.proofs.Invariant.Kernel.{Loaded, S, root, size, LeafAt, Rest, Lined, Real, node, part_small, sits-at}
 use Rattle.model.proofs.Invariant.Writes.{changed, after-leaf, after-lined, apart_parts, apart-zones, write-var, change-offers}
 use Rattle.model.proofs.Invariant.Puts.{putting, tree_then, here-then, other-then, lined_then, rest_then, sender-before}
 use Rattle.model.proofs.Invariant.Grounds.{var-in, chan-in, small_size, sound-at}

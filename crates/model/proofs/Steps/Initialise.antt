@@ -6,7 +6,7 @@ use mathlib.Core.Path.{◌≡◌, refl, sym, ap, ◌∙◌, subst}
 use mathlib.Core.Logic.{◌⊎◌, inl, ⊎_elim}
 use mathlib.Core.List.Memᴰ
 use mathlib.Core.List.{List, [], ◌∷◌, ◌++◌, Memᴰ}
-use Rattle.model.specs.Word.{low, not_process}
+use Rattle.model.specs.Word.{not_process}
 use Rattle.model.specs.Limits.{word_limit}
 use Rattle.model.specs.Syntax.{Site, Stmt, VAR, CHAN}
 use Rattle.model.specs.Reader.{names}
@@ -16,7 +16,7 @@ use Rattle.model.specs.Instruction as I
 use Rattle.model.specs.Code.{function_in, operand_in}
 use Rattle.model.specs.Scheme.{code}
 use Rattle.model.specs.Machine.{World, with_cpu, pop}
-use Rattle.model.specs.Occam.{Store, zeros, Frame, in_var, before, begin, go, State, process, Step, begins}
+use Rattle.model.specs.Occam.{Store, zeros, Frame, in_var, before, begin, go, State, Step, begins}
 use Rattle.model.proofs.Cases.{by_bool, never}
 use Rattle.model.proofs.Tables.Sites.{is_in-mem, mem-is_in}
 use Rattle.model.proofs.Quiet.Ways.{upd_same, upd_other, upd, Regs, regs_of, Quiet, pushing, Mem, arrived, quiet, quiet-ldc}

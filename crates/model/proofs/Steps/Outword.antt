@@ -21,7 +21,6 @@ use Rattle.model.proofs.Cases.{never}
 use Rattle.model.proofs.Quiet.Names.{name-given}
 use Rattle.model.proofs.Quiet.Ways.{upd_same, upd_other, upd, Mem}
 use Rattle.model.proofs.Quiet.Setting.{whole, At}
-use Rattle.model.proofs.Quiet.CodeParts.{inside, up}
 use Rattle.model.proofs.Occam.Paths.{l-input, l-output, leaf-resume, live-resume, silent-resume, same-path, look-put-same}
 use Rattle.model.proofs.Occam.Paths.{put-put-same, Apart, apart-sym as path-apart-sym, leaves-apart, look-put-other, put-put-apart}
 use Rattle.model.proofs.Occam.Paths.{off-resume}

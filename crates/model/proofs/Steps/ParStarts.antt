@@ -4,9 +4,8 @@ use native.Mathlib.Omega.{arith}
 use mathlib.Core.Path.{◌≡◌, refl, sym, ap, ◌∙◌, subst}
 use mathlib.Core.Logic.{inl, inr}
 use mathlib.Core.List.{List, [], ◌∷◌, ◌++◌}
-use mathlib.Core.Option.{none, some}
+use mathlib.Core.Option.{some}
 use lib.ListN.{length, length-append}
-use Rattle.model.specs.Word.{low}
 use Rattle.model.specs.Limits.{word_limit}
 use Rattle.model.specs.Syntax.{Site, Stmt, PAR, Stmts, no_stmt, stmt}
 use Rattle.model.specs.Counts.{need, sum_need}
@@ -18,9 +17,9 @@ use Rattle.model.specs.Machine.{World, with_cpu, pop}
 use Rattle.model.specs.Occam.{Store, Frame, Process, before, in_par, begin, branches, go, put, State, Step, begins}
 use Rattle.model.specs.Demand.{step}
 use Rattle.model.proofs.Quiet.Ways.{upd_same, upd_other, upd, pushing, Mem, arrived, quiet, quiet-ldc}
-use Rattle.model.proofs.Quiet.Stretches.{Seg, at, seg-length}
+use Rattle.model.proofs.Quiet.Stretches.{Seg, seg-length}
 use Rattle.model.proofs.Quiet.Setting.{Setting, whole, At}
-use Rattle.model.proofs.Quiet.CodeParts.{inside, rises-le}
+use Rattle.model.proofs.Quiet.CodeParts.{rises-le}
 use Rattle.model.proofs.Coding.Sizes.{code-length, ends-length}
 use Rattle.model.proofs.Occam.Paths.{stmt_at, stmt-inside, Apart, here, later}
 use Rattle.model.proofs.Cases.{never}

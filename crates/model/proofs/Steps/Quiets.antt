@@ -18,7 +18,6 @@ use Rattle.model.specs.declared.Cpu.{Cpu}
 use Rattle.model.specs.Occam.{Process, before, at_input, at_output, at_stop, at_alt, at_wait, to_read, has_read, in_par, finished, State}
 use Rattle.model.proofs.Quiet.Ways.{upd_same, upd_other, upd, Regs, regs_of, load, Quiet, pushing, popping, Mem}
 use Rattle.model.proofs.Cases.{never}
-use Rattle.model.proofs.Quiet.CodeParts.{inside}
 use Rattle.model.proofs.Occam.Paths.{is_alt}
 use Rattle.model.proofs.Words.Parts.{Part}
 use Rattle.model.proofs.Quiet.Continuations.{Placed}

@@ -6,7 +6,6 @@ use mathlib.Core.Logic.{◌≢◌, inl, inr}
 use mathlib.Core.Bool.{true}
 use mathlib.Core.List.{List, [], ◌∷◌, ◌++◌, Memᴰ}
 use lib.ListN.{length}
-use Rattle.model.specs.Word.{low}
 use Rattle.model.specs.Syntax.{Stmt, Stmts, no_stmt, stmt}
 use Rattle.model.specs.Counts.{need}
 use Rattle.model.specs.Scheme.{how_many, size, code_starts}

@@ -7,7 +7,7 @@ use mathlib.Core.Logic.{◌≢◌, inl, inr, ⊎_elim}
 use mathlib.Core.Bool.{true, false}
 use mathlib.Core.List.{List, []}
 use mathlib.Core.Option.{Option, none, some}
-use lib.ListN.{get_or, set}
+use lib.ListN.{get_or}
 use borrow.Author.Tests.{eq-eqb, ne_eqb}
 use Rattle.model.specs.Word.{after, not_process}
 use Rattle.model.specs.Syntax.{Site, Expr, Stmt, time_guard, Guards, guard, timed}
@@ -181,7 +181,8 @@ module _ (L : Loaded) {s : World} {st : State} {μ : Mem} {t : Tree (S L) (root 
       (record { marks = time-marks ν same; state = state; chosen = chosen; times = times; known = n.known })
 
   -- the guard is not found: one was chosen before, or one of the rest is
-  chosen-past : (is_true st.store e ≡ true → μ (time_link_word w) ≡ time_set → after (μ (time_word w)) tm ≡ true → ⊥) → Chosen L A c tied hs μ
+  chosen-past : (is_true st.store e ≡ true → μ (time_link_word w) ≡ time_set → after (μ (time_word w)) tm ≡ true → ⊥)
+      → Chosen L A c tied hs μ
   chosen-past f =
       ⊎_elim (λ h. inl h) (λ h. inr (
         h.0,

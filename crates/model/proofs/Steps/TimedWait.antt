@@ -66,7 +66,8 @@ module _ (s : World) (base-in : (cpu_of s).workspace < size_of s) (state-in : st
       )
 
   module _ (not-ready : get_or (none_yet s).memory (state_word w₀) 0 ≢ ready) where
-    exec-untimed : get_or (none_yet s).memory (time_link_word w₀) 0 ≢ time_set → execute opr (operation_code I.taltwt) s ≡ release (parked s)
+    exec-untimed : get_or (none_yet s).memory (time_link_word w₀) 0 ≢ time_set → execute opr (operation_code I.taltwt) s
+        ≡ release (parked s)
     unfolding execute operate operation_of operation_code coded wait_timed_alt
     exec-untimed e =
         rw (
@@ -79,7 +80,8 @@ module _ (s : World) (base-in : (cpu_of s).workspace < size_of s) (state-in : st
           poke-in (resume_word w₀) (cpu_of s).place (stored (state_word w₀) waiting (none_yet s)) resume-in,
         )
 
-    exec-past : get_or (none_yet s).memory (time_link_word w₀) 0 ≡ time_set → after clock₀ (get_or (none_yet s).memory (time_word w₀) 0) ≡ true
+    exec-past : get_or (none_yet s).memory (time_link_word w₀) 0 ≡ time_set → after clock₀ (get_or (none_yet s).memory (time_word w₀) 0)
+        ≡ true
         → execute opr (operation_code I.taltwt) s ≡ done tt (stored (time_word w₀) clock₀ (stored (state_word w₀) ready (none_yet s)))
     unfolding execute operate operation_of operation_code coded wait_timed_alt wait_time
     exec-past e f =
@@ -267,7 +269,8 @@ module _ (L : Loaded) {s : World} {st : State} {μ : Mem} {t : Tree (S L) (root 
                 marks = marks-there L A c ν₅
                     (own-marked L A c ν₄ (time_word w) clock (time-mine L A c room)
                     (own-marked L A c ν₁ (state_word w) ready (state-mine L A c) (marks₁ L A c here n.marks)));
-                state = upd_other ν₄ (time_word w) clock (state_word w) (λ e. (state-other L A c).1 (sym e)) ∙ upd_same ν₁ (state_word w) ready;
+                state = upd_other ν₄ (time_word w) clock (state_word w) (λ e. (state-other L A c).1 (sym e))
+                    ∙ upd_same ν₁ (state_word w) ready;
                 chosen = inr (
                   upd_other ν₄ (time_word w) clock w (λ e. (base-other L A c).1 (sym e))
                       ∙ upd_other ν₁ (state_word w) ready w (base-state L A c) ∙ upd_same μ w none_selected,

@@ -17,7 +17,7 @@ use Rattle.model.specs.Demand.{step}
 use Rattle.model.proofs.Cases.{never}
 use Rattle.model.proofs.Quiet.Ways.{Mem, arrived}
 use Rattle.model.proofs.Quiet.Setting.{whole, At}
-use Rattle.model.proofs.Quiet.CodeParts.{inside, up}
+use Rattle.model.proofs.Quiet.CodeParts.{up}
 use Rattle.model.proofs.Occam.Paths.{l-has-read}
 use Rattle.model.proofs.Words.Parts.{Part, Target}
 use Rattle.model.proofs.Quiet.Continuations.{Cont, cont-bound}
