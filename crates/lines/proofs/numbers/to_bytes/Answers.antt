@@ -41,10 +41,10 @@ loop-i-init c = (search rules, search rules, refl, refl)
 pub loop-i-preserved : goal.loop-i-preserved
 loop-i-preserved c =
     let e : set c.loop-i.bytes c.loop-i.i (get_or c.args.numbers.now c.loop-i.i 0 % 256)
-        ≡ low_bytes (take (c.loop-i.i + 1) c.args.numbers.now) c.args.bytes.now =
+    ≡ low_bytes (take (c.loop-i.i + 1) c.args.numbers.now) c.args.bytes.now =
     ap (λ (x : List ℕ). set x c.loop-i.i (get_or c.args.numbers.now c.loop-i.i 0 % 256)) c.loop-i.invariant.3
     ∙ sym (ap (λ (k : ℕ). low_bytes (take k c.args.numbers.now) c.args.bytes.now) (add-one c.loop-i.i)
-        ∙ one_more c.loop-i.i c.args.numbers.now c.args.bytes.now (omega arith) (omega (arith, ltb-true)))
+    ∙ one_more c.loop-i.i c.args.numbers.now c.args.bytes.now (omega arith) (omega (arith, ltb-true)))
     in (search rules, omega (arith, ltb-true), search rules, e)
 
 pub returns-else-i-bytes : goal.returns-else-i-bytes

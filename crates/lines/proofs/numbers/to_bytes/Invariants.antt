@@ -15,7 +15,7 @@ use Rattle.lines.proofs.numbers.to_bytes.Given as goal
 abbrev pub invariant-loop-i : goal.invariant-loop-i
 invariant-loop-i l =
     (l.i ≤ length l.numbers) × (l.i ≤ length l.initial.bytes) × (length l.bytes ≡ length l.initial.bytes)
-        × (l.bytes ≡ low_bytes (take l.i l.numbers) l.initial.bytes)
+    × (l.bytes ≡ low_bytes (take l.i l.numbers) l.initial.bytes)
 
 abbrev pub decreases-loop-i : goal.decreases-loop-i
 decreases-loop-i l = length l.numbers - l.i
