@@ -1,5 +1,4 @@
 -- `counts::ask` meets its contract. Assumes nothing.
-use borrow.Author.Rules.{rules}
 use Rattle.counts.specs.Words.{asked}
 use Rattle.counts.proofs.ask.Goals as goal
 

@@ -1,5 +1,4 @@
 -- `counts::guard_words` meets its contract. Assumes nothing.
-use borrow.Author.Rules.{rules}
 use Prim.Native.Nat.{ℕ, zero, suc, ◌+◌}
 use mathlib.Core.Path.{◌≡◌, refl}
 use Rattle.model.specs.Counts.{guard_words}

@@ -16,4 +16,9 @@ returns-then-right-eq-REGISTERS c =
 
 pub returns : goal.returns
 unfolding order_of
-returns c = ?
+returns c =
+    simp (le-ltb _ _ c.if-left-right.false)
+    (⊎_elim
+    (λ t. simp (eq-eqb _ _ t.0, ne_eqb c.args.right 3 t.1))
+    (λ t. simp (ne_eqb c.args.left 3 t))
+    c.else-left-eq-REGISTERS.either)

@@ -1,5 +1,4 @@
 -- `counts::sides_hold` meets its contract. Assumes nothing.
-use borrow.Author.Rules.{rules}
 use native.Mathlib.Omega.{arith}
 use Rattle.model.specs.Counts.{sides_hold}
 use Rattle.counts.proofs.sides_hold.Goals as goal
