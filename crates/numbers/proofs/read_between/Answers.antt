@@ -1,5 +1,4 @@
 -- `numbers::read_between` meets its contract. Assumes nothing.
-use borrow.Author.Rules.{rules}
 use borrow.Author.Tests.{lt-ltb, le-ltb}
 use mathlib.Core.Path.{sym, ◌∙◌}
 use Rattle.numbers.specs.Items.{between_at}
@@ -7,8 +6,7 @@ use Rattle.numbers.proofs.read_between.Goals as goal
 
 pub returns-then-v-lo : goal.returns-then-v-lo
 unfolding between_at
-returns-then-v-lo c =
-    simp (sym c.read_number.ensures ∙ c.in-Number.is, lt-ltb _ _ c.if-v-lo.true)
+returns-then-v-lo c = simp (sym c.read_number.ensures ∙ c.in-Number.is, lt-ltb _ _ c.if-v-lo.true)
 
 pub returns-then-hi-v : goal.returns-then-hi-v
 unfolding between_at
