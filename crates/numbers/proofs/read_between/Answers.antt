@@ -1,5 +1,4 @@
 -- `numbers::read_between` meets its contract. Assumes nothing.
-use borrow.Author.Rules.{rules}
 use borrow.Author.Tests.{lt-ltb, le-ltb}
 use mathlib.Core.Path.{sym, ◌∙◌}
 use Rattle.numbers.specs.Items.{between_at}

@@ -1,5 +1,4 @@
 -- `numbers::read_deep` meets its contract. Assumes nothing.
-use borrow.Author.Rules.{rules}
 use mathlib.Core.Path.{sym, ◌∙◌}
 use Rattle.numbers.specs.Items.{deep_at}
 use Rattle.numbers.proofs.read_deep.Goals as goal

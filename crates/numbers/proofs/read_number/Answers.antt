@@ -1,5 +1,4 @@
 -- `numbers::read_number` meets its contract. Assumes nothing.
-use borrow.Author.Rules.{rules}
 use borrow.Author.Tests.{lt-ltb, lt-leb}
 use Rattle.numbers.specs.Items.{groups_at}
 use Rattle.numbers.proofs.read_number.Goals as goal

@@ -1,5 +1,4 @@
 -- `numbers::skip` meets its contract. Assumes nothing.
-use borrow.Author.Rules.{rules}
 use Rattle.numbers.proofs.skip.Goals as goal
 
 pub returns : goal.returns

@@ -1,5 +1,4 @@
 -- `numbers::value_at` meets its contract. Assumes nothing.
-use borrow.Author.Rules.{rules}
 use mathlib.Core.Path.{sym, ◌∙◌}
 use Rattle.numbers.specs.Items.{value_at}
 use Rattle.numbers.proofs.value_at.Goals as goal

@@ -1,5 +1,4 @@
 -- `numbers::kinds::count_at` meets its contract. Assumes nothing.
-use borrow.Author.Rules.{rules}
 use borrow.Author.Tests.{lt-ltb, le-ltb}
 use Rattle.numbers.specs.Kinds.{count_in}
 use Rattle.numbers.proofs.kinds.count_at.Goals as goal

@@ -1,5 +1,4 @@
 -- `numbers::kinds::expr_kind` meets its contract. Assumes nothing.
-use borrow.Author.Rules.{rules}
 use native.Mathlib.Omega.{arith}
 use Rattle.model.specs.Reader.{expr_kinds}
 use Rattle.numbers.specs.Kinds.{expr_kind}

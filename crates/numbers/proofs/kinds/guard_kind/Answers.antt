@@ -1,5 +1,4 @@
 -- `numbers::kinds::guard_kind` meets its contract. Assumes nothing.
-use borrow.Author.Rules.{rules}
 use native.Mathlib.Omega.{arith}
 use Rattle.model.specs.Reader.{guard_kinds}
 use Rattle.numbers.specs.Kinds.{guard_kind}

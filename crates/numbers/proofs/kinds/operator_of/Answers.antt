@@ -1,5 +1,4 @@
 -- `numbers::kinds::operator_of` meets its contract. Assumes nothing.
-use borrow.Author.Rules.{rules}
 use native.Mathlib.Omega.{arith}
 use Rattle.model.specs.Reader.{operators}
 use Rattle.numbers.specs.Kinds.{operator_of}

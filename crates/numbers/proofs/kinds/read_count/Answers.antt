@@ -1,5 +1,4 @@
 -- `numbers::kinds::read_count` meets its contract. Assumes nothing.
-use borrow.Author.Rules.{rules}
 use Rattle.numbers.specs.Kinds.{count_at}
 use Rattle.numbers.proofs.kinds.read_count.Goals as goal
 

@@ -1,5 +1,4 @@
 -- `numbers::kinds::stmt_kind` meets its contract. Assumes nothing.
-use borrow.Author.Rules.{rules}
 use native.Mathlib.Omega.{arith}
 use Rattle.model.specs.Reader.{stmt_kinds}
 use Rattle.numbers.specs.Kinds.{stmt_kind}
