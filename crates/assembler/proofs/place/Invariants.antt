@@ -9,7 +9,8 @@ use Rattle.assembler.proofs.place.Given as goal
 
 abbrev pub invariant-loop-i : goal.invariant-loop-i
 invariant-loop-i l =
-    (sized l.most 0 0 l.list ≡ sized (l.most - l.i) l.i l.here l.list) × (placed l.most 0 0 l.list l.initial.all ≡ placed (l.most - l.i) l.i l.here l.list l.all)
+    (sized l.most 0 0 l.list ≡ sized (l.most - l.i) l.i l.here l.list)
+    × (placed l.most 0 0 l.list l.initial.all ≡ placed (l.most - l.i) l.i l.here l.list l.all)
     × (l.i ≤ l.most) × (l.most ≤ code_limit) × (length l.all ≡ code_limit + 1)
 
 abbrev pub decreases-loop-i : goal.decreases-loop-i

@@ -11,4 +11,7 @@ returns-then-is_distance c = record { said = simp (sym c.is_distance.ensures ∙
 pub returns : goal.returns
 unfolding prefixes_in
 returns c =
-    record { said = simp (sym c.is_distance.ensures ∙ c.if-is_distance.false, ← c.operand_in.ensures, c.fewest.ensures.said); bound = c.fewest.ensures.bound }
+    record {
+      said = simp (sym c.is_distance.ensures ∙ c.if-is_distance.false, ← c.operand_in.ensures, c.fewest.ensures.said);
+      bound = c.fewest.ensures.bound;
+    }

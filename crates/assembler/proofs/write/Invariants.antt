@@ -9,7 +9,8 @@ use Rattle.assembler.proofs.write.Given as goal
 
 abbrev pub invariant-loop-i : goal.invariant-loop-i
 invariant-loop-i l =
-    (wrote l.most 0 l.list l.places l.initial.out ≡ wrote (l.most - l.i) l.i l.list l.places l.out) × (l.i ≤ l.most) × (l.most ≤ code_limit) × (length l.out ≡ length l.initial.out)
+    (wrote l.most 0 l.list l.places l.initial.out ≡ wrote (l.most - l.i) l.i l.list l.places l.out) × (l.i ≤ l.most)
+    × (l.most ≤ code_limit) × (length l.out ≡ length l.initial.out)
 
 abbrev pub decreases-loop-i : goal.decreases-loop-i
 decreases-loop-i l = l.most - l.i

@@ -9,7 +9,8 @@ use Rattle.instruction.proofs.put_prefixes.Given as goal
 
 abbrev pub invariant-loop-left : goal.invariant-loop-left
 invariant-loop-left l =
-    (sets l.initial.out l.here (prefixes l.count l.n) ≡ sets l.out l.here (prefixes l.left l.rest)) × (l.left ≤ l.count) × (length l.out ≡ length l.initial.out)
+    (sets l.initial.out l.here (prefixes l.count l.n) ≡ sets l.out l.here (prefixes l.left l.rest)) × (l.left ≤ l.count)
+    × (length l.out ≡ length l.initial.out)
 
 abbrev pub decreases-loop-left : goal.decreases-loop-left
 decreases-loop-left l = l.left
