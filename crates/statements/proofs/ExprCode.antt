@@ -15,7 +15,7 @@ use Rattle.model.specs.declared.kinds.Operator.{Operator}
 use Rattle.model.specs.declared.kinds.Operator.TheVariants.{Plus as PLUS, Minus as MINUS, Times as TIMES, Gt as GT, Eq as EQ, And as AND}
 use Rattle.model.specs.declared.kinds.Operator.TheVariants.{Or as OR, Xor as XOR}
 use Rattle.model.specs.Counts.{order, sides_hold, both_hold, temporaries}
-use Rattle.model.proofs.Tables.Goals.{sides-hold}
+use Rattle.model.proofs.Tables.Needs.{sides-hold}
 use Rattle.model.specs.declared.kinds.Order.{Order}
 use Rattle.model.specs.declared.kinds.Order.TheVariants.{LeftFirst, RightFirst, RightStored}
 use Rattle.model.specs.Instruction.{Instruction, plain, operation, ldc, ldl, stl, ajw, eqc, rev, function_code, operation_code}

@@ -16,7 +16,7 @@ use Rattle.model.specs.Syntax.{Guards, WHILE, TIME}
 use Rattle.model.specs.Reader.{Scope}
 use Rattle.model.specs.Counts.{order, registers, temporaries, guard_words, both_hold, guard_asks, need, most_need, sum_need, pair_need, guard_need}
 use Rattle.model.proofs.Cases.{by_bool}
-use Rattle.model.proofs.Tables.Goals.{sides-hold}
+use Rattle.model.proofs.Tables.Needs.{sides-hold}
 use Rattle.counts.specs.Words.{asked}
 use Rattle.counts.specs.declared.Role.{Role}
 use Rattle.counts.specs.declared.Role.TheVariants.{Value as ForValue, Output as ForOutput, Guard as ForGuard, Wait as ForWait}

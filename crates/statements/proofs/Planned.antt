@@ -9,7 +9,7 @@ use Rattle.model.specs.Limits.{word_limit}
 use Rattle.model.specs.Syntax.{Site, Expr, Stmt, Stmts, Pairs, Guard, Guards}
 use Rattle.model.specs.Reader.{Scope}
 use Rattle.model.specs.Counts.{order, registers, temporaries, need}
-use Rattle.model.proofs.Tables.Goals.{registers-three, sides-hold}
+use Rattle.model.proofs.Tables.Needs.{registers-three, sides-hold}
 use Rattle.numbers.specs.declared.Value.{Value}
 use Rattle.plan.specs.Entries.{next_of, entry, next_in, registers_in, stored_in, plan_at}
 use Rattle.plan.specs.Extents.{extended, extent_in}
