@@ -7,7 +7,6 @@ use mathlib.Core.Option.{Option, none, some}
 use lib.ListN.{drop}
 use Rattle.model.specs.Reader.{Reader, pure, Scope, read_many}
 use Rattle.model.specs.Usage.{Usage, nothing, ◌⊕◌, or_else}
-use Rattle.model.specs.Counts.{processes}
 use Rattle.table.specs.Stmts.{first_among, added, part_at, most_from, part_uses, most_use, with_stmt}
 use Rattle.numbers.specs.declared.kinds.Head.{Head}
 use Rattle.table.specs.declared.stmt.Names.{Names}

@@ -16,7 +16,7 @@ use Rattle.model.specs.Counts.{processes, need}
 use Rattle.table.specs.Stmts.{leaf, simple_at, Fits, stmt_at, inside_of, simple_uses, stmt_uses, inside_uses_of}
 use Rattle.table.specs.declared.stmt.Names.{Names}
 use Rattle.table.specs.declared.stmt.StmtRead.{StmtRead}
-use Rattle.table.specs.declared.stmt.StmtRead.TheVariants.{Stmt, Refused as NoStmt}
+use Rattle.table.specs.declared.stmt.StmtRead.TheVariants.{Refused as NoStmt}
 use Rattle.table.specs.Scopes.{Scoped}
 use Rattle.table.proofs.SameItems.{Bytes, NumberAt, Same, gives, turns, onwards, one_same, deep-same, stmt-kind-is}
 use Rattle.table.proofs.SameExpr.{Numbers}
