@@ -10,7 +10,7 @@ use Rattle.assembler.proofs.Assembled.{size_is, places-are}
 use Rattle.assembler.proofs.place.Goals as goal
 
 pub loop-i-init : goal.loop-i-init
-loop-i-init c = (simp sub-zero, simp sub-zero, omega arith, omega arith, c.all-1.given.0.1)
+loop-i-init c = (simp sub-zero, simp sub-zero, omega arith, omega arith, c.told-places)
 
 pub loop-i-preserved : goal.loop-i-preserved
 unfolding sized placed
@@ -32,5 +32,5 @@ returns c =
     record {
       made = (size, places);
       size = λ xs h. size ∙ size_is xs c.args.count c.args.list.now h;
-      places = λ xs h. rw places (places-are xs c.args.count c.args.list.now h c.args.places.now c.all-1.given.0.1);
+      places = λ xs h. rw places (places-are xs c.args.count c.args.list.now h c.args.places.now c.told-places);
     }

@@ -1,7 +1,4 @@
 -- `statements::generate` meets its contract. Assumes nothing.
-use borrow.Author.Rules.{rules}
-use Rattle.statements.proofs.generate.Statement.{statement}
-use Rattle.statements.proofs.generate.Tie as tie
 use Prim.Native.Nat.{ℕ, ◌+◌, ◌-◌, ◌≤◌}
 use native.Mathlib.Omega.{arith}
 use native.Mathlib.Nat.{mod-eq_of_lt}
@@ -20,6 +17,7 @@ use Rattle.statements.specs.Kinds.{stmt_into}
 use Rattle.statements.specs.Tables.{no_names, table_into}
 use Rattle.statements.proofs.Scoping.{within-names}
 use Rattle.statements.proofs.TableCode.{facts-are, outside-few, table-code}
+use Rattle.statements.proofs.generate.Goals as goal
 
 -- no name in scope: there is room for all
 no_names_lem : (w : ℕ) → Scoped 33 (record { depth = 32; w = w; variables = 0; channels = 0 }) (replicate 2112 0) no_names
@@ -46,26 +44,15 @@ table_of s plan f o l outside i po pi e = ap code_of e ∙ rw (po, pi)
 planned : (s p q : List ℕ) (f g : Facts) (o : List ℕ) {c : Code} → p ≡ q → f ≡ g → c ≡ table_into p s f o → c ≡ table_into q s g o
 planned s p q f g o e h is = is ∙ rw (e, h)
 
-returns : tie.Need-returns
+pub returns : goal.returns
 returns c plan q is answer few =
-    let sk = c.before.before.before in
-    let ski = sk.before in
-    let en = ski.before in
-    let p = en.before.before in
-    let ssk = p.before in
     let f = facts-are _ _ q answer is in
-    let o = p.plus.ensures in
-    let small : p.plus.result ≤ name_limit =
-    rw (o, f) (let l = outside-few _ q is in let e : low (q.inputs + q.outputs) ≡ q.inputs + q.outputs = mod-eq_of_lt (omega arith) in
+    let small : c.plus-outside.result ≤ name_limit =
+    rw (c.plus-outside.ensures, f) (let l = outside-few _ q is in
+    let e : low (q.inputs + q.outputs) ≡ q.inputs + q.outputs = mod-eq_of_lt (omega arith) in
     rw e (omega arith)) in
-    let e = en.enter.ensures in
-    let r = rw e.0 at c.statement.ensures in
-    let m = (within-names Channels _ _ 32 _ _ small e.1 r no_names (no_names_lem _)).0 in
-    let t = table_of _ _ _ _ _ _ _ o (sk.skip2.ensures ∙ ap (next_of _) ski.skip.ensures) m in
-    let z = planned _ _ _ _ _ _ plan f t ∙ table-code _ q (λ y. (ssk.shared-slice-known.given y).fits) is few _ in
+    let r = rw c.enter-scope.ensures.scope at c.statement-end.ensures in
+    let m = (within-names Channels _ _ 32 _ _ small c.enter-scope.ensures.names r no_names (no_names_lem _)).0 in
+    let t = table_of _ _ _ _ _ _ _ c.plus-outside.ensures (c.skip-2.ensures ∙ ap (next_of _) c.skip.ensures) m in
+    let z = planned _ _ _ _ _ _ plan f t ∙ table-code _ q (λ y. (c.type_inv.table y).fits) is few _ in
     (ap (λ x. x.here) z, ap (λ x. x.list) z)
-
-pub generate-spec : {M : Type 1} → statement M
-generate-spec =
-    tie.close (tie.spec (λ c κs. search rules) (λ c κs. search rules) (λ c κs. search rules) (λ c κs. search rules)
-    (λ c κs. search rules) returns)
