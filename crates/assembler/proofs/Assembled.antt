@@ -18,7 +18,8 @@ use Rattle.model.proofs.Coding.RoundTrip.{with_prefixes-length, fewest-fits}
 use Rattle.instruction.specs.Coded.{coded}
 use Rattle.instruction.proofs.Stores.{sets-append}
 use Rattle.instruction.proofs.Decodes.{coded-is}
-use Rattle.assembler.specs.Entries.{plain_entry, distance_entry, entry_of, entries_of, byte_in, operand_in, distance_in, reached_in, user_in}
+use Rattle.assembler.specs.Entries.{plain_entry, distance_entry, entry_of, entries_of, byte_in, operand_in, distance_in, reached_in}
+use Rattle.assembler.specs.Entries.{user_in}
 use Rattle.assembler.specs.Places.{prefixes_in, sized, placed, place_in, operand_by, wrote, within}
 use Rattle.assembler.specs.Listed.{Listed, PlacesOf}
 

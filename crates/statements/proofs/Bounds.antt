@@ -10,10 +10,12 @@ use Rattle.model.specs.Reader.{Scope}
 use Rattle.model.specs.Counts.{order, temporaries, both_hold}
 use Rattle.model.specs.declared.kinds.Order.{Order}
 use Rattle.model.specs.declared.kinds.Order.TheVariants.{LeftFirst, RightFirst, RightStored}
-use Rattle.model.specs.Scheme.{operator_size, sides_size, expr_size, wrap_size, whole_size, how_many, size, size_all, size_par, size_ends, size_pairs}
+use Rattle.model.specs.Scheme.{operator_size, sides_size, expr_size, wrap_size, whole_size, how_many, size, size_all, size_par, size_ends}
+use Rattle.model.specs.Scheme.{size_pairs}
 use Rattle.model.specs.Scheme.{size_enable, size_disable, size_branches, both_size, enable_size, disable_size, input_size}
 use Rattle.statements.proofs.Spelled.{ExprAt, constant_at, variable_at, not_at, binary_at, StmtAt, skip_at, stop_at, assign_at, input_at}
-use Rattle.statements.proofs.Spelled.{output_at, var_at, chan_at, seq_at, par_at, if_at, while_at, alt_at, time_at, wait_at, StmtsAt, no_stmt_at}
+use Rattle.statements.proofs.Spelled.{output_at, var_at, chan_at, seq_at, par_at, if_at, while_at, alt_at, time_at, wait_at, StmtsAt}
+use Rattle.statements.proofs.Spelled.{no_stmt_at}
 use Rattle.statements.proofs.Spelled.{stmts_at, PairsAt, no_pair_at, pair_at, GuardAt, input_guard_at, skip_guard_at, GuardsAt, no_guard_at}
 use Rattle.statements.proofs.Spelled.{time_guard_at, guards_at}
 
@@ -76,7 +78,8 @@ module _ (s : List ℕ) where
         wrap-small (both_hold t e),
       )
 
-  guard-bound : {w : Scope} {d i n : ℕ} {g : Guard} → GuardAt s d w i g n → enable_size g + disable_size g + input_size g + 2 + 80 * i ≤ 80 * n
+  guard-bound : {w : Scope} {d i n : ℕ} {g : Guard} → GuardAt s d w i g n →
+      enable_size g + disable_size g + input_size g + 2 + 80 * i ≤ 80 * n
   unfolding enable_size disable_size input_size
   guard-bound (input_guard_at k e c x) = omega (arith, k.ahead, whole-bound e, c.there.ahead, x.there.ahead)
   guard-bound (skip_guard_at k e) = omega (arith, k.ahead, whole-bound e)

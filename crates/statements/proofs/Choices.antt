@@ -29,7 +29,8 @@ use Rattle.expressions.specs.Names.{Names}
 use Rattle.expressions.specs.Exprs.{written}
 use Rattle.expressions.specs.Simples.{in_into, input_into}
 use Rattle.statements.specs.Stmts.{Open, no_ends}
-use Rattle.statements.specs.Alts.{waiting_into, guard_into, guarded, is_timed, statement_of, next_guard, timed_in, enable_into, disable_into}
+use Rattle.statements.specs.Alts.{waiting_into, guard_into, guarded, is_timed, statement_of, next_guard, timed_in, enable_into}
+use Rattle.statements.specs.Alts.{disable_into}
 use Rattle.statements.specs.Alts.{branch_input, choice_into, choices_into, guards_into, front_into, alt_into}
 use Rattle.model.specs.declared.kinds.StmtKind.TheVariants.{Alt}
 use Rattle.model.specs.declared.kinds.GuardKind.{GuardKind}
@@ -81,7 +82,8 @@ module _ (word : Site → ℕ) (workspace : ℕ → ℕ) (s plan : List ℕ) whe
   disable-more (guards_at (time_guard_at k t x) a g) = omega (arith, disable-more g)
 
   -- the plan tells where a guard's statement stands, and so the next guard and whether there is a time guard
-  statement-is : {d i n : ℕ} {sc : M.Scope} {g : Syntax.Guard} (a : GuardAt s d sc i g n) → PlannedGuard s plan a → statement_of plan s i ≡ n
+  statement-is : {d i n : ℕ} {sc : M.Scope} {g : Syntax.Guard} (a : GuardAt s d sc i g n) → PlannedGuard s plan a →
+      statement_of plan s i ≡ n
   unfolding statement_of
   statement-is (input_guard_at k t ch v) told = rw (k.value, k.is, told.0.next, next-is s ch.there, next-is s v.there) refl
   statement-is (skip_guard_at k t) told = rw (k.value, k.is, told.0.next) refl
@@ -312,7 +314,8 @@ module _ (word : Site → ℕ) (workspace : ℕ → ℕ) (s plan : List ℕ) whe
     -- the same, and the guards behind it
     choice-more : {k n z p : ℕ} {y : Stmt} (i m : ℕ) (kind : GuardKind) (op : Operation) (q choice over dis h j : ℕ) (e o : List ℕ)
         (G F D R : List Instruction) {C A : List Instruction} → C ≡ G ++ disabling op h choice ++ D
-        → A ≡ F ++ code word w j y ++ distance I.j over (j + size y) ∷ R → by_guard kind DISC DISS DIST ≡ operation_code op → h + length F ≡ j
+        → A ≡ F ++ code word w j y ++ distance I.j over (j + size y) ∷ R → by_guard kind DISC DISS DIST ≡ operation_code op →
+        h + length F ≡ j
         → q < length e → Laid workspace w y → need y ≤ word_limit → Room h A → dis + length C ≤ h
         → Begins d ns (w - 1) i m dis o kind G
         → ((o : List ℕ) → branch_input (guard_of m (dis + length G) kind) w ns s (plain_into AJW 1 (at h o)) ≡ written z (emits F (at h o)))
@@ -350,7 +353,8 @@ module _ (word : Site → ℕ) (workspace : ℕ → ℕ) (s plan : List ℕ) whe
         → Room h (code_branches word w h over gs) → dis + length (code_disable word (w - 1) choice h gs) ≤ h
         → Chooses (chosen_by k q choice e i dis h o) k q n over dis h e o (code_disable word (w - 1) choice h gs)
         (code_branches word w h over gs)
-    unfolding PlannedGuards code_branches guard_input input_size need branch_input in_into input_into function_code operation_code operation_into
+    unfolding PlannedGuards code_branches guard_input input_size need branch_input in_into input_into function_code operation_code
+        operation_into
     choices-fill q choice over dis h e o no_guard_at told laid few m r l = none-chosen q choice over dis h e o
     choices-fill {i = i} q choice over dis h e o
         (guards_at {b = y} {gs = gs} (input_guard_at {m = at-channel} {e = x} {c = c} {x = z} k t ch v) a g) told laid few m r l =
@@ -366,7 +370,8 @@ module _ (word : Site → ℕ) (workspace : ℕ → ℕ) (s plan : List ℕ) whe
           local-is word s scope.variables w v,
         )) a told.1
         (λ dis e o m r l. choices-fill (suc q) choice over dis after e o g told.2 laid.1 (omega arith) m r l) m
-    choices-fill {i = i} {n = n} q choice over dis h e o (guards_at {n = at-statement} {b = y} {gs = gs} (skip_guard_at {e = x} k t) a g) told
+    choices-fill {i = i} {n = n} q choice over dis h e o (guards_at {n = at-statement} {b = y} {gs = gs} (skip_guard_at {e = x} k t) a g)
+        told
         laid few m r l =
         let after = h + 1 + 0 + size y + 1 in
         choice-more i at-statement SkipGuard diss q choice over dis h (h + 1 + 0) e o (guard_code word (w - 1) x) (plain ajw 1 ∷ [])
@@ -383,9 +388,11 @@ module _ (word : Site → ℕ) (workspace : ℕ → ℕ) (s plan : List ℕ) whe
         (timing-fills scope (w - 1) dis o k t told.0.0 u told.0.1) (λ o. refl) a told.1
         (λ dis e o m r l. choices-fill (suc q) choice over dis after e o g told.2 laid.1 (omega arith) m r l) m
 
-    pub alt-code : {i n m q k : ℕ} {gs : Guards} (j : ℕ) → KindAt s stmt_kind i Alt n → CountAt s 0 32 n k m → (a : GuardsAt s d sc k m gs q)
+    pub alt-code : {i n m q k : ℕ} {gs : Guards} (j : ℕ) → KindAt s stmt_kind i Alt n → CountAt s 0 32 n k m →
+        (a : GuardsAt s d sc k m gs q)
         → PlannedGuards s plan a → Placed word workspace s plan w j (ALT gs) → Written word workspace s plan (suc d) ns w j i q (ALT gs)
-    unfolding stmt_into inside_into parts_into alt_into front_into guards_into count_in code need function_code operation_code operation_into
+    unfolding stmt_into inside_into parts_into alt_into front_into guards_into count_in code need function_code operation_code
+        operation_into
     alt-code {q = q} {k = k} {gs = gs} j t c a told p o =
         let choice = j + 2 + size_enable gs + 1 + size_disable gs in
         let over = choice + 1 + size_branches gs in

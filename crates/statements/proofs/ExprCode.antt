@@ -2,7 +2,7 @@
 use Prim.Native.Nat.{ℕ, zero, suc, ◌+◌, ◌-◌, ◌≤◌}
 use native.Mathlib.Omega.{arith}
 use native.Mathlib.Nat.{mod-eq_of_lt}
-use mathlib.Core.Path.{◌≡◌, refl, ap, ◌∙◌}
+use mathlib.Core.Path.{◌≡◌, ap, ◌∙◌}
 use mathlib.Core.List.{List, [], ◌∷◌, ◌++◌, append_assoc}
 use mathlib.Core.Option.{some}
 use lib.ListN.{length, get_or, get_elem?}
@@ -15,7 +15,7 @@ use Rattle.model.specs.declared.kinds.Operator.{Operator}
 use Rattle.model.specs.declared.kinds.Operator.TheVariants.{Plus as PLUS, Minus as MINUS, Times as TIMES, Gt as GT, Eq as EQ, And as AND}
 use Rattle.model.specs.declared.kinds.Operator.TheVariants.{Or as OR, Xor as XOR}
 use Rattle.model.specs.Counts.{order, sides_hold, both_hold, temporaries}
-use Rattle.model.proofs.Tables.Goals.{sides-hold}
+use Rattle.model.proofs.Tables.Needs.{sides-hold}
 use Rattle.model.specs.declared.kinds.Order.{Order}
 use Rattle.model.specs.declared.kinds.Order.TheVariants.{LeftFirst, RightFirst, RightStored}
 use Rattle.model.specs.Instruction.{Instruction, plain, operation, ldc, ldl, stl, ajw, eqc, rev, function_code, operation_code}
@@ -24,8 +24,9 @@ use Rattle.table.proofs.SameItems.{operator-is}
 use Rattle.assembler.specs.Entries.{entries_of}
 use Rattle.expressions.specs.Emits.{Code, at, operation_into}
 use Rattle.expressions.specs.Names.{local_of}
-use Rattle.expressions.specs.Exprs.{Wrote, written, code_of, operator_into, constant_into, variable_into, in_order, between_into, behind_into}
-use Rattle.expressions.specs.Exprs.{sides_of, time_and_condition, sides_into, operated_into, expr_into, inner_at, lowering, adjust_into, whole_into}
+use Rattle.expressions.specs.Exprs.{Wrote, written, code_of, operator_into, constant_into, variable_into, in_order, between_into}
+use Rattle.expressions.specs.Exprs.{behind_into}
+use Rattle.expressions.specs.Exprs.{sides_of, time_and_condition, sides_into, operated_into, expr_into, lowering, adjust_into, whole_into}
 use Rattle.expressions.specs.Exprs.{both_into}
 use Rattle.statements.proofs.Spelled.{OneAt, ExprAt, constant_at, variable_at, not_at, binary_at}
 use Rattle.statements.proofs.Planned.{PlannedExpr, holds-few}
@@ -108,7 +109,8 @@ wrapped-fills into n (suc t) more w code few f h o r =
     )
     (ap (written n) (emits-fills (plain ajw m ∷ []) h (A ++ C) o r))
 
-operator-fills : (op : Operator) (h : ℕ) (o : List ℕ) → Room h (operator_code op) → operator_into op (at h o) ≡ filled h (operator_code op) o
+operator-fills : (op : Operator) (h : ℕ) (o : List ℕ) → Room h (operator_code op) →
+    operator_into op (at h o) ≡ filled h (operator_code op) o
 unfolding operator_into operator_code operation_code function_code operation_into
 operator-fills PLUS h o l = emits-at (operator_code PLUS) h o l
 operator-fills MINUS h o l = emits-at (operator_code MINUS) h o l

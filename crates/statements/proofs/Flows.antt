@@ -23,7 +23,6 @@ use Rattle.expressions.specs.Exprs.{written}
 use Rattle.statements.specs.Stmts.{Open, seq_into, pair_into, pairs_into, no_ends, if_into, while_into}
 use Rattle.model.specs.declared.kinds.StmtKind.TheVariants.{Seq, If, While}
 use Rattle.numbers.specs.Kinds.{stmt_kind, count_in}
-use Rattle.instruction.specs.Codes.{J}
 use Rattle.statements.specs.Kinds.{stmt_into, inner_at, inside_into, parts_into}
 use Rattle.statements.proofs.Spelled.{KindAt, ExprAt, CountAt, StmtAt, StmtsAt, no_stmt_at, stmts_at, PairsAt, no_pair_at, pair_at}
 use Rattle.statements.proofs.Planned.{PlannedExpr, PlannedStmt, PlannedStmts, PlannedPairs}

@@ -14,9 +14,10 @@ use Rattle.model.specs.Word.{low}
 use Rattle.model.specs.Syntax.{Site, Expr, constant, variable, binary, Stmt, SKIP, STOP, input, Stmts, no_stmt, stmt, Pairs, Guard}
 use Rattle.model.specs.Syntax.{Guards, WHILE, TIME}
 use Rattle.model.specs.Reader.{Scope}
-use Rattle.model.specs.Counts.{order, registers, temporaries, guard_words, both_hold, guard_asks, need, most_need, sum_need, pair_need, guard_need}
+use Rattle.model.specs.Counts.{order, registers, temporaries, guard_words, both_hold, guard_asks, need, most_need, sum_need, pair_need}
+use Rattle.model.specs.Counts.{guard_need}
 use Rattle.model.proofs.Cases.{by_bool}
-use Rattle.model.proofs.Tables.Goals.{sides-hold}
+use Rattle.model.proofs.Tables.Needs.{sides-hold}
 use Rattle.counts.specs.Words.{asked}
 use Rattle.counts.specs.declared.Role.{Role}
 use Rattle.counts.specs.declared.Role.TheVariants.{Value as ForValue, Output as ForOutput, Guard as ForGuard, Wait as ForWait}
@@ -28,8 +29,10 @@ use Rattle.numbers.specs.Kinds.{stmt_kind, count_in}
 use Rattle.numbers.specs.declared.kinds.Head.{Head}
 use Rattle.numbers.specs.declared.kinds.Head.TheVariants.{Nothing, Condition, Guard as GuardHead}
 use Rattle.statements.proofs.Spelled.{NumeralAt, KindAt, ExprAt, constant_at, variable_at, not_at, binary_at, GuardAt, input_guard_at}
-use Rattle.statements.proofs.Spelled.{skip_guard_at, StmtAt, skip_at, stop_at, assign_at, input_at, output_at, var_at, chan_at, seq_at, par_at}
-use Rattle.statements.proofs.Spelled.{if_at, while_at, alt_at, time_at, wait_at, StmtsAt, no_stmt_at, stmts_at, PairsAt, no_pair_at, pair_at}
+use Rattle.statements.proofs.Spelled.{skip_guard_at, StmtAt, skip_at, stop_at, assign_at, input_at, output_at, var_at, chan_at, seq_at}
+use Rattle.statements.proofs.Spelled.{par_at}
+use Rattle.statements.proofs.Spelled.{if_at, while_at, alt_at, time_at, wait_at, StmtsAt, no_stmt_at, stmts_at, PairsAt, no_pair_at}
+use Rattle.statements.proofs.Spelled.{pair_at}
 use Rattle.statements.proofs.Spelled.{time_guard_at, GuardsAt, no_guard_at, guards_at}
 use Rattle.statements.proofs.Planned.{Tells, entry-tells, next-is, expr-ends, holds-few, InsideExpr, PlannedExpr, PlannedGuard}
 use Rattle.statements.proofs.Planned.{InsideStmt, PlannedStmts, PlannedPairs, PlannedGuards, PlannedStmt}
@@ -169,7 +172,8 @@ module _ (s : List ℕ) where
         let (y, g) = expr-planned left.plan c (omega arith) (f.long ∙ long) in
         let entry = sides_entry left.own (expr_entered d s j left.plan).own in
         let few = sides-hold (order l r) (temporaries l) (temporaries r) in
-        let own-told = entry-tells z (binary op l r) (omega (arith, (expr-ends s c).1)) (omega (arith, few, holds-few s a, holds-few s c)) in
+        let own-told = entry-tells z (binary op l r) (omega (arith, (expr-ends s c).1)) (omega (arith, few, holds-few s a, holds-few s c))
+        in
         expr-own {x = entry} (binary_at k v a c) long (rw (x.needs, x.holds, y.next, y.needs, y.holds) own-told)
         (wider (suc i) z (behind f g (omega arith)) (omega (arith, k.ahead, v.there.ahead)) (omega arith) g.inside)
         (rw (k.value, k.is)
@@ -311,15 +315,15 @@ module _ (s : List ℕ) where
       stmt-planned p (seq_at {d = d} {at = i} {m = j} {p = n} {k = q} k c a) deep long l =
           stmt-own (parts_by q Nothing false d j 2 p) (seq_at k c a) long l
           (ahead (suc i) (past k c.there) (stmts-planned false 2 p a (omega arith) long l c.there.inside))
-          (rw (k.value, k.is, c.there.value, c.ranges))
+          (rw (k.value, k.is, c.there.value, c.fits))
       stmt-planned p (par_at {d = d} {at = i} {m = j} {p = n} {k = q} k c a) deep long l =
           stmt-own (parts_by q Nothing true d j 2 p) (par_at k c a) long l
           (ahead (suc i) (past k c.there) (stmts-planned true 2 p a (omega arith) long l c.there.inside))
-          (rw (k.value, k.is, c.there.value, c.ranges))
+          (rw (k.value, k.is, c.there.value, c.fits))
       stmt-planned p (if_at {d = d} {at = i} {m = j} {p = n} {k = q} k c a) deep long l =
           stmt-own (parts_by q Condition false d j 2 p) (if_at k c a) long l
           (ahead (suc i) (past k c.there) (pairs-planned 2 p a (omega arith) long (omega arith) c.there.inside))
-          (rw (k.value, k.is, c.there.value, c.ranges))
+          (rw (k.value, k.is, c.there.value, c.fits))
       stmt-planned p (while_at {d = d} {at = i} {n = j} {m = m} {p = n} {e = t} {b = b} k e a) deep long l =
           let (x, f) = condition-made p e (omega arith) long in
           let (y, g) = stmt-planned (head_measured Condition d s j p).plan a (omega arith) (f.long ∙ long) (omega arith) in
@@ -331,7 +335,7 @@ module _ (s : List ℕ) where
       stmt-planned p (alt_at {d = d} {at = i} {m = j} {p = n} {k = q} k c a) deep long l =
           stmt-own (parts_by q GuardHead false d j 4 p) (alt_at k c a) long l
           (ahead (suc i) (past k c.there) (guards-planned 4 p a (omega arith) long (omega arith) c.there.inside))
-          (rw (k.value, k.is, c.there.value, c.ranges))
+          (rw (k.value, k.is, c.there.value, c.fits))
       stmt-planned {w = w} p (time_at {d = d} {at = i} {m = n} {x = v} k x) deep long l =
           let a : StmtAt s (suc d) w i (TIME v) n = time_at k x in
           stmt-own (measured (extended n 2) p) a long l

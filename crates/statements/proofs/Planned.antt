@@ -9,12 +9,13 @@ use Rattle.model.specs.Limits.{word_limit}
 use Rattle.model.specs.Syntax.{Site, Expr, Stmt, Stmts, Pairs, Guard, Guards}
 use Rattle.model.specs.Reader.{Scope}
 use Rattle.model.specs.Counts.{order, registers, temporaries, need}
-use Rattle.model.proofs.Tables.Goals.{registers-three, sides-hold}
+use Rattle.model.proofs.Tables.Needs.{registers-three, sides-hold}
 use Rattle.numbers.specs.declared.Value.{Value}
 use Rattle.plan.specs.Entries.{next_of, entry, next_in, registers_in, stored_in, plan_at}
 use Rattle.plan.specs.Extents.{extended, extent_in}
 use Rattle.statements.proofs.Spelled.{NumeralAt, ExprAt, constant_at, variable_at, not_at, binary_at, StmtAt, skip_at, stop_at, assign_at}
-use Rattle.statements.proofs.Spelled.{input_at, output_at, var_at, chan_at, seq_at, par_at, if_at, while_at, alt_at, time_at, wait_at, StmtsAt}
+use Rattle.statements.proofs.Spelled.{input_at, output_at, var_at, chan_at, seq_at, par_at, if_at, while_at, alt_at, time_at, wait_at}
+use Rattle.statements.proofs.Spelled.{StmtsAt}
 use Rattle.statements.proofs.Spelled.{no_stmt_at, stmts_at, PairsAt, no_pair_at, pair_at, GuardAt, input_guard_at, skip_guard_at, GuardsAt}
 use Rattle.statements.proofs.Spelled.{time_guard_at, no_guard_at, guards_at}
 

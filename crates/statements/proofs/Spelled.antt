@@ -13,11 +13,14 @@ use Rattle.numbers.specs.Items.{groups_at, grouped, value_at}
 use Rattle.numbers.specs.declared.NumberRead.{NumberRead}
 use Rattle.numbers.specs.declared.NumberRead.TheVariants.{Number, Bad}
 use Rattle.model.specs.Syntax.{Site, Expr, constant, variable, NOT, binary, Stmt, SKIP, STOP, assign, input, output, VAR, CHAN, SEQ, PAR}
-use Rattle.model.specs.Syntax.{IF, WHILE, ALT, TIME, WAIT, Stmts, no_stmt, stmt, Pairs, no_pair, pair, Guard, input_guard, skip_guard, Guards}
+use Rattle.model.specs.Syntax.{IF, WHILE, ALT, TIME, WAIT, Stmts, no_stmt, stmt, Pairs, no_pair, pair, Guard, input_guard, skip_guard}
+use Rattle.model.specs.Syntax.{Guards}
 use Rattle.model.specs.Syntax.{time_guard, no_guard, guard}
 use Rattle.model.specs.declared.kinds.Operator.{Operator}
-use Rattle.model.specs.Reader.{Parsed, parsed, fails, Reader, onward, Scope, with_variables, with_channels, read_name, operators, expr_kinds}
-use Rattle.model.specs.Reader.{expr_of, read_expr, read_many, stmt_kinds, stmt_of, read_stmt, read_pair, guard_kinds, guard_of, read_guard, Inner}
+use Rattle.model.specs.Reader.{Parsed, parsed, fails, Reader, onward, Scope, with_variables, with_channels, read_name, operators}
+use Rattle.model.specs.Reader.{expr_kinds}
+use Rattle.model.specs.Reader.{expr_of, read_expr, read_many, stmt_kinds, stmt_of, read_stmt, read_pair, guard_kinds, guard_of, read_guard}
+use Rattle.model.specs.Reader.{Inner}
 use Rattle.model.specs.Reader.{read_number, read_count, one_of, too_deep, any_site, can_input, can_output, applied}
 use Rattle.model.specs.declared.kinds.StmtKind.{StmtKind}
 use Rattle.model.specs.declared.kinds.StmtKind.TheVariants.{Skip, Stop, Assign, Input, Output, Var, Chan, Seq, Par, If, While, Alt}
@@ -248,7 +251,8 @@ module _ (s : List ℕ) (b : Bytes s) where
   module _ (d : ℕ) (inner : (w : Scope) (at : ℕ) → Gives s (StmtAt s d w at) (read_stmt d w at (drop at s))) where
     stmts : (w : Scope) (k at : ℕ) → Gives s (λ ss n. StmtsAt s d w k at ss n) (read_many no_stmt stmt (read_stmt d w) k at (drop at s))
     stmts w k at =
-        many (λ b at n. StmtAt s d w at b n) (λ k ss at n. StmtsAt s d w k at ss n) no_stmt stmt (read_stmt d w) (inner w) (λ at. no_stmt_at)
+        many (λ b at n. StmtAt s d w at b n) (λ k ss at n. StmtsAt s d w k at ss n) no_stmt stmt (read_stmt d w) (inner w)
+        (λ at. no_stmt_at)
         (λ k b ss at n m h g. stmts_at h g) k at
 
     abbrev within : Scope → Inner

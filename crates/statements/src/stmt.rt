@@ -4,8 +4,8 @@ ghost use Rattle.model.specs.Limits.{part_limit};
 ghost use Rattle.expressions.specs.Emits.{at as standing};
 ghost use Rattle.expressions.specs.Exprs.{wrote};
 ghost use Rattle.expressions.specs.Names.{WithNames};
-ghost use Rattle.statements.specs.Stmts.{Makes, under, first_into, initial_into, declaration_into, seq_into, pair_into, close_into, if_into};
-ghost use Rattle.statements.specs.Stmts.{while_into, start_into, branch_into, branches_into, forked, fork_into, par_into};
+ghost use Rattle.statements.specs.Stmts.{Makes, under, first_into, initial_into, declaration_into, seq_into, pair_into, close_into};
+ghost use Rattle.statements.specs.Stmts.{if_into, while_into, start_into, branch_into, branches_into, forked, fork_into, par_into};
 ghost use Rattle.statements.specs.Alts.{chosen, branch_input, choice_into, guards_into, alt_into};
 ghost use Rattle.statements.specs.Kinds.{FewParts, stmt_into, inner_at, parts_into, inside_into};
 

@@ -1,5 +1,4 @@
 -- `instruction::enough` meets its contract. Assumes nothing.
-use borrow.Author.Rules.{rules}
 use borrow.Author.Tests.{lt-ltb, le-ltb, le-leb}
 use native.Mathlib.Omega.{arith}
 use Prim.Native.Nat.{◌≤◌}

@@ -4,7 +4,6 @@ use Prim.Native.Nat.{ℕ, zero, suc, ◌+◌, ◌-◌, ◌^◌, ◌≤◌, ◌<�
 use native.Mathlib.Omega.{arith}
 use native.Mathlib.Numerals.{add-one}
 use native.Mathlib.Nat.{pow-suc, pow-le-pow_right}
-use borrow.Author.Rules.{rules}
 use mathlib.Core.Path.{◌≡◌, refl, sym, ◌∙◌}
 use mathlib.Core.Bool.{cond}
 use Rattle.model.specs.Prefix.{enough, fewest_from, fewest}
@@ -27,7 +26,10 @@ loop-prefixes-init c = (refl, refl, omega arith)
 pub returns-then-enough : goal.returns-then-enough
 returns-then-enough c =
     let more : 0 < 7 - c.loop-prefixes.prefixes = omega arith in
-    record { said = sym (c.loop-prefixes.invariant.0 ∙ turn _ _ _ more ∙ simp (sym c.enough.ensures ∙ c.if-enough.true)); bound = omega arith }
+    record {
+      said = sym (c.loop-prefixes.invariant.0 ∙ turn _ _ _ more ∙ simp (sym c.enough.ensures ∙ c.if-enough.true));
+      bound = omega arith;
+    }
 
 pub overflow_mul-limit : goal.overflow_mul-limit
 overflow_mul-limit c =

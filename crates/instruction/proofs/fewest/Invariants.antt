@@ -1,13 +1,8 @@
 -- `instruction::fewest` meets its contract. The loop's invariant: the fewest are the fewest from here on, and the limit is that of so many
 -- prefixes. The measure is how many may come. Assumes nothing.
-use Prim.Native.Nat.{ℕ, zero, suc, ◌+◌, ◌-◌, ◌^◌, ◌≤◌, ◌<◌}
-use native.Mathlib.Omega.{arith}
-use native.Mathlib.Numerals.{add-one}
-use native.Mathlib.Nat.{pow-suc, pow-le-pow_right}
-use borrow.Author.Rules.{rules}
-use mathlib.Core.Path.{◌≡◌, refl, sym, ◌∙◌}
-use mathlib.Core.Bool.{cond}
-use Rattle.model.specs.Prefix.{enough, fewest_from, fewest}
+use Prim.Native.Nat.{suc, ◌-◌, ◌^◌, ◌≤◌}
+use mathlib.Core.Path.{◌≡◌}
+use Rattle.model.specs.Prefix.{fewest_from, fewest}
 use Rattle.instruction.proofs.fewest.Given as goal
 
 abbrev pub invariant-loop-prefixes : goal.invariant-loop-prefixes

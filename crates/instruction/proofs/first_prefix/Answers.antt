@@ -1,5 +1,4 @@
 -- `instruction::first_prefix` meets its contract. Assumes nothing.
-use borrow.Author.Rules.{rules}
 use borrow.Author.Tests.{lt-ltb, le-ltb}
 use Rattle.model.specs.Prefix.{first_prefix}
 use Rattle.instruction.proofs.first_prefix.Goals as goal

@@ -1,5 +1,4 @@
 -- `instruction::put` meets its contract. Assumes nothing.
-use borrow.Author.Rules.{rules}
 use mathlib.Core.Path.{sym}
 use lib.Seq.{set_out}
 use Rattle.instruction.proofs.put.Goals as goal

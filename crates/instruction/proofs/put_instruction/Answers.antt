@@ -1,6 +1,5 @@
 -- `instruction::put_instruction` meets its contract. Assumes nothing.
 use Prim.Native.Nat.{◌+◌, ◌*◌, ◌/◌, ◌%◌}
-use borrow.Author.Rules.{rules}
 use Rattle.model.specs.Prefix.{shifted}
 use Rattle.instruction.specs.Coded.{coded}
 use Rattle.instruction.proofs.Prefixes.{stored-before}

@@ -1,12 +1,7 @@
 -- `instruction::put_prefixes` meets its contract. The loop's invariant: what is to be stored from the start is what is left to be stored
 -- here, and no more is left than there was. The measure is how many prefixes are left. Assumes nothing.
-use Prim.Native.Nat.{◌≤◌}
 use native.Mathlib.Omega.{arith}
-use borrow.Author.Rules.{rules}
-use mathlib.Core.Path.{◌≡◌, refl, sym, ◌∙◌}
-use lib.ListN.{length}
-use lib.Seq.{sets}
-use Rattle.model.specs.Prefix.{prefixes}
+use mathlib.Core.Path.{sym, ◌∙◌}
 use Rattle.instruction.proofs.Prefixes.{none, one, turn-stored}
 use Rattle.instruction.proofs.put_prefixes.Goals as goal
 

@@ -1,5 +1,4 @@
 -- `instruction::shift` meets its contract. Assumes nothing.
-use borrow.Author.Rules.{rules}
 use borrow.Author.Tests.{lt-ltb, le-ltb}
 use Rattle.model.specs.Prefix.{shifted}
 use Rattle.instruction.proofs.shift.Goals as goal

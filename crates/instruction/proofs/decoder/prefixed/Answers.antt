@@ -1,5 +1,4 @@
 -- `instruction::decoder::prefixed` meets its contract. Assumes nothing.
-use borrow.Author.Rules.{rules}
 use borrow.Author.Tests.{ne_eqb}
 use native.Mathlib.Omega.{arith}
 use Rattle.instruction.proofs.decoder.prefixed.Goals as goal

@@ -1,0 +1,7 @@
+-- `expressions::emit::plain` meets its contract. Assumes nothing.
+use Rattle.expressions.specs.Emits.{plain_into}
+use Rattle.expressions.proofs.emit.plain.Goals as goal
+
+pub returns : goal.returns
+unfolding plain_into
+returns c = rw (← c.plain_entry.ensures) c.put.ensures

@@ -1,0 +1,7 @@
+-- `expressions::words::channel` meets its contract. Assumes nothing.
+use Rattle.expressions.specs.Names.{local_of}
+use Rattle.expressions.proofs.words.channel.Goals as goal
+
+pub returns : goal.returns
+unfolding local_of
+returns c vs h = simp (← c.word_of.ensures vs h) c.less.ensures

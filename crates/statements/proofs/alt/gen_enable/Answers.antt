@@ -1,0 +1,27 @@
+-- `statements::alt::gen_enable` meets its contract. The loop's invariant, for all names that the array shows: enabling the guards that are
+-- left, behind the code so far, gives what enabling all of them gives. Assumes nothing.
+use native.Mathlib.Omega.{arith}
+use mathlib.Core.Path.{◌≡◌, sym}
+use Prim.Native.Nat.{suc, ◌-◌}
+use Rattle.statements.specs.Alts.{enable_into}
+use Rattle.statements.proofs.alt.gen_enable.Goals as goal
+
+pub loop-left-preserved : goal.loop-left-preserved
+unfolding enable_into
+loop-left-preserved c ns h =
+    let e : c.loop-left.left ≡ suc (c.loop-left.left - 1) = omega (arith, c.loop-left-test.true) in
+    rw (
+      e,
+      enable_into,
+      ← c.gen_guard-guard.ensures ns h,
+      ← c.by_kind-code.ensures,
+      ← c.operation-here.ensures,
+      ← c.next_guard-at.ensures,
+    )
+    at (c.loop-left.invariant ns h)
+
+pub returns : goal.returns
+unfolding enable_into
+returns c ns h =
+    let e : c.loop-left.left ≡ 0 = omega (arith, c.loop-left-test.false) in
+    rw e at (sym (c.loop-left.invariant ns h))
