@@ -10,11 +10,15 @@ use Rattle.alternative.proofs.disable.disable_channel.Goals as goal
 pub returns-then-cpu-eq0 : goal.returns-then-cpu-eq0
 unfolding disable_channel
 returns-then-cpu-eq0 c o =
-    takes_none o _ (silent (ends (λ x. rw (eq-eqb _ _ c.if-cpu-eq0.true, c.stack.ensures) (lands _ c.requires.size_in_bounds.1 c.requires.size_in_bounds.3))))
+    takes_none o _ (silent (ends (λ x. rw (eq-eqb _ _ c.if-cpu-eq0.true, c.stack.ensures)
+    (lands _ c.requires.size_in_bounds.1 c.requires.size_in_bounds.3))))
 
 pub disable_held-requires : goal.disable_held-requires
-disable_held-requires c =
-    (c.requires.size_in_bounds.0, peek-inside c.args.cpu.c c.args.memory.now c.args.setup c.args.cpu c.requires.size_in_bounds.2 c.peek.ensures c.in-Value.is)
+disable_held-requires c = (
+  c.requires.size_in_bounds.0,
+  peek-inside c.args.cpu.c c.args.memory.now c.args.setup c.args.cpu c.requires.size_in_bounds.2
+      c.peek.ensures c.in-Value.is,
+)
 
 pub returns-then-held_at-lt-START_CHANNELS : goal.returns-then-held_at-lt-START_CHANNELS
 unfolding disable_channel disable_ready
@@ -38,4 +42,8 @@ returns-else-held_at-lt-START_CHANNELS c o =
 pub returns-in-Fault : goal.returns-in-Fault
 unfolding disable_channel disable_ready
 returns-in-Fault c o =
-    takes_none o _ (silent (faulty (λ x. rw (ne_eqb _ _ c.if-cpu-eq0.false, c.peek.ensures c.args.setup c.requires.size_in_bounds.2 x _, c.in-Fault.is))))
+    takes_none o _ (silent (faulty (λ x. rw (
+      ne_eqb _ _ c.if-cpu-eq0.false,
+      c.peek.ensures c.args.setup c.requires.size_in_bounds.2 x _,
+      c.in-Fault.is,
+    ))))

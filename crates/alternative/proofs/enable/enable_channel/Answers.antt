@@ -11,7 +11,8 @@ pub returns-then-cpu-eq0 : goal.returns-then-cpu-eq0
 unfolding enable_channel
 returns-then-cpu-eq0 c o =
     takes_none o _
-    (silent (ends (λ x. rw (eq-eqb _ _ c.if-cpu-eq0.true, c.stack-r.ensures) (lands _ c.requires.size_in_bounds.1 c.requires.size_in_bounds.3))))
+    (silent (ends (λ x. rw (eq-eqb _ _ c.if-cpu-eq0.true, c.stack-r.ensures)
+    (lands _ c.requires.size_in_bounds.1 c.requires.size_in_bounds.3))))
 
 pub returns-then-held_at-lt-START_CHANNELS : goal.returns-then-held_at-lt-START_CHANNELS
 unfolding enable_channel enable_ready set_ready

@@ -12,7 +12,12 @@ use Rattle.channel.proofs.receiver.input.Goals as goal
 
 pub returns-then-cpu-ne-WORD_BYTES : goal.returns-then-cpu-ne-WORD_BYTES
 unfolding input_message
-returns-then-cpu-ne-WORD_BYTES c = record { said = λ x. rw (ne_eqb _ _ c.if-cpu-ne-WORD_BYTES.true); keeps = refl; keeps_held = refl; long = refl }
+returns-then-cpu-ne-WORD_BYTES c = record {
+  said = λ x. rw (ne_eqb _ _ c.if-cpu-ne-WORD_BYTES.true);
+  keeps = refl;
+  keeps_held = refl;
+  long = refl;
+}
 
 pub returns-then-k-ge-START_CHANNELS : goal.returns-then-k-ge-START_CHANNELS
 unfolding input_message input_word
@@ -32,7 +37,8 @@ returns-in-Value c =
     record {
       said = λ x.
           rw (eq-eqb _ _ c.if-cpu-ne-WORD_BYTES.false, o.0, ← o.1)
-          (took _ _ _ _ _ c.requires.size_in_bounds.2 (c.swap.ensures.held, c.swap.ensures.holds) _ c.in-Value.is c.requires.size_in_bounds.1 (omega arith) _);
+          (took _ _ _ _ _ c.requires.size_in_bounds.2
+          (c.swap.ensures.held, c.swap.ensures.holds) _ c.in-Value.is c.requires.size_in_bounds.1 (omega arith) _);
       keeps = tt;
       keeps_held = tt;
       long = length-set c.args.held.now c.held_at-k.result false;
