@@ -7,7 +7,8 @@ use lib.ListN.{length, get_or, set}
 use native.Mathlib.Omega.{arith}
 use lib.Seq.{set-set, set-get_or}
 use lib.Dec.{ltb, leb-zero}
-use Rattle.model.specs.Machine.{World, Act, Result, done, faults, next, ◌>>◌, return, set_registers, running, queueing, space_of, memory_size}
+use Rattle.model.specs.Machine.{World, Act, Result, done, faults, next, ◌>>◌, return, set_registers, running, queueing, space_of}
+use Rattle.model.specs.Machine.{memory_size}
 use Rattle.model.specs.Machine.{poke, test_place, link_word, resume, take_front, release, enqueue, join}
 use Rattle.model.specs.Word.{low}
 use Rattle.model.specs.Execute.{jump}

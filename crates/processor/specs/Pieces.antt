@@ -1,6 +1,7 @@
 -- Pieces of the model's actions that are functions of their own.
 use Rattle.std.specs.Prelude.{ℕ, cond, eqb}
-use Rattle.model.specs.Machine.{Act, ◌>>=◌, ◌>>◌, registers, set_registers, goto, work, peek, poke, test_place, resume_word, state_word, name_of}
+use Rattle.model.specs.Machine.{Act, ◌>>=◌, ◌>>◌, registers, set_registers, goto, work, peek, poke, test_place, resume_word, state_word}
+use Rattle.model.specs.Machine.{name_of}
 use Rattle.model.specs.Machine.{space_of, release, join, return}
 use Rattle.model.specs.Alternative.{is_alt_state, ready, waiting}
 use Rattle.model.specs.Run.{land, waking}

@@ -136,7 +136,8 @@ module _ (u : Setup) (x : Rest) (r : Cpu) (l : List ℕ) (k f : ℕ) where
       ap (λ (q : Result Stop). next (next q (λ s. do poke (time_link_word r.workspace) s.at; link s.before (name_of r.workspace)))
       (λ n. release_at 0)) (walked (Later t) size h e)
 
-  pub sleeps-fault : (size t : ℕ) → memory_size u ≡ size → {j : FaultKind} → NotWalked j ≡ walk_in (suc size) size l (Later t) f (from_front f)
+  pub sleeps-fault :
+      (size t : ℕ) → memory_size u ≡ size → {j : FaultKind} → NotWalked j ≡ walk_in (suc size) size l (Later t) f (from_front f)
       → sleep_release t (world (timing k f x) u r l) ≡ faults j
   unfolding sleep
   sleeps-fault size t h e =
@@ -181,7 +182,8 @@ begin-shape x u r l t p =
     let a = state_word r.workspace in
     let b = time_link_word r.workspace in
     next-next (poke a enabling (world x u r l)) _ _
-    ∙ after-poke (λ q. q) x u (landing (do q ← registers; poke (time_link_word q.workspace) time_not_set)) (poke b time_not_set) a enabling r l
+    ∙ after-poke (λ q. q) x u (landing (do q ← registers; poke (time_link_word q.workspace) time_not_set))
+    (poke b time_not_set) a enabling r l
     (λ m. poke-lands x u r m t p b time_not_set)
 
 -- two words are written, and the process goes on where it is

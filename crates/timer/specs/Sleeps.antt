@@ -1,7 +1,8 @@
 -- Pieces of the clock's operations that are functions of their own, and what such a function promises.
 use Rattle.std.specs.Prelude.{ℕ, ◌≤◌, ◌≡◌, cond, List, eqb}
 use Rattle.model.specs.Word.{after, not_process}
-use Rattle.model.specs.Machine.{Act, ◌>>=◌, ◌>>◌, return, registers, memory_size, peek, poke, state_word, time_link_word, time_word, name_of}
+use Rattle.model.specs.Machine.{Act, ◌>>=◌, ◌>>◌, return, registers, memory_size, peek, poke, state_word, time_link_word, time_word}
+use Rattle.model.specs.Machine.{name_of}
 use Rattle.model.specs.Machine.{release}
 use Rattle.model.specs.Alternative.{ready, select}
 use Rattle.model.specs.Timer.{time_set, time_not_set, link, sleep, alt_waits, wait_time, leave_timer}

@@ -7,7 +7,7 @@ use borrow.Author.Tests.{ltb-true}
 use lib.ListN.{get_or, set, length-set}
 use lib.Seq.{drop-set-lt}
 use lib.Dec.{ltb}
-use Rattle.model.specs.Machine.{◌>>◌, ◌>>=◌, World, Act, done, faults, memory_size, queueing, poke, link_word, enqueue}
+use Rattle.model.specs.Machine.{◌>>◌, World, Act, done, faults, memory_size, queueing, poke, link_word, enqueue}
 use Rattle.model.specs.declared.Cpu.{Cpu}
 use Rattle.model.specs.declared.Setup.{Setup}
 use Rattle.model.specs.declared.FaultKind.{FaultKind}

@@ -6,7 +6,8 @@ use mathlib.Core.List.{List}
 use borrow.Author.Tests.{ltb-true}
 use lib.ListN.{get_or, set}
 use lib.Dec.{ltb, eqb}
-use Rattle.model.specs.Machine.{◌>>◌, ◌>>=◌, World, Act, next, return, registers, peek, poke, space_of, state_word, time_link_word, time_word}
+use Rattle.model.specs.Machine.{◌>>◌, ◌>>=◌, World, Act, next, return, registers, peek, poke, space_of, state_word, time_link_word}
+use Rattle.model.specs.Machine.{time_word}
 use Rattle.model.specs.Alternative.{waiting}
 use Rattle.model.specs.Timer.{time_set, wake_one}
 use Rattle.model.specs.declared.Cpu.{Cpu}

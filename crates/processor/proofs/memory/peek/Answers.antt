@@ -1,5 +1,4 @@
 -- `processor::memory::peek` meets its contract. Assumes nothing.
-use borrow.Author.Rules.{rules}
 use borrow.Author.Tests.{lt-ltb, le-ltb}
 use Rattle.model.specs.Machine.{peek}
 use Rattle.processor.proofs.memory.peek.Goals as goal

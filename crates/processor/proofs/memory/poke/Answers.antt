@@ -1,6 +1,5 @@
 -- `processor::memory::poke` meets its contract. Assumes nothing.
 use mathlib.Core.Path.{refl}
-use borrow.Author.Rules.{rules}
 use borrow.Author.Tests.{lt-ltb, le-ltb}
 use Rattle.model.specs.Machine.{poke}
 use Rattle.processor.proofs.memory.poke.Goals as goal

@@ -1,6 +1,5 @@
 -- `processor::memory::swap` meets its contract. Assumes nothing.
 use mathlib.Core.Path.{refl}
-use borrow.Author.Rules.{rules}
 use borrow.Author.Tests.{lt-ltb, le-ltb}
 use Rattle.processor.proofs.memory.swap.Goals as goal
 

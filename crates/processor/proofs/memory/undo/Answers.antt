@@ -1,6 +1,5 @@
 -- `processor::memory::undo` meets its contract. Assumes nothing.
 use mathlib.Core.Path.{sym}
-use borrow.Author.Rules.{rules}
 use lib.Seq.{set_out}
 use Rattle.processor.proofs.memory.undo.Goals as goal
 

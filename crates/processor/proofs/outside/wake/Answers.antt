@@ -1,5 +1,4 @@
 -- `processor::outside::wake` meets its contract. Assumes nothing.
-use borrow.Author.Rules.{rules}
 use mathlib.Core.Path.{◌∙◌}
 use Rattle.processor.proofs.Laws.{like, faulty, join_free, wakes-running, wakes-free}
 use Rattle.processor.proofs.outside.wake.Goals as goal

@@ -1,5 +1,4 @@
 -- `processor::outside::wake_waiting` meets its contract. Assumes nothing.
-use borrow.Author.Rules.{rules}
 use borrow.Author.Tests.{eq-eqb, ne_eqb}
 use Rattle.processor.proofs.Laws.{like, ends}
 use Rattle.processor.proofs.outside.wake_waiting.Goals as goal

@@ -1,5 +1,4 @@
 -- `processor::process::end_process` meets its contract. Assumes nothing.
-use borrow.Author.Rules.{rules}
 use borrow.Author.Tests.{eq-eqb, ne_eqb}
 use Rattle.model.specs.Execute.{end_process}
 use Rattle.processor.proofs.Laws.{like, faulty, poke-release}

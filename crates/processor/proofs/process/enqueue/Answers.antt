@@ -1,5 +1,4 @@
 -- `processor::process::enqueue` meets its contract. Assumes nothing.
-use borrow.Author.Rules.{rules}
 use mathlib.Core.Path.{◌∙◌}
 use Rattle.processor.proofs.Laws.{like, ends, enqueue-behind, enqueue-first}
 use Rattle.processor.proofs.process.enqueue.Goals as goal

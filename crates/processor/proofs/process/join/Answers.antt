@@ -1,5 +1,4 @@
 -- `processor::process::join` meets its contract. Assumes nothing.
-use borrow.Author.Rules.{rules}
 use Rattle.processor.proofs.Laws.{like, join-queues}
 use Rattle.processor.proofs.process.join.Goals as goal
 

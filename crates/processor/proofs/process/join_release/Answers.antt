@@ -1,5 +1,4 @@
 -- `processor::process::join_release` meets its contract. Assumes nothing.
-use borrow.Author.Rules.{rules}
 use Rattle.processor.proofs.Laws.{like, join-behind, join_first}
 use Rattle.processor.proofs.process.join_release.Goals as goal
 

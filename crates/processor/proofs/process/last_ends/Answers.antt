@@ -1,5 +1,4 @@
 -- `processor::process::last_ends` meets its contract. Assumes nothing.
-use borrow.Author.Rules.{rules}
 use Rattle.processor.proofs.Laws.{like, faulty}
 use Rattle.processor.proofs.process.last_ends.Goals as goal
 

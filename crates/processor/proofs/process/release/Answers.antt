@@ -1,5 +1,4 @@
 -- `processor::process::release` meets its contract. Assumes nothing.
-use borrow.Author.Rules.{rules}
 use Rattle.processor.proofs.Laws.{like, faulty, release-takes, release-frees}
 use Rattle.processor.proofs.process.release.Goals as goal
 

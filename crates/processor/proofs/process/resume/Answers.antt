@@ -1,5 +1,4 @@
 -- `processor::process::resume` meets its contract. Assumes nothing.
-use borrow.Author.Rules.{rules}
 use Rattle.model.specs.Machine.{resume, space_of}
 use Rattle.processor.proofs.Laws.{ends, faulty}
 use Rattle.processor.proofs.process.resume.Goals as goal

@@ -1,5 +1,4 @@
 -- `processor::process::start_process` meets its contract. Assumes nothing.
-use borrow.Author.Rules.{rules}
 use Rattle.model.specs.Machine.{name_of}
 use Rattle.model.specs.Execute.{start_process}
 use Rattle.processor.proofs.Laws.{like}

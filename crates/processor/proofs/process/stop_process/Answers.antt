@@ -1,5 +1,4 @@
 -- `processor::process::stop_process` meets its contract. Assumes nothing.
-use borrow.Author.Rules.{rules}
 use Rattle.model.specs.Execute.{stop_process}
 use Rattle.processor.proofs.Laws.{like, poke-release}
 use Rattle.processor.proofs.process.stop_process.Goals as goal

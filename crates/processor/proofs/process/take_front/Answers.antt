@@ -1,5 +1,4 @@
 -- `processor::process::take_front` meets its contract. Assumes nothing.
-use borrow.Author.Rules.{rules}
 use borrow.Author.Tests.{eq-eqb, ne_eqb}
 use Rattle.model.specs.Machine.{take_front, space_of}
 use Rattle.processor.proofs.Laws.{like, faulty}

@@ -1,12 +1,12 @@
 -- `processor::wait::poke_tell` meets its contract. Assumes nothing.
-use borrow.Author.Rules.{rules}
 use Rattle.processor.proofs.Laws.{undid, refused}
 use Rattle.processor.proofs.wait.poke_tell.Goals as goal
 
 pub returns-in-Value : goal.returns-in-Value
 returns-in-Value c u h g =
-    undid _ _ _ h _ c.swap.ensures c.in-Value.is (c.tell_release-step.ensures u h g) c.undo.ensures
+    undid _ _ _ h _ (c.swap.ensures.held, c.swap.ensures.holds) c.in-Value.is (c.tell_release-step.ensures u h g)
+    (c.undo.ensures.same, c.undo.ensures.back)
 
 pub returns-in-Fault : goal.returns-in-Fault
 returns-in-Fault c u h g =
-    refused _ _ _ h c.swap.ensures c.in-Fault.is
+    refused _ _ _ h (c.swap.ensures.held, c.swap.ensures.holds) c.in-Fault.is

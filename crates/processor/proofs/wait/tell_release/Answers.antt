@@ -1,5 +1,4 @@
 -- `processor::wait::tell_release` meets its contract. Assumes nothing.
-use borrow.Author.Rules.{rules}
 use Rattle.model.specs.Machine.{space_of}
 use Rattle.processor.specs.Pieces.{wake_release}
 use Rattle.processor.proofs.Laws.{like, undid, refused}
@@ -8,13 +7,14 @@ use Rattle.processor.proofs.wait.tell_release.Goals as goal
 pub returns-in-Value : goal.returns-in-Value
 unfolding space_of
 returns-in-Value c u h g =
-    like (undid _ _ _ h _ c.swap.ensures c.in-Value.is (c.wake_release-step.ensures u h g) c.undo.ensures)
+    like (undid _ _ _ h _ (c.swap.ensures.held, c.swap.ensures.holds) c.in-Value.is (c.wake_release-step.ensures u h g)
+    (c.undo.ensures.same, c.undo.ensures.back))
     (λ x. rw (← c.alt_state.ensures, c.if-alt_state.true, ← c.state_word-a.ensures))
 
 pub returns-in-Fault : goal.returns-in-Fault
 unfolding space_of
 returns-in-Fault c u h g =
-    like (refused _ _ (wake_release c.args.p c.args.state) {r = c.args.cpu} h c.swap.ensures c.in-Fault.is)
+    like (refused _ _ (wake_release c.args.p c.args.state) {r = c.args.cpu} h (c.swap.ensures.held, c.swap.ensures.holds) c.in-Fault.is)
     (λ x. rw (← c.alt_state.ensures, c.if-alt_state.true, ← c.state_word-a.ensures))
 
 pub returns : goal.returns

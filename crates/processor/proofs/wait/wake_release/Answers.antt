@@ -1,5 +1,4 @@
 -- `processor::wait::wake_release` meets its contract. Assumes nothing.
-use borrow.Author.Rules.{rules}
 use borrow.Author.Tests.{eq-eqb, ne_eqb}
 use Rattle.processor.proofs.Laws.{like}
 use Rattle.processor.proofs.wait.wake_release.Goals as goal

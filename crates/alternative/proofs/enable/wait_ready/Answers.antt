@@ -1,0 +1,24 @@
+-- `alternative::enable::wait_ready` meets its contract. Assumes nothing.
+use borrow.Author.Tests.{eq-eqb, ne_eqb}
+use Rattle.processor.proofs.Laws.{like, ends, faulty}
+use Rattle.processor.proofs.Talking.{lands}
+use Rattle.alternative.proofs.Staying.{poke2-release}
+use Rattle.alternative.proofs.enable.wait_ready.Goals as goal
+
+pub returns-then-s : goal.returns-then-s
+returns-then-s c u h g =
+    ends
+    (λ x.
+    rw (← c.state_word-a.ensures, c.peek.ensures u h x _, c.in-Value.is, eq-eqb _ _ c.if-s.true)
+    (lands _ c.requires.1 (rw g c.requires.2)))
+
+pub returns-else-s : goal.returns-else-s
+returns-else-s c u h g =
+    like (c.poke2_tell.ensures u h g)
+    (λ x.
+    rw (← c.state_word-a.ensures, c.peek.ensures u h x _, c.in-Value.is, ne_eqb _ _ c.if-s.false, ← c.resume_word-b.ensures)
+    (poke2-release _ _ _ _ _))
+
+pub returns-in-Fault : goal.returns-in-Fault
+returns-in-Fault c u h g =
+    faulty (λ x. rw (← c.state_word-a.ensures, c.peek.ensures u h x _, c.in-Fault.is))
