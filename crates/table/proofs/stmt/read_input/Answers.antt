@@ -10,14 +10,14 @@ pub mark-requires : goal.mark-requires
 mark-requires c = (
   omega arith,
   let e : input_at c.args.names c.args.table.now c.args.at ≡ Found c.in-Item.channel c.in-Item.next = sym c.read_name.ensures
-  ∙ c.in-Item.is in
-  omega (arith, name_below _ _ _ _ _ e),
+      ∙ c.in-Item.is in
+      omega (arith, name_below _ _ _ _ _ e),
 )
 
 pub change-requires : goal.change-requires
 change-requires c = let e : variable_at c.args.names c.args.table.now c.in-Item.next
     ≡ Found c.in-Item-read_name.variable c.in-Item-read_name.last = sym c.read_name-in-Item.ensures ∙ c.in-Item-read_name.is in
-omega (arith, name_below _ _ _ _ _ e)
+    omega (arith, name_below _ _ _ _ _ e)
 
 pub returns-in-Item-read_name : goal.returns-in-Item-read_name
 unfolding taken_at taken_uses

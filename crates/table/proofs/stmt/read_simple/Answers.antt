@@ -17,7 +17,7 @@ returns-in-Stop c = record { said = simp (c.in-Stop.is, c.leaf_part-in-Stop.ensu
 pub change-requires : goal.change-requires
 change-requires c = let e : variable_at c.args.names c.args.table.now c.args.at
     ≡ Found c.in-Item.target c.in-Item.next = sym c.read_name.ensures ∙ c.in-Item.is in
-omega (arith, name_below _ _ _ _ _ e)
+    omega (arith, name_below _ _ _ _ _ e)
 
 pub returns-in-Item : goal.returns-in-Item
 unfolding simple_at simple_uses
@@ -55,8 +55,8 @@ pub mark-requires : goal.mark-requires
 mark-requires c = (
   omega arith,
   let e : output_at c.args.names c.args.table.now c.args.at
-  ≡ Found c.in-Item-read_name.channel c.in-Item-read_name.next = sym c.read_name-in-Output.ensures ∙ c.in-Item-read_name.is in
-  omega (arith, name_below _ _ _ _ _ e),
+      ≡ Found c.in-Item-read_name.channel c.in-Item-read_name.next = sym c.read_name-in-Output.ensures ∙ c.in-Item-read_name.is in
+      omega (arith, name_below _ _ _ _ _ e),
 )
 
 pub returns-in-Item-read_name : goal.returns-in-Item-read_name

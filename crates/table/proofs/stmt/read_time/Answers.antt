@@ -9,7 +9,7 @@ use Rattle.table.proofs.stmt.read_time.Goals as goal
 pub change-requires : goal.change-requires
 change-requires c = let e : variable_at c.args.names c.args.table.now c.args.at
     ≡ Found c.in-Item.into c.in-Item.next = sym c.read_name.ensures ∙ c.in-Item.is in
-omega (arith, name_below _ _ _ _ _ e)
+    omega (arith, name_below _ _ _ _ _ e)
 
 pub returns-in-Item : goal.returns-in-Item
 unfolding timed_at timed_uses
