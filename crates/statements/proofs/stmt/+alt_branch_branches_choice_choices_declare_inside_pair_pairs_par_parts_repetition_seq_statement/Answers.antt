@@ -25,7 +25,8 @@ use Rattle.statements.specs.Alts.{choice_into, choices_into, guards_into, alt_in
 use Rattle.statements.specs.Kinds.{stmt_into, inner_at, parts_into, inside_into}
 use Rattle.statements.proofs.Scoping.{within, within-names, count_most, parts-few, shape-few, relabel, shows-under, stmt-under}
 use Rattle.statements.proofs.Scoping.{branch-under, branches-under}
-use Rattle.statements.proofs.stmt.+alt_branch_branches_choice_choices_declare_inside_pair_pairs_par_parts_repetition_seq_statement.Goals as goal
+use Rattle.statements.proofs.stmt as cycle
+use cycle.+alt_branch_branches_choice_choices_declare_inside_pair_pairs_par_parts_repetition_seq_statement.Goals as goal
 
 -- a PAR by its parts: a law of its own, since rewriting all of them at once where they stand takes too long
 par-more : (d w : ℕ) (ns : Names) (plan s : List ℕ) (n i : ℕ) (c : Code) {t g : ℕ} {f : Forked} {l z : Code} {e : Extent} {b r : Wrote}

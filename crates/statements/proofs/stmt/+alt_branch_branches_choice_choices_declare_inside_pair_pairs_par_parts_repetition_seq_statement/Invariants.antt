@@ -10,7 +10,8 @@ use Rattle.statements.specs.Stmts.{Open, no_ends, seq_into, pairs_into}
 use Rattle.statements.specs.Stmts.{branches_into}
 use Rattle.statements.specs.Alts.{choices_into}
 use Rattle.statements.specs.Kinds.{inner_at}
-use Rattle.statements.proofs.stmt.+alt_branch_branches_choice_choices_declare_inside_pair_pairs_par_parts_repetition_seq_statement.Given as goal
+use Rattle.statements.proofs.stmt as cycle
+use cycle.+alt_branch_branches_choice_choices_declare_inside_pair_pairs_par_parts_repetition_seq_statement.Given as goal
 
 -- the pairs of an IF and the guards of an ALT that are left
 abbrev pub pairs_left : (d w : ℕ) → Names → (plan s : List ℕ) → (left k : ℕ) → (ends : List ℕ) → (at : ℕ) → Code → Open
