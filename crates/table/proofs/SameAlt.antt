@@ -6,12 +6,14 @@ use mathlib.Core.List.{List}
 use lib.ListN.{drop}
 use Rattle.model.specs.Syntax.{input_guard, skip_guard, time_guard, Guards, no_guard, guard}
 use Rattle.model.specs.Syntax as M
-use Rattle.model.specs.Reader.{Parsed, onward, pure, Scope, read_expr, Inner, stmt_of, applied, read_guard, guard_of, guard_kinds, read_stmt}
+use Rattle.model.specs.Reader.{Parsed, onward, pure, Scope, read_expr, Inner, stmt_of, applied, read_guard, guard_of, guard_kinds}
+use Rattle.model.specs.Reader.{read_stmt}
 use Rattle.model.specs.Usage.{◌⊕◌, reading, usage, first_clash, guard_usage, usage_guards, first_clash_guards}
 use Rattle.model.specs.Counts.{temporaries, guard_words, guard_asks, processes, need, guard_need, guard_processes}
 use Rattle.counts.specs.Words.{asked}
 use Rattle.table.specs.Stmts.{whole_at, taken_at, Fits, stmt_at, head_at, with_head, with_stmt, guard_at, behind, nothing as no_part}
-use Rattle.table.specs.Stmts.{part_at, most_from, gathered, taken_uses, guard_uses, head_uses, part_uses, stmt_uses, waiting_at, waiting_uses}
+use Rattle.table.specs.Stmts.{part_at, most_from, gathered, taken_uses, guard_uses, head_uses, part_uses, stmt_uses, waiting_at}
+use Rattle.table.specs.Stmts.{waiting_uses}
 use Rattle.table.specs.Stmts.{both_of, both_at, both_uses}
 use Rattle.table.specs.Exprs.{expr_at, expr_uses, with_expr}
 use Rattle.table.specs.declared.expr.ExprRead.TheVariants.{Refused as NoExpr}
@@ -189,5 +191,6 @@ pub alternative-same : (s : List ℕ) (d : ℕ) (w : Names) (sc : Scope) (place 
     (stmt_of place sc inner Alt at (drop at s))
 unfolding stmt_of need processes first_clash usage
 alternative-same s d w sc place at inner b l h o f i ee es =
-    counted_same guarded applied (read_guard sc inner) (λ gs. M.ALT gs) s d w sc (λ i. stmt_at d w s i) (inner_uses d w s) Guard place at b l
+    counted_same guarded applied (read_guard sc inner) (λ gs. M.ALT gs) s d w sc (λ i. stmt_at d w s i)
+    (inner_uses d w s) Guard place at b l
     (record { counts = λ gs t a c x. rw (a, c, x) refl; same-usage = λ gs. refl }) (guard-part s d w sc place b h o inner f i ee es)

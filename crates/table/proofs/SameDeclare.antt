@@ -11,7 +11,8 @@ use lib.Dec.{ltb, leb}
 use borrow.Author.Tests.{le-leb}
 use Rattle.model.specs.Syntax.{Site, declared}
 use Rattle.model.specs.Syntax as M
-use Rattle.model.specs.Reader.{onward, pure, Scope, names, with_variables, with_channels, read_count, can_input, can_output, read_stmt, Inner}
+use Rattle.model.specs.Reader.{onward, pure, Scope, names, with_variables, with_channels, read_count, can_input, can_output, read_stmt}
+use Rattle.model.specs.Reader.{Inner}
 use Rattle.model.specs.Reader.{stmt_of}
 use Rattle.model.specs.declared.kinds.StmtKind.TheVariants.{Var, Chan}
 use Rattle.numbers.specs.declared.kinds.Declared.{Declared}

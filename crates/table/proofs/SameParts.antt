@@ -210,7 +210,8 @@ choice-part : (s : List ℕ) (d : ℕ) (w : Names) (sc : Scope) (place : ℕ) (i
 unfolding part_at part_uses head_at head_uses read_pair asked pair_need pair_processes first_clash_pairs usage_pairs
 choice-part s d w sc place inner b h o f i ee es at l =
     rw (ee, es) (
-    condition-same (λ a n x. PartIs choices sc place at (λ j. part_uses Condition d w (inner_uses d w s) s at j) (applied a) n x) s Value d w
+    condition-same (λ a n x. PartIs choices sc place at (λ j. part_uses Condition d w (inner_uses d w s) s at j) (applied a) n x) s Value
+    d w
     sc place at
     (λ e st. pair e st) b l h o f i
     (λ e st n k.
@@ -236,7 +237,8 @@ pub choice-same : (s : List ℕ) (d : ℕ) (w : Names) (sc : Scope) (place at : 
     (stmt_of place sc inner If at (drop at s))
 unfolding stmt_of need processes first_clash usage
 choice-same s d w sc place at inner b l h o f i ee es =
-    counted_same choices applied (read_pair sc inner) (λ ps. M.IF ps) s d w sc (λ i. stmt_at d w s i) (inner_uses d w s) Condition place at b l
+    counted_same choices applied (read_pair sc inner) (λ ps. M.IF ps) s d w sc (λ i. stmt_at d w s i)
+    (inner_uses d w s) Condition place at b l
     (record { counts = λ ps t a c x. rw (a, c, x) refl; same-usage = λ ps. refl }) (choice-part s d w sc place inner b h o f i ee es)
 
 -- a statement is at least one process

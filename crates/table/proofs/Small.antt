@@ -32,10 +32,12 @@ use Rattle.model.specs.Counts.{order_of, sides_hold, guard_words}
 use Rattle.model.proofs.Tables.Needs.{sides-hold}
 use Rattle.table.specs.Exprs.{with_expr, single, constant_at, used_at, sides, operated, expr_at}
 use Rattle.counts.specs.Words.{asked, least_words}
-use Rattle.table.specs.Stmts.{whole_at, variable_at, input_at, with_head, with_stmt, output_at, leaf, value_at, taken_at, timed_at, simple_at}
+use Rattle.table.specs.Stmts.{whole_at, variable_at, input_at, with_head, with_stmt, output_at, leaf, value_at, taken_at, timed_at}
+use Rattle.table.specs.Stmts.{simple_at}
 use Rattle.table.specs.Stmts.{waiting_at, both_at, guard_at}
 use Rattle.table.specs.Stmts.{head_at, nothing, added, part_at, most_from, gathered, Branches, joined_by, BranchesRead, all, stopped}
-use Rattle.table.specs.Stmts.{with_branches, branches_from, no_branches, par_of, more_names, declaring, inside_of, stmt_at, stmt_uses, part_in}
+use Rattle.table.specs.Stmts.{with_branches, branches_from, no_branches, par_of, more_names, declaring, inside_of, stmt_at, stmt_uses}
+use Rattle.table.specs.Stmts.{part_in}
 use Rattle.table.specs.Uses.{no_names}
 use Rattle.numbers.specs.declared.NumberRead.{NumberRead}
 use Rattle.numbers.specs.declared.NumberRead.TheVariants.{Number, Bad}

@@ -18,7 +18,8 @@ use Rattle.table.specs.declared.stmt.SumRead.TheVariants.{Sum as Total, Refused 
 use Rattle.model.specs.Limits.{name_limit}
 use Rattle.model.specs.Counts.{order_of, sides_hold}
 use Rattle.model.specs.declared.kinds.StmtKind.{StmtKind}
-use Rattle.numbers.specs.Kinds.{last_statement, stmt_kind, last_guard, guard_kind, by_guard, by_head, by_declared, by_shape, shape_of, count_at}
+use Rattle.numbers.specs.Kinds.{last_statement, stmt_kind, last_guard, guard_kind, by_guard, by_head, by_declared, by_shape, shape_of}
+use Rattle.numbers.specs.Kinds.{count_at}
 use Rattle.numbers.specs.declared.kinds.Simple.{Simple}
 use Rattle.numbers.specs.declared.kinds.Simple.TheVariants.{Skip, Stop, Assign, Input, Output, Time, Wait}
 use Rattle.numbers.specs.declared.kinds.Declared.{Declared}

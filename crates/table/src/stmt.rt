@@ -1,10 +1,10 @@
 // Statements: what one reading counts, and the sets of names that they change, use, input from and output to.
 ghost use Rattle.std.specs.Prelude.{◌≡◌, ◌+◌, ◌<◌, ◌≤◌, length};
-ghost use Rattle.table.specs.Stmts.{first_among, leaf, whole_at, value_at, taken_at, simple_at, waiting_at, both_of, both_at, guard_at, head_at};
-ghost use Rattle.table.specs.Stmts.{behind, with_stmt};
+ghost use Rattle.table.specs.Stmts.{first_among, leaf, whole_at, value_at, taken_at, simple_at, waiting_at, both_of, both_at, guard_at};
+ghost use Rattle.table.specs.Stmts.{head_at, behind, with_stmt};
 ghost use Rattle.table.specs.Stmts.{nothing, added, gathered, par_of, more_names, declaring, SmallWords, Numbered, Fits};
-ghost use Rattle.table.specs.Stmts.{part_in, most_at, par_at, declared_at, inside_at, stmt_at, taken_uses, timed_at, timed_uses, simple_uses};
-ghost use Rattle.table.specs.Stmts.{waiting_uses, both_uses, guard_uses, head_uses};
+ghost use Rattle.table.specs.Stmts.{part_in, most_at, par_at, declared_at, inside_at, stmt_at, taken_uses, timed_at, timed_uses};
+ghost use Rattle.table.specs.Stmts.{simple_uses, waiting_uses, both_uses, guard_uses, head_uses};
 ghost use Rattle.table.specs.Stmts.{part_uses_in, most_uses_at, par_uses_at, declared_uses, inside_uses, stmt_uses};
 ghost use Rattle.table.specs.Exprs.{expr_uses};
 ghost use Rattle.table.specs.Sets.{Exact};

@@ -49,13 +49,21 @@ pub read_groups-requires : goal.read_groups-requires
 read_groups-requires t c = omega arith
 
 pub returns-then-v-eq0 : goal.returns-then-v-eq0
-returns-then-v-eq0 t c = sym (behind _ _ _ _ _ c.if-left-eq0.false c.if-table-at.false c.wide-b.ensures.0 c.if-b-lt128.false (sym c.read_groups.ensures ∙ c.in-Number.is) ∙ simp (eq-eqb _ _ c.if-v-eq0.true))
+returns-then-v-eq0 t c =
+    sym (behind _ _ _ _ _ c.if-left-eq0.false c.if-table-at.false c.wide-b.ensures.0 c.if-b-lt128.false
+    (sym c.read_groups.ensures ∙ c.in-Number.is) ∙ simp (eq-eqb _ _ c.if-v-eq0.true))
 
 pub returns-then-v-lt33554432 : goal.returns-then-v-lt33554432
-returns-then-v-lt33554432 t c = sym (behind _ _ _ _ _ c.if-left-eq0.false c.if-table-at.false c.wide-b.ensures.0 c.if-b-lt128.false (sym c.read_groups.ensures ∙ c.in-Number.is) ∙ simp (ne_eqb _ _ c.if-v-eq0.false, lt-ltb _ _ c.if-v-lt33554432.true))
+returns-then-v-lt33554432 t c =
+    sym (behind _ _ _ _ _ c.if-left-eq0.false c.if-table-at.false c.wide-b.ensures.0 c.if-b-lt128.false
+    (sym c.read_groups.ensures ∙ c.in-Number.is) ∙ simp (ne_eqb _ _ c.if-v-eq0.false, lt-ltb _ _ c.if-v-lt33554432.true))
 
 pub returns-else-v-lt33554432 : goal.returns-else-v-lt33554432
-returns-else-v-lt33554432 t c = sym (behind _ _ _ _ _ c.if-left-eq0.false c.if-table-at.false c.wide-b.ensures.0 c.if-b-lt128.false (sym c.read_groups.ensures ∙ c.in-Number.is) ∙ simp (ne_eqb _ _ c.if-v-eq0.false, le-ltb _ _ c.if-v-lt33554432.false))
+returns-else-v-lt33554432 t c =
+    sym (behind _ _ _ _ _ c.if-left-eq0.false c.if-table-at.false c.wide-b.ensures.0 c.if-b-lt128.false
+    (sym c.read_groups.ensures ∙ c.in-Number.is) ∙ simp (ne_eqb _ _ c.if-v-eq0.false, le-ltb _ _ c.if-v-lt33554432.false))
 
 pub returns-in-Bad : goal.returns-in-Bad
-returns-in-Bad t c = sym (behind _ _ _ _ _ c.if-left-eq0.false c.if-table-at.false c.wide-b.ensures.0 c.if-b-lt128.false (sym c.read_groups.ensures ∙ c.in-Bad.is))
+returns-in-Bad t c = sym
+    (behind _ _ _ _ _ c.if-left-eq0.false c.if-table-at.false c.wide-b.ensures.0 c.if-b-lt128.false
+    (sym c.read_groups.ensures ∙ c.in-Bad.is))

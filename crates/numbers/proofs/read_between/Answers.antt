@@ -6,8 +6,7 @@ use Rattle.numbers.proofs.read_between.Goals as goal
 
 pub returns-then-v-lo : goal.returns-then-v-lo
 unfolding between_at
-returns-then-v-lo c =
-    simp (sym c.read_number.ensures ∙ c.in-Number.is, lt-ltb _ _ c.if-v-lo.true)
+returns-then-v-lo c = simp (sym c.read_number.ensures ∙ c.in-Number.is, lt-ltb _ _ c.if-v-lo.true)
 
 pub returns-then-hi-v : goal.returns-then-hi-v
 unfolding between_at

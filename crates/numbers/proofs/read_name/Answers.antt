@@ -6,8 +6,7 @@ use Rattle.numbers.proofs.read_name.Goals as goal
 
 pub returns-then-count-v : goal.returns-then-count-v
 unfolding name_at
-returns-then-count-v c =
-    simp (sym c.read_number.ensures ∙ c.in-Number.is, le-leb _ _ c.if-count-v.true)
+returns-then-count-v c = simp (sym c.read_number.ensures ∙ c.in-Number.is, le-leb _ _ c.if-count-v.true)
 
 pub returns-then-v-from : goal.returns-then-v-from
 unfolding name_at

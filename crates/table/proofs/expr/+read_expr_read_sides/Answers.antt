@@ -40,7 +40,8 @@ turn zero vs s at l p = absurd (p refl)
 turn (suc d) vs s at l p = let e : suc d - 1 ≡ d = omega arith in (rw e, rw e)
 
 -- the stored values of a refusal, a leaf, an expression one level in and an operator
-deep-within : (at d : ℕ) (x : NumberRead) → Within (with_item NoExpr (with_number (Refused 2 at) x (λ v n. Refused 4 at)) (λ v n. single n)) d
+deep-within : (at d : ℕ) (x : NumberRead)
+    → Within (with_item NoExpr (with_number (Refused 2 at) x (λ v n. Refused 4 at)) (λ v n. single n)) d
 deep-within at d (Number v n) = tt
 deep-within at d Bad = tt
 
@@ -79,76 +80,111 @@ second d vs s at l i v n q k p r b g e =
 pub read_expr-returns-then-depth-eq0 : goal.read_expr-returns-then-depth-eq0
 unfolding deep_at
 read_expr-returns-then-depth-eq0 t c =
-    let h = none _ _ _ _ _ c.if-depth-eq0.true in record { said = sym (h.0 ∙ simp (c.no_expr.ensures, c.read_deep.ensures)); uses = sym h.1; within = rw (c.no_expr.ensures, c.read_deep.ensures) (deep-within _ c.args.depth (groups_at 5 c.args.table.now c.args.at)) }
+    let h = none _ _ _ _ _ c.if-depth-eq0.true in
+    record {
+      said = sym (h.0 ∙ simp (c.no_expr.ensures, c.read_deep.ensures));
+      uses = sym h.1;
+      within = rw (c.no_expr.ensures, c.read_deep.ensures) (deep-within _ c.args.depth (groups_at 5 c.args.table.now c.args.at));
+    }
 
 pub read_expr-returns-in-Constant : goal.read_expr-returns-in-Constant
 read_expr-returns-in-Constant t c =
-    let h = (second c.args.depth c.args.variables c.args.table.now c.args.at c.args.sets.now _ _ _ _ _ c.if-depth-eq0.false c.read_between.ensures c.in-Item.is c.expr_kind.ensures c.in-Constant.is) in
-    let e = rw c.read_between-in-Constant.ensures at c.no_expr-in-Constant.ensures in record { said = e ∙ sym h.0; uses = sym h.1; within = rw e (item-within _ (between_at 0 4294967295 _ _) c.if-depth-eq0.false) }
+    let h = second c.args.depth c.args.variables c.args.table.now c.args.at c.args.sets.now _ _ _ _ _ c.if-depth-eq0.false
+    c.read_between.ensures c.in-Item.is c.expr_kind.ensures c.in-Constant.is in
+    let e = rw c.read_between-in-Constant.ensures at c.no_expr-in-Constant.ensures in
+    record { said = e ∙ sym h.0; uses = sym h.1; within = rw e (item-within _ (between_at 0 4294967295 _ _) c.if-depth-eq0.false) }
 
 pub read_expr-returns-in-Variable : goal.read_expr-returns-in-Variable
 unfolding used_at
 read_expr-returns-in-Variable t c =
-    let h = (second c.args.depth c.args.variables c.args.table.now c.args.at c.args.sets.now _ _ _ _ _ c.if-depth-eq0.false c.read_between.ensures c.in-Item.is c.expr_kind.ensures c.in-Variable.is) in
-    record { said = c.read_used.ensures.said ∙ sym h.0; uses = c.read_used.ensures.uses ∙ sym h.1; within = rw c.read_used.ensures.said (item-within _ (name_at _ 0 0 _ _) c.if-depth-eq0.false) }
+    let h = second c.args.depth c.args.variables c.args.table.now c.args.at c.args.sets.now _ _ _ _ _ c.if-depth-eq0.false
+    c.read_between.ensures c.in-Item.is c.expr_kind.ensures c.in-Variable.is in
+    record {
+      said = c.read_used.ensures.said ∙ sym h.0;
+      uses = c.read_used.ensures.uses ∙ sym h.1;
+      within = rw c.read_used.ensures.said (item-within _ (name_at _ 0 0 _ _) c.if-depth-eq0.false);
+    }
 
 pub read_expr-read_expr-requires : goal.read_expr-read_expr-requires
-read_expr-read_expr-requires t c =
-    (omega arith, omega arith)
+read_expr-read_expr-requires t c = (omega arith, omega arith)
 
 pub read_expr-returns-in-Not : goal.read_expr-returns-in-Not
 read_expr-returns-in-Not t c =
-    let h = (second c.args.depth c.args.variables c.args.table.now c.args.at c.args.sets.now _ _ _ _ _ c.if-depth-eq0.false c.read_between.ensures c.in-Item.is c.expr_kind.ensures c.in-Not.is) in
-    record { said = c.read_expr.ensures.said ∙ sym h.0; uses = c.read_expr.ensures.uses ∙ sym h.1; within = within_more _ c.read_expr.result c.read_expr.ensures.within }
+    let h = second c.args.depth c.args.variables c.args.table.now c.args.at c.args.sets.now _ _ _ _ _ c.if-depth-eq0.false
+    c.read_between.ensures c.in-Item.is c.expr_kind.ensures c.in-Not.is in
+    record {
+      said = c.read_expr.ensures.said ∙ sym h.0;
+      uses = c.read_expr.ensures.uses ∙ sym h.1;
+      within = within_more _ c.read_expr.result c.read_expr.ensures.within;
+    }
 
 pub read_expr-read_sides-requires : goal.read_expr-read_sides-requires
-read_expr-read_sides-requires t c =
-    (omega arith, (omega arith, omega arith))
+read_expr-read_sides-requires t c = (omega arith, (omega arith, omega arith))
 
 pub read_expr-returns-in-Binary : goal.read_expr-returns-in-Binary
 read_expr-returns-in-Binary t c =
-    let h = (second c.args.depth c.args.variables c.args.table.now c.args.at c.args.sets.now _ _ _ _ _ c.if-depth-eq0.false c.read_between.ensures c.in-Item.is c.expr_kind.ensures c.in-Binary.is) in
-    let e : c.args.depth - 1 + 1
-    ≡ c.args.depth = omega arith in
-    record { said = c.read_sides.ensures.said ∙ sym h.0; uses = c.read_sides.ensures.uses ∙ sym h.1; within = rw e at c.read_sides.ensures.within }
+    let h = second c.args.depth c.args.variables c.args.table.now c.args.at c.args.sets.now _ _ _ _ _ c.if-depth-eq0.false
+    c.read_between.ensures c.in-Item.is c.expr_kind.ensures c.in-Binary.is in
+    let e : c.args.depth - 1 + 1 ≡ c.args.depth = omega arith in
+    record {
+      said = c.read_sides.ensures.said ∙ sym h.0;
+      uses = c.read_sides.ensures.uses ∙ sym h.1;
+      within = rw e at c.read_sides.ensures.within;
+    }
 
 pub read_expr-returns-in-Refused : goal.read_expr-returns-in-Refused
 read_expr-returns-in-Refused t c =
-    let h = (first c.args.depth c.args.variables c.args.table.now c.args.at c.args.sets.now _ _ c.if-depth-eq0.false c.read_between.ensures c.in-Refused.is) in record { said = sym h.0; uses = sym h.1; within = tt }
+    let h = first c.args.depth c.args.variables c.args.table.now c.args.at c.args.sets.now _ _ c.if-depth-eq0.false c.read_between.ensures
+    c.in-Refused.is in
+    record { said = sym h.0; uses = sym h.1; within = tt }
 
 pub read_sides-read_expr-requires : goal.read_sides-read_expr-requires
 read_sides-read_expr-requires t c = (omega arith, omega arith)
 
 pub read_sides-read_expr-requires-in-Expr : goal.read_sides-read_expr-requires-in-Expr
-read_sides-read_expr-requires-in-Expr t c =
-    (omega arith, omega arith)
+read_sides-read_expr-requires-in-Expr t c = (omega arith, omega arith)
 
 pub read_sides-join-requires : goal.read_sides-join-requires
 read_sides-join-requires t c =
-    omega (arith, (let z : Within (Expr c.in-Expr.left) c.args.depth = rw c.in-Expr.is at c.read_expr.ensures.within in z))
+    let l : Within (Expr c.in-Expr.left) c.args.depth = rw c.in-Expr.is at c.read_expr.ensures.within in omega arith
 
 pub read_sides-returns-in-Expr-read_expr : goal.read_sides-returns-in-Expr-read_expr
 unfolding sides_at sides_use
 read_sides-returns-in-Expr-read_expr t c =
-    let o = (let z : between_at 0 last_operator c.args.table.now c.args.at ≡ Found c.in-Item.operator c.in-Item.next = sym c.read_between.ensures ∙ c.in-Item.is in z) in
+    -- the operator that was read, and the stored values of the left side
+    let o : between_at 0 last_operator c.args.table.now c.args.at ≡ Found c.in-Item.operator c.in-Item.next = sym c.read_between.ensures
+    ∙ c.in-Item.is in
     let e = sym c.read_expr.ensures.said ∙ c.in-Expr.is in
-    let l = (let z : Within (Expr c.in-Expr.left) c.args.depth = rw c.in-Expr.is at c.read_expr.ensures.within in z) in
-    let r = rw c.in-Expr-read_expr.is at c.read_expr-in-Expr.ensures.within in record { said = simp (o, e, ← c.read_expr-in-Expr.ensures.said, c.in-Expr-read_expr.is, c.join.ensures); uses = simp (o, e, c.read_expr-in-Expr.ensures.uses, c.read_expr.ensures.uses); within = rw c.join.ensures (joined-within _ c.in-Expr.left c.in-Expr-read_expr.right l r) }
+    let l : Within (Expr c.in-Expr.left) c.args.depth = rw c.in-Expr.is at c.read_expr.ensures.within in
+    let r = rw c.in-Expr-read_expr.is at c.read_expr-in-Expr.ensures.within in
+    record {
+      said = simp (o, e, ← c.read_expr-in-Expr.ensures.said, c.in-Expr-read_expr.is, c.join.ensures);
+      uses = simp (o, e, c.read_expr-in-Expr.ensures.uses, c.read_expr.ensures.uses);
+      within = rw c.join.ensures (joined-within _ c.in-Expr.left c.in-Expr-read_expr.right l r);
+    }
 
 pub read_sides-returns-in-Refused-read_expr-2 : goal.read_sides-returns-in-Refused-read_expr-2
 unfolding sides_at sides_use
 read_sides-returns-in-Refused-read_expr-2 t c =
-    let o = (let z : between_at 0 last_operator c.args.table.now c.args.at ≡ Found c.in-Item.operator c.in-Item.next = sym c.read_between.ensures ∙ c.in-Item.is in z) in
+    let o : between_at 0 last_operator c.args.table.now c.args.at ≡ Found c.in-Item.operator c.in-Item.next = sym c.read_between.ensures
+    ∙ c.in-Item.is in
     let e = sym c.read_expr.ensures.said ∙ c.in-Expr.is in
-    record { said = simp (o, e, ← c.read_expr-in-Expr.ensures.said, c.in-Refused-read_expr-2.is); uses = simp (o, e, c.read_expr-in-Expr.ensures.uses, c.read_expr.ensures.uses); within = tt }
+    record {
+      said = simp (o, e, ← c.read_expr-in-Expr.ensures.said, c.in-Refused-read_expr-2.is);
+      uses = simp (o, e, c.read_expr-in-Expr.ensures.uses, c.read_expr.ensures.uses);
+      within = tt;
+    }
 
 pub read_sides-returns-in-Refused-read_expr : goal.read_sides-returns-in-Refused-read_expr
 unfolding sides_at sides_use
 read_sides-returns-in-Refused-read_expr t c =
-    let o = (let z : between_at 0 last_operator c.args.table.now c.args.at ≡ Found c.in-Item.operator c.in-Item.next = sym c.read_between.ensures ∙ c.in-Item.is in z) in
-    let e = sym c.read_expr.ensures.said ∙ c.in-Refused-read_expr.is in record { said = simp (o, e); uses = simp (o, e, c.read_expr.ensures.uses); within = tt }
+    let o : between_at 0 last_operator c.args.table.now c.args.at ≡ Found c.in-Item.operator c.in-Item.next = sym c.read_between.ensures
+    ∙ c.in-Item.is in
+    let e = sym c.read_expr.ensures.said ∙ c.in-Refused-read_expr.is in
+    record { said = simp (o, e); uses = simp (o, e, c.read_expr.ensures.uses); within = tt }
 
 pub read_sides-returns-in-Refused : goal.read_sides-returns-in-Refused
 unfolding sides_at sides_use
 read_sides-returns-in-Refused t c =
-    let e = sym c.read_between.ensures ∙ c.in-Refused.is in record { said = simp e; uses = simp e; within = tt }
+    let e = sym c.read_between.ensures ∙ c.in-Refused.is in
+    record { said = simp e; uses = simp e; within = tt }

@@ -6,8 +6,7 @@ use Rattle.table.proofs.Small.{name_below}
 use Rattle.table.proofs.expr.read_used.Goals as goal
 
 pub mark-requires : goal.mark-requires
-mark-requires c =
-    (omega arith, omega (arith, name_below _ _ _ _ _ (sym c.read_name.ensures ∙ c.in-Item.is)))
+mark-requires c = (omega arith, omega (arith, name_below _ _ _ _ _ (sym c.read_name.ensures ∙ c.in-Item.is)))
 
 pub returns-in-Item : goal.returns-in-Item
 unfolding used_at used_uses
@@ -17,4 +16,5 @@ returns-in-Item c =
 
 pub returns-in-Refused : goal.returns-in-Refused
 unfolding used_at used_uses
-returns-in-Refused c = let f = sym c.read_name.ensures ∙ c.in-Refused.is in record { said = simp f; uses = simp f }
+returns-in-Refused c = let f = sym c.read_name.ensures ∙ c.in-Refused.is in
+    record { said = simp f; uses = simp f }

@@ -16,8 +16,10 @@ use Rattle.numbers.specs.declared.kinds.Declared.{Declared}
 use Rattle.numbers.specs.declared.kinds.Declared.TheVariants.{Variables, Channels}
 use Rattle.numbers.specs.declared.kinds.Head.{Head}
 use Rattle.numbers.specs.declared.kinds.Shape.{Shape}
-use Rattle.table.specs.Stmts.{stmt_at, part_in, part_at, most_at, par_at, declared_at, inside_at, simple_at, most_from, with_stmt, stmt_uses}
-use Rattle.table.specs.Stmts.{part_uses_in, part_uses, most_uses_at, par_uses_at, declared_uses, inside_uses, simple_uses, most_use, branches_at}
+use Rattle.table.specs.Stmts.{stmt_at, part_in, part_at, most_at, par_at, declared_at, inside_at, simple_at, most_from, with_stmt}
+use Rattle.table.specs.Stmts.{stmt_uses}
+use Rattle.table.specs.Stmts.{part_uses_in, part_uses, most_uses_at, par_uses_at, declared_uses, inside_uses, simple_uses, most_use}
+use Rattle.table.specs.Stmts.{branches_at}
 use Rattle.table.specs.Stmts.{branches_from, all, stopped, Branches, joined_by, no_branches, leaf, nothing, added, more_names, Fits}
 use Rattle.table.specs.Stmts.{SmallWords}
 use Rattle.numbers.specs.declared.Item.{Item}
@@ -32,7 +34,8 @@ use Rattle.table.proofs.SameStmt.{exact-uses}
 use Rattle.table.proofs.Small.{Small, between_in, count_most, FewIn, few, count-few, stmt-small, stmt-counts, part-counts}
 use Rattle.table.proofs.stmt.+read_declaration_read_inside_read_most_read_par_read_part_read_stmt.Invariants.{most_left, uses_left}
 use Rattle.table.proofs.stmt.+read_declaration_read_inside_read_most_read_par_read_part_read_stmt.Goals as goal
-use Rattle.table.proofs.stmt.+read_declaration_read_inside_read_most_read_par_read_part_read_stmt.Goals.{read_par-then-clash, read_par-else-clash}
+use Rattle.table.proofs.stmt.+read_declaration_read_inside_read_most_read_par_read_part_read_stmt.Goals.{read_par-then-clash}
+use Rattle.table.proofs.stmt.+read_declaration_read_inside_read_most_read_par_read_part_read_stmt.Goals.{read_par-else-clash}
 
 -- more names fit where there is depth left, and what is counted in a table fits
 more-fits : (x : Declared) (n d : ℕ) (w : Names) → n ≤ 32 → Fits w (d + 1) → Fits (more_names x n w) d
@@ -166,8 +169,7 @@ read_declaration-read_stmt-read-requires t c = (
 )
 
 pub read_declaration-leave-requires : goal.read_declaration-leave-requires
-read_declaration-leave-requires t c =
-    (omega (arith, c.requires.0.1), omega (arith, c.requires.0.2))
+read_declaration-leave-requires t c = (omega (arith, c.requires.0.1), omega (arith, c.requires.0.2))
 
 pub read_declaration-in_scope-requires : goal.read_declaration-in_scope-requires
 read_declaration-in_scope-requires t c = (
@@ -178,7 +180,10 @@ read_declaration-in_scope-requires t c = (
 pub read_declaration-returns : goal.read_declaration-returns
 unfolding declared_at declared_uses
 read_declaration-returns t c =
-    record { said = simp (c.in_scope.ensures, c.read_stmt-read.ensures.said, c.more_names-more.ensures); uses = simp (c.leave.ensures, c.read_stmt-read.ensures.uses, c.more_names-more.ensures) }
+    record {
+      said = simp (c.in_scope.ensures, c.read_stmt-read.ensures.said, c.more_names-more.ensures);
+      uses = simp (c.leave.ensures, c.read_stmt-read.ensures.uses, c.more_names-more.ensures);
+    }
 
 pub read_inside-read_simple-requires : goal.read_inside-read_simple-requires
 read_inside-read_simple-requires t c =
@@ -192,7 +197,7 @@ read_inside-read_declaration-requires t c = (
 
 pub read_inside-read_par-requires : goal.read_inside-read_par-requires
 read_inside-read_par-requires t c =
-    let l = (counts-few c.args.kind _ _ c.shape_of.ensures c.in-Branches.is) in
+    let l = counts-few c.args.kind _ _ c.shape_of.ensures c.in-Branches.is in
     let e = sym c.read_count.ensures ∙ c.in-Item-read_count.is in (
       omega arith,
       (less-fits _ _ c.requires.0, omega (arith, c.requires.0.2), c.requires.1, count-few _ _ _ l e, c.requires.2),
@@ -200,47 +205,57 @@ read_inside-read_par-requires t c =
 
 pub read_inside-read_most-requires : goal.read_inside-read_most-requires
 read_inside-read_most-requires t c =
-    let l = (counts-few c.args.kind _ _ c.shape_of.ensures c.in-Parts.is) in
+    let l = counts-few c.args.kind _ _ c.shape_of.ensures c.in-Parts.is in
     let e = sym c.read_count-in-Parts.ensures ∙ c.in-Item-read_count-2.is in
     (omega arith, (less-fits _ _ c.requires.0, omega (arith, c.requires.0.2), c.requires.1, count-few _ _ _ l e))
 
 pub read_inside-returns-in-Simple : goal.read_inside-returns-in-Simple
 read_inside-returns-in-Simple t c =
-    let h = (shaped c.args.place c.args.kind c.args.depth c.args.names c.args.table.now c.args.at c.args.sets.now _ _ c.shape_of.ensures c.in-Simple.is) in
+    let h = shaped c.args.place c.args.kind c.args.depth c.args.names c.args.table.now c.args.at c.args.sets.now _ _ c.shape_of.ensures
+    c.in-Simple.is in
     record { said = c.read_simple.ensures.said ∙ sym h.0; uses = c.read_simple.ensures.uses ∙ sym h.1 }
 
 pub read_inside-returns-in-Item : goal.read_inside-returns-in-Item
 read_inside-returns-in-Item t c =
-    let h = (shaped c.args.place c.args.kind c.args.depth c.args.names c.args.table.now c.args.at c.args.sets.now _ _ c.shape_of.ensures c.in-Declares.is) in
+    let h = shaped c.args.place c.args.kind c.args.depth c.args.names c.args.table.now c.args.at c.args.sets.now _ _ c.shape_of.ensures
+    c.in-Declares.is in
     let e = sym c.read_between.ensures ∙ c.in-Item.is in
     record { said = c.read_declaration.ensures.said ∙ sym (h.0 ∙ simp e); uses = c.read_declaration.ensures.uses ∙ sym (h.1 ∙ simp e) }
 
 pub read_inside-returns-in-Refused : goal.read_inside-returns-in-Refused
 read_inside-returns-in-Refused t c =
-    let h = (shaped c.args.place c.args.kind c.args.depth c.args.names c.args.table.now c.args.at c.args.sets.now _ _ c.shape_of.ensures c.in-Declares.is) in
-    let e = sym c.read_between.ensures ∙ c.in-Refused.is in record { said = sym (h.0 ∙ simp e); uses = sym (h.1 ∙ simp e) }
+    let h = shaped c.args.place c.args.kind c.args.depth c.args.names c.args.table.now c.args.at c.args.sets.now _ _ c.shape_of.ensures
+    c.in-Declares.is in
+    let e = sym c.read_between.ensures ∙ c.in-Refused.is in
+    record { said = sym (h.0 ∙ simp e); uses = sym (h.1 ∙ simp e) }
 
 pub read_inside-returns-in-Item-read_count : goal.read_inside-returns-in-Item-read_count
 read_inside-returns-in-Item-read_count t c =
-    let h = (shaped c.args.place c.args.kind c.args.depth c.args.names c.args.table.now c.args.at c.args.sets.now _ _ c.shape_of.ensures c.in-Branches.is) in
+    let h = shaped c.args.place c.args.kind c.args.depth c.args.names c.args.table.now c.args.at c.args.sets.now _ _ c.shape_of.ensures
+    c.in-Branches.is in
     let e = sym c.read_count.ensures ∙ c.in-Item-read_count.is in
     record { said = c.read_par.ensures.said ∙ sym (h.0 ∙ simp e); uses = c.read_par.ensures.uses ∙ sym (h.1 ∙ simp e) }
 
 pub read_inside-returns-in-Refused-read_count : goal.read_inside-returns-in-Refused-read_count
 read_inside-returns-in-Refused-read_count t c =
-    let h = (shaped c.args.place c.args.kind c.args.depth c.args.names c.args.table.now c.args.at c.args.sets.now _ _ c.shape_of.ensures c.in-Branches.is) in
-    let e = sym c.read_count.ensures ∙ c.in-Refused-read_count.is in record { said = sym (h.0 ∙ simp e); uses = sym (h.1 ∙ simp e) }
+    let h = shaped c.args.place c.args.kind c.args.depth c.args.names c.args.table.now c.args.at c.args.sets.now _ _ c.shape_of.ensures
+    c.in-Branches.is in
+    let e = sym c.read_count.ensures ∙ c.in-Refused-read_count.is in
+    record { said = sym (h.0 ∙ simp e); uses = sym (h.1 ∙ simp e) }
 
 pub read_inside-returns-in-Item-read_count-2 : goal.read_inside-returns-in-Item-read_count-2
 read_inside-returns-in-Item-read_count-2 t c =
-    let h = (shaped c.args.place c.args.kind c.args.depth c.args.names c.args.table.now c.args.at c.args.sets.now _ _ c.shape_of.ensures c.in-Parts.is) in
+    let h = shaped c.args.place c.args.kind c.args.depth c.args.names c.args.table.now c.args.at c.args.sets.now _ _ c.shape_of.ensures
+    c.in-Parts.is in
     let e = sym c.read_count-in-Parts.ensures ∙ c.in-Item-read_count-2.is in
     record { said = c.read_most.ensures.said ∙ sym (h.0 ∙ simp e); uses = c.read_most.ensures.uses ∙ sym (h.1 ∙ simp e) }
 
 pub read_inside-returns-in-Refused-read_count-2 : goal.read_inside-returns-in-Refused-read_count-2
 read_inside-returns-in-Refused-read_count-2 t c =
-    let h = (shaped c.args.place c.args.kind c.args.depth c.args.names c.args.table.now c.args.at c.args.sets.now _ _ c.shape_of.ensures c.in-Parts.is) in
-    let e = sym c.read_count-in-Parts.ensures ∙ c.in-Refused-read_count-2.is in record { said = sym (h.0 ∙ simp e); uses = sym (h.1 ∙ simp e) }
+    let h = shaped c.args.place c.args.kind c.args.depth c.args.names c.args.table.now c.args.at c.args.sets.now _ _ c.shape_of.ensures
+    c.in-Parts.is in
+    let e = sym c.read_count-in-Parts.ensures ∙ c.in-Refused-read_count-2.is in
+    record { said = sym (h.0 ∙ simp e); uses = sym (h.1 ∙ simp e) }
 
 pub read_most-loop-i-init : goal.read_most-loop-i-init
 read_most-loop-i-init t c =
@@ -248,18 +263,22 @@ read_most-loop-i-init t c =
     rw (c.no_parts-sum.ensures, e) (refl, refl, omega arith, omega arith, omega arith)
 
 pub read_most-read_part-requires : goal.read_most-read_part-requires
-read_most-read_part-requires t c =
-    (omega arith, (c.requires.0, c.requires.1, c.requires.2))
+read_most-read_part-requires t c = (omega arith, (c.requires.0, c.requires.1, c.requires.2))
 
 pub read_most-add-sum-requires : goal.read_most-add-sum-requires
 read_most-add-sum-requires t c =
-    let h = (let z : Small c.loop-i.sum.next (length c.args.table.now) (Stmt c.in-Stmt.p) = part-counts _ _ _ _ _ (sym c.read_part.ensures.said ∙ c.in-Stmt.is) in z) in (omega arith, omega arith, omega arith, omega arith)
+    -- what is counted of the part that is read
+    let h : Small c.loop-i.sum.next (length c.args.table.now) (Stmt c.in-Stmt.p) =
+    part-counts _ _ _ _ _ (sym c.read_part.ensures.said ∙ c.in-Stmt.is) in
+    (omega arith, omega arith, omega arith, omega arith)
 
 pub read_most-loop-i-preserved : goal.read_most-loop-i-preserved
 read_most-loop-i-preserved t c =
-    let h = (let z : Small c.loop-i.sum.next (length c.args.table.now) (Stmt c.in-Stmt.p) = part-counts _ _ _ _ _ (sym c.read_part.ensures.said ∙ c.in-Stmt.is) in z) in
-    let o = (one-part c.loop-i.i c.args.count c.args.head c.args.depth c.args.names c.args.table.now c.args.at c.loop-i.sum c.args.sets.now c.loop-i.sets _ _ _ (omega arith) c.loop-i.invariant.0 c.loop-i.invariant.1
-    c.read_part.ensures.said c.read_part.ensures.uses c.in-Stmt.is) in (
+    let h : Small c.loop-i.sum.next (length c.args.table.now) (Stmt c.in-Stmt.p) =
+    part-counts _ _ _ _ _ (sym c.read_part.ensures.said ∙ c.in-Stmt.is) in
+    let o = one-part c.loop-i.i c.args.count c.args.head c.args.depth c.args.names c.args.table.now c.args.at c.loop-i.sum c.args.sets.now
+    c.loop-i.sets _ _ _ (omega arith) c.loop-i.invariant.0 c.loop-i.invariant.1
+    c.read_part.ensures.said c.read_part.ensures.uses c.in-Stmt.is in (
       o.0 ∙ simp c.add-sum.ensures,
       o.1 ∙ simp c.add-sum.ensures,
       omega arith,
@@ -270,14 +289,17 @@ read_most-loop-i-preserved t c =
 pub read_most-returns-in-Refused : goal.read_most-returns-in-Refused
 unfolding most_at most_uses_at
 read_most-returns-in-Refused t c =
-    let o = (one-part c.loop-i.i c.args.count c.args.head c.args.depth c.args.names c.args.table.now c.args.at c.loop-i.sum c.args.sets.now c.loop-i.sets _ _ _ (omega arith) c.loop-i.invariant.0 c.loop-i.invariant.1
-    c.read_part.ensures.said c.read_part.ensures.uses c.in-Refused.is) in record { said = simp o.0; uses = sym o.1 }
+    let o = one-part c.loop-i.i c.args.count c.args.head c.args.depth c.args.names c.args.table.now c.args.at c.loop-i.sum c.args.sets.now
+    c.loop-i.sets _ _ _ (omega arith) c.loop-i.invariant.0 c.loop-i.invariant.1
+    c.read_part.ensures.said c.read_part.ensures.uses c.in-Refused.is in
+    record { said = simp o.0; uses = sym o.1 }
 
 pub read_most-returns : goal.read_most-returns
 unfolding most_at most_uses_at
 read_most-returns t c =
     let z : c.args.count - c.loop-i.i ≡ 0 = omega arith in
-    let n = most-none _ _ _ _ _ _ _ z in record { said = c.gather.ensures ∙ simp (c.loop-i.invariant.0 ∙ n.0); uses = sym (c.loop-i.invariant.1 ∙ n.1) }
+    let n = most-none _ _ _ _ _ _ _ z in
+    record { said = c.gather.ensures ∙ simp (c.loop-i.invariant.0 ∙ n.0); uses = sym (c.loop-i.invariant.1 ∙ n.1) }
 
 pub read_par-loop-i-init : goal.read_par-loop-i-init
 read_par-loop-i-init t c =
@@ -285,17 +307,16 @@ read_par-loop-i-init t c =
     rw (c.no_parts-sum.ensures, e) (refl, omega arith, omega arith, omega arith)
 
 pub read_par-read_stmt-requires : goal.read_par-read_stmt-requires
-read_par-read_stmt-requires t c =
-    (omega arith, (c.requires.0, c.requires.2))
+read_par-read_stmt-requires t c = (omega arith, (c.requires.0, c.requires.2))
 
 pub read_par-add-sum-requires : goal.read_par-add-sum-requires
 read_par-add-sum-requires t c =
+    -- what is counted of the branch that is read
     let h = stmt-counts {p = c.in-Stmt.p} _ _ _ _ (sym c.read_stmt.ensures.said ∙ c.in-Stmt.is) in
     (omega arith, omega arith, omega arith, omega arith)
 
 pub read_par-overflow_add-i : goal.read_par-overflow_add-i
-read_par-overflow_add-i t c =
-    record { fits = omega (arith, c.loop-i.invariant.1, c.requires.3) }
+read_par-overflow_add-i t c = record { fits = omega (arith, c.loop-i.invariant.1, c.requires.3) }
 
 pub read_par-loop-i-preserved : goal.read_par-loop-i-preserved
 read_par-loop-i-preserved t c =
@@ -317,8 +338,10 @@ read_par-loop-i-preserved t c =
 pub read_par-returns-in-Refused : goal.read_par-returns-in-Refused
 unfolding par_at par_uses_at
 read_par-returns-in-Refused t c =
-    let e = (one-branch c.loop-i.i c.args.count c.args.depth c.args.names c.args.table.now c.args.at (record { total = c.loop-i.sum; before = c.loop-i.before; bad = c.loop-i.bad }) _ _ _ (omega arith)
-    c.loop-i.invariant.0 c.read_stmt.ensures.said c.read_stmt.ensures.uses c.in-Refused.is) in record { said = simp e; uses = simp e }
+    let e = one-branch c.loop-i.i c.args.count c.args.depth c.args.names c.args.table.now c.args.at
+    (record { total = c.loop-i.sum; before = c.loop-i.before; bad = c.loop-i.bad }) _ _ _ (omega arith)
+    c.loop-i.invariant.0 c.read_stmt.ensures.said c.read_stmt.ensures.uses c.in-Refused.is in
+    record { said = simp e; uses = simp e }
 
 pub read_par-close_par-requires : goal.read_par-close_par-requires
 read_par-close_par-requires t c = omega arith
@@ -331,24 +354,31 @@ read_par-returns t c =
     record { said = c.close_par.ensures ∙ simp e; uses = c.merge-2.ensures ∙ simp e }
 
 pub read_part-read_stmt-requires : goal.read_part-read_stmt-requires
-read_part-read_stmt-requires t c =
-    (omega arith, (c.requires.0, c.requires.2))
+read_part-read_stmt-requires t c = (omega arith, (c.requires.0, c.requires.2))
 
 pub read_part-returns-in-Head : goal.read_part-returns-in-Head
 unfolding part_in part_at part_uses_in part_uses
 read_part-returns-in-Head t c =
     let e = sym c.read_head.ensures.said ∙ c.in-Head.is in
-    record { said = simp (e, c.behind_head.ensures, c.read_stmt.ensures.said); uses = simp (e, c.read_stmt.ensures.uses, c.read_head.ensures.uses) }
+    record {
+      said = simp (e, c.behind_head.ensures, c.read_stmt.ensures.said);
+      uses = simp (e, c.read_stmt.ensures.uses, c.read_head.ensures.uses);
+    }
 
 pub read_part-returns-in-Refused : goal.read_part-returns-in-Refused
 unfolding part_in part_at part_uses_in part_uses
 read_part-returns-in-Refused t c =
-    let e = sym c.read_head.ensures.said ∙ c.in-Refused.is in record { said = simp e; uses = simp (e, c.read_head.ensures.uses) }
+    let e = sym c.read_head.ensures.said ∙ c.in-Refused.is in
+    record { said = simp e; uses = simp (e, c.read_head.ensures.uses) }
 
 pub read_stmt-returns-then-depth-eq0 : goal.read_stmt-returns-then-depth-eq0
 read_stmt-returns-then-depth-eq0 t c =
     let h = none _ _ _ _ _ c.if-depth-eq0.true in
-    record { said = sym (h.0 ∙ simp (c.no_stmt.ensures, c.read_deep.ensures)); uses = sym h.1; exact = exact-of _ _ _ _ _ _ (λ i. (c.type_inv.table i).fits) c.requires.0 (sym h.1) }
+    record {
+      said = sym (h.0 ∙ simp (c.no_stmt.ensures, c.read_deep.ensures));
+      uses = sym h.1;
+      exact = exact-of _ _ _ _ _ _ (λ i. (c.type_inv.table i).fits) c.requires.0 (sym h.1);
+    }
 
 pub read_stmt-read_inside-requires : goal.read_stmt-read_inside-requires
 read_stmt-read_inside-requires t c =
@@ -360,9 +390,17 @@ read_stmt-read_inside-requires t c =
 
 pub read_stmt-returns-in-Item : goal.read_stmt-returns-in-Item
 read_stmt-returns-in-Item t c =
-    let h = (first c.args.depth c.args.names c.args.table.now c.args.at c.args.sets.now _ _ c.if-depth-eq0.false c.read_between.ensures c.in-Item.is) in
-    record { said = c.read_inside.ensures.said ∙ sym (h.0 ∙ simp (← c.stmt_kind-kind.ensures)); uses = c.read_inside.ensures.uses ∙ sym (h.1 ∙ simp (← c.stmt_kind-kind.ensures)); exact = exact-of _ _ _ _ _ _ (λ i. (c.type_inv.table i).fits) c.requires.0 (c.read_inside.ensures.uses ∙ sym (h.1 ∙ simp (← c.stmt_kind-kind.ensures))) }
+    let h = first c.args.depth c.args.names c.args.table.now c.args.at c.args.sets.now _ _ c.if-depth-eq0.false c.read_between.ensures
+    c.in-Item.is in
+    record {
+      said = c.read_inside.ensures.said ∙ sym (h.0 ∙ simp (← c.stmt_kind-kind.ensures));
+      uses = c.read_inside.ensures.uses ∙ sym (h.1 ∙ simp (← c.stmt_kind-kind.ensures));
+      exact = exact-of _ _ _ _ _ _ (λ i. (c.type_inv.table i).fits) c.requires.0
+          (c.read_inside.ensures.uses ∙ sym (h.1 ∙ simp (← c.stmt_kind-kind.ensures)));
+    }
 
 pub read_stmt-returns-in-Refused : goal.read_stmt-returns-in-Refused
 read_stmt-returns-in-Refused t c =
-    let h = (first c.args.depth c.args.names c.args.table.now c.args.at c.args.sets.now _ _ c.if-depth-eq0.false c.read_between.ensures c.in-Refused.is) in record { said = sym h.0; uses = sym h.1; exact = exact-of _ _ _ _ _ _ (λ i. (c.type_inv.table i).fits) c.requires.0 (sym h.1) }
+    let h = first c.args.depth c.args.names c.args.table.now c.args.at c.args.sets.now _ _ c.if-depth-eq0.false c.read_between.ensures
+    c.in-Refused.is in
+    record { said = sym h.0; uses = sym h.1; exact = exact-of _ _ _ _ _ _ (λ i. (c.type_inv.table i).fits) c.requires.0 (sym h.1) }

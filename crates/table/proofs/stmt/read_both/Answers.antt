@@ -27,4 +27,5 @@ returns-in-Refused-read_expr c =
 pub returns-in-Refused : goal.returns-in-Refused
 unfolding both_at both_uses
 returns-in-Refused c =
-    let e = sym c.read_expr.ensures.said ∙ c.in-Refused.is in record { said = simp e; uses = simp (e, c.read_expr.ensures.uses) }
+    let e = sym c.read_expr.ensures.said ∙ c.in-Refused.is in
+    record { said = simp e; uses = simp (e, c.read_expr.ensures.uses) }

@@ -7,24 +7,36 @@ use Rattle.table.proofs.Small.{name_below}
 use Rattle.table.proofs.stmt.read_input.Goals as goal
 
 pub mark-requires : goal.mark-requires
-mark-requires c =
-    (omega arith, omega (arith, name_below _ _ _ _ _ ((let z : input_at c.args.names c.args.table.now c.args.at ≡ Found c.in-Item.channel c.in-Item.next = sym c.read_name.ensures ∙ c.in-Item.is in z))))
+mark-requires c = (
+  omega arith,
+  let e : input_at c.args.names c.args.table.now c.args.at ≡ Found c.in-Item.channel c.in-Item.next = sym c.read_name.ensures
+      ∙ c.in-Item.is in
+      omega (arith, name_below _ _ _ _ _ e),
+)
 
 pub change-requires : goal.change-requires
-change-requires c = omega (arith, name_below _ _ _ _ _ ((let z : variable_at c.args.names c.args.table.now c.in-Item.next ≡ Found c.in-Item-read_name.variable c.in-Item-read_name.last = sym c.read_name-in-Item.ensures ∙ c.in-Item-read_name.is in z)))
+change-requires c = let e : variable_at c.args.names c.args.table.now c.in-Item.next
+    ≡ Found c.in-Item-read_name.variable c.in-Item-read_name.last = sym c.read_name-in-Item.ensures ∙ c.in-Item-read_name.is in
+    omega (arith, name_below _ _ _ _ _ e)
 
 pub returns-in-Item-read_name : goal.returns-in-Item-read_name
 unfolding taken_at taken_uses
 returns-in-Item-read_name c =
-    let e = (let z : input_at c.args.names c.args.table.now c.args.at ≡ Found c.in-Item.channel c.in-Item.next = sym c.read_name.ensures ∙ c.in-Item.is in z) in
-    let f = (let z : variable_at c.args.names c.args.table.now c.in-Item.next ≡ Found c.in-Item-read_name.variable c.in-Item-read_name.last = sym c.read_name-in-Item.ensures ∙ c.in-Item-read_name.is in z) in record { said = simp (e, f); uses = simp (e, f, c.change.ensures, c.mark.ensures) }
+    let e : input_at c.args.names c.args.table.now c.args.at ≡ Found c.in-Item.channel c.in-Item.next = sym c.read_name.ensures
+    ∙ c.in-Item.is in
+    let f : variable_at c.args.names c.args.table.now c.in-Item.next
+    ≡ Found c.in-Item-read_name.variable c.in-Item-read_name.last = sym c.read_name-in-Item.ensures ∙ c.in-Item-read_name.is in
+    record { said = simp (e, f); uses = simp (e, f, c.change.ensures, c.mark.ensures) }
 
 pub returns-in-Refused-read_name : goal.returns-in-Refused-read_name
 unfolding taken_at taken_uses
 returns-in-Refused-read_name c =
-    let e = (let z : input_at c.args.names c.args.table.now c.args.at ≡ Found c.in-Item.channel c.in-Item.next = sym c.read_name.ensures ∙ c.in-Item.is in z) in
-    let f = sym c.read_name-in-Item.ensures ∙ c.in-Refused-read_name.is in record { said = simp (e, f); uses = simp (e, f) }
+    let e : input_at c.args.names c.args.table.now c.args.at ≡ Found c.in-Item.channel c.in-Item.next = sym c.read_name.ensures
+    ∙ c.in-Item.is in
+    let f = sym c.read_name-in-Item.ensures ∙ c.in-Refused-read_name.is in
+    record { said = simp (e, f); uses = simp (e, f) }
 
 pub returns-in-Refused : goal.returns-in-Refused
 unfolding taken_at taken_uses
-returns-in-Refused c = let e = sym c.read_name.ensures ∙ c.in-Refused.is in record { said = simp e; uses = simp e }
+returns-in-Refused c = let e = sym c.read_name.ensures ∙ c.in-Refused.is in
+    record { said = simp e; uses = simp e }

@@ -15,42 +15,65 @@ unfolding simple_at simple_uses
 returns-in-Stop c = record { said = simp (c.in-Stop.is, c.leaf_part-in-Stop.ensures); uses = simp c.in-Stop.is }
 
 pub change-requires : goal.change-requires
-change-requires c = omega (arith, name_below _ _ _ _ _ ((let z : variable_at c.args.names c.args.table.now c.args.at ≡ Found c.in-Item.target c.in-Item.next = sym c.read_name.ensures ∙ c.in-Item.is in z)))
+change-requires c = let e : variable_at c.args.names c.args.table.now c.args.at
+    ≡ Found c.in-Item.target c.in-Item.next = sym c.read_name.ensures ∙ c.in-Item.is in
+    omega (arith, name_below _ _ _ _ _ e)
 
 pub returns-in-Item : goal.returns-in-Item
 unfolding simple_at simple_uses
 returns-in-Item c =
-    let g = (let z : variable_at c.args.names c.args.table.now c.args.at ≡ Found c.in-Item.target c.in-Item.next = sym c.read_name.ensures ∙ c.in-Item.is in z) in
-    record { said = simp (c.in-Assign.is, g, c.read_value.ensures.said); uses = simp (c.in-Assign.is, g, c.read_value.ensures.uses, c.change.ensures) }
+    let g : variable_at c.args.names c.args.table.now c.args.at ≡ Found c.in-Item.target c.in-Item.next = sym c.read_name.ensures
+    ∙ c.in-Item.is in
+    record {
+      said = simp (c.in-Assign.is, g, c.read_value.ensures.said);
+      uses = simp (c.in-Assign.is, g, c.read_value.ensures.uses, c.change.ensures);
+    }
 
 pub returns-in-Refused : goal.returns-in-Refused
 unfolding simple_at simple_uses
 returns-in-Refused c =
-    let g = sym c.read_name.ensures ∙ c.in-Refused.is in record { said = simp (c.in-Assign.is, g); uses = simp (c.in-Assign.is, g) }
+    let g = sym c.read_name.ensures ∙ c.in-Refused.is in
+    record { said = simp (c.in-Assign.is, g); uses = simp (c.in-Assign.is, g) }
 
 pub returns-in-Head : goal.returns-in-Head
 unfolding simple_at simple_uses
 returns-in-Head c =
-    record { said = simp (c.in-Input.is, sym c.read_input.ensures.said ∙ c.in-Head.is, c.leaf_part-in-Head.ensures); uses = simp (c.in-Input.is, c.read_input.ensures.uses) }
+    record {
+      said = simp (c.in-Input.is, sym c.read_input.ensures.said ∙ c.in-Head.is, c.leaf_part-in-Head.ensures);
+      uses = simp (c.in-Input.is, c.read_input.ensures.uses);
+    }
 
 pub returns-in-Refused-read_input : goal.returns-in-Refused-read_input
 unfolding simple_at simple_uses
 returns-in-Refused-read_input c =
-    record { said = simp (c.in-Input.is, sym c.read_input.ensures.said ∙ c.in-Refused-read_input.is); uses = simp (c.in-Input.is, c.read_input.ensures.uses) }
+    record {
+      said = simp (c.in-Input.is, sym c.read_input.ensures.said ∙ c.in-Refused-read_input.is);
+      uses = simp (c.in-Input.is, c.read_input.ensures.uses);
+    }
 
 pub mark-requires : goal.mark-requires
-mark-requires c = (omega arith, omega (arith, name_below _ _ _ _ _ ((let z : output_at c.args.names c.args.table.now c.args.at ≡ Found c.in-Item-read_name.channel c.in-Item-read_name.next = sym c.read_name-in-Output.ensures ∙ c.in-Item-read_name.is in z))))
+mark-requires c = (
+  omega arith,
+  let e : output_at c.args.names c.args.table.now c.args.at
+      ≡ Found c.in-Item-read_name.channel c.in-Item-read_name.next = sym c.read_name-in-Output.ensures ∙ c.in-Item-read_name.is in
+      omega (arith, name_below _ _ _ _ _ e),
+)
 
 pub returns-in-Item-read_name : goal.returns-in-Item-read_name
 unfolding simple_at simple_uses
 returns-in-Item-read_name c =
-    let h = (let z : output_at c.args.names c.args.table.now c.args.at ≡ Found c.in-Item-read_name.channel c.in-Item-read_name.next = sym c.read_name-in-Output.ensures ∙ c.in-Item-read_name.is in z) in
-    record { said = simp (c.in-Output.is, h, c.read_value-in-Item-read_name.ensures.said); uses = simp (c.in-Output.is, h, c.read_value-in-Item-read_name.ensures.uses, c.mark.ensures) }
+    let h : output_at c.args.names c.args.table.now c.args.at
+    ≡ Found c.in-Item-read_name.channel c.in-Item-read_name.next = sym c.read_name-in-Output.ensures ∙ c.in-Item-read_name.is in
+    record {
+      said = simp (c.in-Output.is, h, c.read_value-in-Item-read_name.ensures.said);
+      uses = simp (c.in-Output.is, h, c.read_value-in-Item-read_name.ensures.uses, c.mark.ensures);
+    }
 
 pub returns-in-Refused-read_name : goal.returns-in-Refused-read_name
 unfolding simple_at simple_uses
 returns-in-Refused-read_name c =
-    let h = sym c.read_name-in-Output.ensures ∙ c.in-Refused-read_name.is in record { said = simp (c.in-Output.is, h); uses = simp (c.in-Output.is, h) }
+    let h = sym c.read_name-in-Output.ensures ∙ c.in-Refused-read_name.is in
+    record { said = simp (c.in-Output.is, h); uses = simp (c.in-Output.is, h) }
 
 pub returns-in-Time : goal.returns-in-Time
 unfolding simple_at simple_uses

@@ -12,4 +12,5 @@ returns-in-Head c =
 pub returns-in-Refused : goal.returns-in-Refused
 unfolding waiting_at waiting_uses
 returns-in-Refused c =
-    let e = sym c.read_whole.ensures.said ∙ c.in-Refused.is in record { said = simp e; uses = simp (e, c.read_whole.ensures.uses) }
+    let e = sym c.read_whole.ensures.said ∙ c.in-Refused.is in
+    record { said = simp e; uses = simp (e, c.read_whole.ensures.uses) }

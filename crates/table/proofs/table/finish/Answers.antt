@@ -40,5 +40,4 @@ returns-then-part-gt-PROCESSES c =
     simp (le-ltb _ _ c.if-part-length.false, clear _ c.if-part-gt0.false, lt-leb _ _ c.if-part-gt-PROCESSES.true)
 
 pub returns : goal.returns
-returns c =
-    sym (accepted _ _ _ _ c.if-part-length.false c.if-part-gt0.false c.if-part-gt-PROCESSES.false)
+returns c = sym (accepted _ _ _ _ c.if-part-length.false c.if-part-gt0.false c.if-part-gt-PROCESSES.false)

@@ -23,8 +23,7 @@ pub loop-k-init : goal.loop-k-init
 loop-k-init c = (refl, omega arith)
 
 pub loop-k-preserved : goal.loop-k-preserved
-loop-k-preserved c =
-    (c.loop-k.invariant.0 ∙ turn _ _ _ _ c.loop-k-test.true ∙ rw c.common-names.ensures, omega arith)
+loop-k-preserved c = (c.loop-k.invariant.0 ∙ turn _ _ _ _ c.loop-k-test.true ∙ rw c.common-names.ensures, omega arith)
 
 pub returns : goal.returns
 unfolding clashing

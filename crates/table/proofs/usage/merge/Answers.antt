@@ -24,8 +24,7 @@ pub loop-k-init : goal.loop-k-init
 loop-k-init c = (refl, omega arith)
 
 pub loop-k-preserved : goal.loop-k-preserved
-loop-k-preserved c =
-    (c.loop-k.invariant.0 ∙ turn _ _ _ c.loop-k-test.true, omega arith)
+loop-k-preserved c = (c.loop-k.invariant.0 ∙ turn _ _ _ c.loop-k-test.true, omega arith)
 
 pub returns : goal.returns
 returns c = sym (c.loop-k.invariant.0 ∙ none _ _ _ c.loop-k-test.false)
