@@ -45,7 +45,7 @@ use Rattle.statements.proofs.Planned.{next-is, PlannedExpr, PlannedGuard, Planne
 use Rattle.statements.proofs.Fills.{filled, fill-then, fill-before, fill_none, fill-swap, Room, room-left, room-right, emits}
 use Rattle.statements.proofs.Fills.{emits-fills, emits-at, gap-fills}
 use Rattle.statements.proofs.Closes.{closed, close-is, Kept, kept-all, kept_more, closed-more, closed_none}
-use Rattle.statements.proofs.ExprCode.{whole_code_lem, both_code_lem, local-is}
+use Rattle.statements.proofs.ExprCode.{whole-coded, both-coded, local-is}
 use Rattle.statements.proofs.Compiles.{Scoped, inner-scope, Placed, Written, Compiles}
 
 -- a guard, its expressions put
@@ -131,7 +131,7 @@ module _ (word : Site → ℕ) (workspace : ℕ → ℕ) (s plan : List ℕ) whe
         rw (
           k.value,
           k.is,
-          whole_code_lem word s plan alt_words (omega arith) scope.variables w x told h o (room-left h (guard_code word w e) _ r),
+          whole-coded word s plan alt_words (omega arith) scope.variables w x told h o (room-left h (guard_code word w e) _ r),
           ch.there.value,
           local-is word s scope.channels w ch,
           emits-fills (plain ldlp (local word w c) ∷ operation rev ∷ []) h (guard_code word w e) o r,
@@ -142,7 +142,7 @@ module _ (word : Site → ℕ) (workspace : ℕ → ℕ) (s plan : List ℕ) whe
         → (x : ExprAt s sc.variables d n e m) → PlannedExpr s plan x → Begins d ns w i m h o SkipGuard (guard_code word w e)
     unfolding guard_into
     skipping-fills w h o k x told r =
-        rw (k.value, k.is, whole_code_lem word s plan alt_words (omega arith) scope.variables w x told h o r) refl
+        rw (k.value, k.is, whole-coded word s plan alt_words (omega arith) scope.variables w x told h o r) refl
 
     -- 02, order 4: time and condition
     timing-fills : {i n m p : ℕ} {e t : Expr} (w h : ℕ) (o : List ℕ) → KindAt s guard_kind i TimeGuard n
@@ -150,7 +150,7 @@ module _ (word : Site → ℕ) (workspace : ℕ → ℕ) (s plan : List ℕ) whe
         → Begins d ns w i p h o TimeGuard (both_code word w t e)
     unfolding guard_into
     timing-fills w h o k x told y told-too r =
-        rw (k.value, k.is, both_code_lem word s plan alt_words (omega arith) scope.variables w x told y told-too h o r) refl
+        rw (k.value, k.is, both-coded word s plan alt_words (omega arith) scope.variables w x told y told-too h o r) refl
 
     enable-waits : (w : ℕ) (e : Expr) (c x : Site) (y : Stmt) (gs : Guards)
         → code_enable word w (guard (input_guard e c x) y gs) ≡ waiting w e c ++ operation enbc ∷ [] ++ code_enable word w gs

@@ -23,7 +23,7 @@ use Rattle.statements.specs.Kinds.{stmt_into, inside_into}
 use Rattle.statements.proofs.Spelled.{KindAt, OneAt, ExprAt, StmtAt}
 use Rattle.statements.proofs.Planned.{PlannedExpr, PlannedStmt}
 use Rattle.statements.proofs.Fills.{filled, fill_none, Room, room-left, emits-fills, emits-at}
-use Rattle.statements.proofs.ExprCode.{Named, local-is, whole_code_lem}
+use Rattle.statements.proofs.ExprCode.{Named, local-is, whole-coded}
 
 -- the words of the names in scope
 pub record Scoped (word : Site → ℕ) (depth : ℕ) (sc : M.Scope) (ns : Names) : Type 0 where
@@ -78,7 +78,7 @@ module _ (word : Site → ℕ) (workspace : ℕ → ℕ) (s plan : List ℕ) whe
           k.is,
           a.there.value,
           local-is word s names.variables w a,
-          whole_code_lem word s plan 0 (omega arith) names.variables w c told j o (room-left j (whole_code word w e) _ p.room),
+          whole-coded word s plan 0 (omega arith) names.variables w c told j o (room-left j (whole_code word w e) _ p.room),
         )
         (ap (written _) (emits-fills (plain stl (local word w x) ∷ []) j (whole_code word w e) o p.room))
 
@@ -105,7 +105,7 @@ module _ (word : Site → ℕ) (workspace : ℕ → ℕ) (s plan : List ℕ) whe
           k.is,
           a.there.value,
           local-is word s names.channels w a,
-          whole_code_lem word s plan 0 (omega arith) names.variables w b told j o (room-left j (whole_code word w e) _ p.room),
+          whole-coded word s plan 0 (omega arith) names.variables w b told j o (room-left j (whole_code word w e) _ p.room),
         )
         (ap (written _) (emits-fills
         (plain ldlp (local word w c) ∷ operation I.rev ∷ plain ajw (minus 1) ∷ operation I.outword ∷ plain ajw 1 ∷ [])
@@ -125,6 +125,6 @@ module _ (word : Site → ℕ) (workspace : ℕ → ℕ) (s plan : List ℕ) whe
         rw (
           k.value,
           k.is,
-          whole_code_lem word s plan 0 (omega arith) names.variables w c told j o (room-left j (whole_code word w e) _ p.room),
+          whole-coded word s plan 0 (omega arith) names.variables w c told j o (room-left j (whole_code word w e) _ p.room),
         )
         (ap (written _) (emits-fills (operation I.tin ∷ []) j (whole_code word w e) o p.room))

@@ -159,12 +159,12 @@ module _ (word : Site → ℕ) (s : List ℕ) where
         (ap (written _) (fill-then h S (operator_code op) o))
 
   -- a whole expression, with so many words more below W
-  pub whole_code_lem : (plan : List ℕ) {d i n : ℕ} {vs : List Site} {ws : List ℕ} {e : Expr} (more : ℕ) → more ≤ word_limit
+  pub whole-coded : (plan : List ℕ) {d i n : ℕ} {vs : List Site} {ws : List ℕ} {e : Expr} (more : ℕ) → more ≤ word_limit
       → Named word (suc d) vs ws → (w : ℕ) (a : ExprAt s vs d i e n) → PlannedExpr s plan a → (h : ℕ) (o : List ℕ)
       → let X = wrapped (temporaries e) more w (λ v. expr_code word v 0 e) in
       Room h X → whole_into d w more ws plan s i (at h o) ≡ written n (filled h X o)
   unfolding whole_into
-  whole_code_lem plan {d} {i} {n} {vs} {ws} {e} more few names w a told =
+  whole-coded plan {d} {i} {n} {vs} {ws} {e} more few names w a told =
       let deep : d ≤ 32 = omega (arith, names.deep) in
       let held = holds-few s a in
       rw told.0.holds
@@ -172,13 +172,13 @@ module _ (word : Site → ℕ) (s : List ℕ) where
       (λ v. expr-code plan names v a told deep 0 (omega arith)))
 
   -- a time guard's time and condition, with so many words more below W
-  pub both_code_lem : (plan : List ℕ) {d i m n : ℕ} {vs : List Site} {ws : List ℕ} {e t : Expr} (more : ℕ) → more ≤ word_limit
+  pub both-coded : (plan : List ℕ) {d i m n : ℕ} {vs : List Site} {ws : List ℕ} {e t : Expr} (more : ℕ) → more ≤ word_limit
       → Named word (suc d) vs ws → (w : ℕ) (a : ExprAt s vs d i e m) → PlannedExpr s plan a → (b : ExprAt s vs d m t n)
       → PlannedExpr s plan b → (h : ℕ) (o : List ℕ)
       → let X = wrapped (both_hold t e) more w (λ v. sides_code (order t e) 0 (λ k. expr_code word v k t) (expr_code word v 0 e)) in
       Room h X → both_into d w more ws plan s i (at h o) ≡ written n (filled h X o)
   unfolding both_into sides_into sides_of time_and_condition
-  both_code_lem plan {d} {i} {m} {n} {vs} {ws} {e} {t} more few names w a x b y =
+  both-coded plan {d} {i} {m} {n} {vs} {ws} {e} {t} more few names w a x b y =
       let deep : d ≤ 32 = omega (arith, names.deep) in
       let held = sides-hold (order t e) (temporaries t) (temporaries e) in
       let one = holds-few s a in

@@ -28,7 +28,7 @@ use Rattle.statements.proofs.Spelled.{KindAt, ExprAt, CountAt, StmtAt, StmtsAt, 
 use Rattle.statements.proofs.Planned.{PlannedExpr, PlannedStmt, PlannedStmts, PlannedPairs}
 use Rattle.statements.proofs.Fills.{filled, fill-then, fill_none, Room, room-left, room-right, emits-fills, gap-fills, distance-list}
 use Rattle.statements.proofs.Closes.{closed, close-is, Kept, kept-all, kept_more, closed-more, closed_none}
-use Rattle.statements.proofs.ExprCode.{whole_code_lem}
+use Rattle.statements.proofs.ExprCode.{whole-coded}
 use Rattle.statements.proofs.Compiles.{Scoped, inner-scope, Placed, Written, Compiles, stopp-fills}
 
 -- a gap in front of what follows it, filled
@@ -102,7 +102,7 @@ module _ (word : Site → ℕ) (workspace : ℕ → ℕ) (s plan : List ℕ) whe
         let gap : sets (sets O (test + 1) (entries_of B)) test (entries_of (T ∷ [])) ≡ sets o j (entries_of (E ++ T ∷ B)) =
         rw placed at (gap-fills j E T B o) in
         rw (
-          whole_code_lem word s plan 0 (omega arith) scope.variables w c first j o (omega arith),
+          whole-coded word s plan 0 (omega arith) scope.variables w c first j o (omega arith),
           placed,
           begins,
           inner.compiles w (test + 1) a second (inner-scope scope) (record { laid = laid; low = fits; few = few; room = omega arith }) O,

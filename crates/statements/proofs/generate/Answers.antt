@@ -20,8 +20,8 @@ use Rattle.statements.proofs.TableCode.{facts-are, outside-few, table-code}
 use Rattle.statements.proofs.generate.Goals as goal
 
 -- no name in scope: there is room for all
-no_names_lem : (w : ℕ) → Scoped 33 (record { depth = 32; w = w; variables = 0; channels = 0 }) (replicate 2112 0) no_names
-no_names_lem w = record {
+nothing-scoped : (w : ℕ) → Scoped 33 (record { depth = 32; w = w; variables = 0; channels = 0 }) (replicate 2112 0) no_names
+nothing-scoped w = record {
   shows = record {
     variables = record { counted = refl; few = omega arith; each = λ k l. absurd (omega arith) };
     channels = record { counted = refl; few = omega arith; each = λ k l. absurd (omega arith) };
@@ -52,7 +52,7 @@ returns c plan q is answer few =
     let e : low (q.inputs + q.outputs) ≡ q.inputs + q.outputs = mod-eq_of_lt (omega arith) in
     rw e (omega arith)) in
     let r = rw c.enter-scope.ensures.scope at c.statement-end.ensures in
-    let m = (within-names Channels _ _ 32 _ _ small c.enter-scope.ensures.names r no_names (no_names_lem _)).0 in
+    let m = (within-names Channels _ _ 32 _ _ small c.enter-scope.ensures.names r no_names (nothing-scoped _)).0 in
     let t = table_of _ _ _ _ _ _ _ c.plus-outside.ensures (c.skip-2.ensures ∙ ap (next_of _) c.skip.ensures) m in
     let z = planned _ _ _ _ _ _ plan f t ∙ table-code _ q (λ y. (c.type_inv.table y).fits) is few _ in
     (ap (λ x. x.here) z, ap (λ x. x.list) z)
