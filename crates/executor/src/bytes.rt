@@ -89,7 +89,8 @@ pub fn step(
     clock: u32,
     front: &mut u32,
 ) -> Step
-    requires size_in_bounds { (size ≤ length memory.old) × (cpu.running ≡ true) × (memory_size setup ≡ size) × (setup.code ≤ length code.now) }
+    requires size_in_bounds { (size ≤ length memory.old) × (cpu.running ≡ true) × (memory_size setup ≡ size)
+        × (setup.code ≤ length code.now) }
     requires held_len { length held.old ≡ 8 }
     ensures { Acts setup (byte_of code.now) cpu offers.now held.old clock front.old
         memory.old result held.new front.new memory.new }

@@ -17,7 +17,6 @@ use Rattle.processor.specs.Seen.{Rest, world}
 use Rattle.processor.specs.Quiet.{quiet, offering, timing, Acts}
 use Rattle.processor.specs.declared.memory.Step.TheVariants.{Done, Fault}
 use Rattle.model.proofs.Laws.RunSteps.{run-waits, run_ends, run-spent, run_on, run-faults}
-use Rattle.processor.proofs.Laws.{ends}
 use Rattle.machine.specs.Runs.{saying, Reaches, Finishes}
 
 -- what a result says of the machine and the memory, beside communications
