@@ -6,6 +6,7 @@ use Rattle.waking.proofs.Along.{unmarked, walks-start, walks-end, walks-no, walk
 use Rattle.waking.proofs.Begun.{begins-asleep, begins-faulty}
 use Rattle.waking.proofs.opening.begin.Goals as goal
 
+-- `walks-start ..`: a walk along the timer queue that is at the front
 pub returns-then-front-eq-NOT_PROCESS : goal.returns-then-front-eq-NOT_PROCESS
 returns-then-front-eq-NOT_PROCESS c =
     let w = walks-start c.args.size c.args.clock c.args.front c.args.cpu c.args.memory.now c.ranges.front.fits in
