@@ -113,8 +113,8 @@ links-differ p q h k n e = n (omega arith)
 -- one more is seen, and its link is marked
 marks-more :
     (p q : ℕ) (seen : List ℕ) (marks : List Bool) → p < 2 ^ 32 → q < 2 ^ 32 → time_link_word p < length marks
-    → was_at q seen ≡ get_or marks (time_link_word q) false → was_at q (p ∷ seen) ≡ get_or (set marks (time_link_word p) true)
-    (time_link_word q) false
+    → was_at q seen ≡ get_or marks (time_link_word q) false
+    → was_at q (p ∷ seen) ≡ get_or (set marks (time_link_word p) true) (time_link_word q) false
 unfolding was_at
 marks-more p q seen marks h k i e =
     by_bool (eqb q p)

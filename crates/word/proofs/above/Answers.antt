@@ -1,5 +1,5 @@
 -- `word::above` meets its contract. Assumes nothing.
-use Rattle.std.proofs.Common.{rules, le-ltb, lt-ltb}
+use Rattle.std.proofs.Common.{le-ltb, lt-ltb}
 use Rattle.word.proofs.above.Goals as goal
 
 pub returns-then-plus : goal.returns-then-plus

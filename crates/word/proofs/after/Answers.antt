@@ -1,5 +1,5 @@
 -- `word::after` meets its contract. Assumes nothing.
-use Rattle.std.proofs.Common.{◌≡◌, ℕ, zero, suc, ◌<◌, Bool, true, false, cond, pos, negsuc, sym, refl, arith, rules, lt-ltb}
+use Rattle.std.proofs.Common.{◌≡◌, ℕ, zero, suc, ◌<◌, Bool, true, false, cond, pos, negsuc, sym, refl, arith, lt-ltb}
 use lib.Signed.{lt_z}
 use Rattle.model.specs.Word.{signed, after}
 use Rattle.word.proofs.after.Goals as goal
