@@ -1,6 +1,5 @@
 -- `instruction_test::print_all` is safe and ends; the measure is the operands that are left. Assumes nothing.
 use Prim.Native.Nat.{◌≤◌, ◌-◌}
-use borrow.Author.Rules.{rules}
 use lib.ListN.{length}
 use Rattle.instruction_test.proofs.print_all.Given as goal
 

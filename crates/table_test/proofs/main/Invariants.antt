@@ -1,5 +1,4 @@
 -- `table_test::main` is safe and ends; the measure is the lines that are left. Assumes nothing.
-use borrow.Author.Rules.{rules}
 use Rattle.table_test.proofs.main.Given as goal
 
 abbrev pub decreases-loop-line : goal.decreases-loop-line
