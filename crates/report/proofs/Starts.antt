@@ -133,7 +133,8 @@ open-short table code l h = rw (lt-ltb _ _ h) (record { report = refl; code = re
 
 -- the memory is too short
 pub open-small :
-    (table code l : List ℕ) → code_limit ≤ length code → length l < word_limit → Opens (open_of table code l) (refusing 11 word_limit) code l
+    (table code l : List ℕ) → code_limit ≤ length code → length l < word_limit
+    → Opens (open_of table code l) (refusing 11 word_limit) code l
 unfolding open_of
 open-small table code l h k = rw (le-ltb _ _ h, lt-ltb _ _ k) (record { report = refl; code = refl; memory = refl })
 

@@ -1,9 +1,11 @@
 -- The bench program's text by its pieces: what each turn gives, and what is still to come.
-use Rattle.std.specs.Prelude.{ℕ, suc, ◌+◌, ◌-◌, ◌*◌, ◌≡◌, Bool, true, false, cond, ◌||◌, List, [], ◌∷◌, ◌++◌, length, take, drop, get_or, ltb, eqb}
+use Rattle.std.specs.Prelude.{ℕ, suc, ◌+◌, ◌-◌, ◌*◌, ◌≡◌, Bool, true, false, cond, ◌||◌, List, [], ◌∷◌, ◌++◌, length, take, drop, get_or}
+use Rattle.std.specs.Prelude.{ltb, eqb}
 use Rattle.model.specs.Run.{run}
 use Rattle.model.specs.Outside.{take as take_from}
 use Rattle.model.specs.Word.{signed}
-use Rattle.model.specs.Bench.{ascii, hex, newline, line, code_line, refused_line, signed_decimal, took_one, takes, bench_budget, bench_clock}
+use Rattle.model.specs.Bench.{ascii, hex, newline, line, code_line, refused_line, signed_decimal, took_one, takes, bench_budget}
+use Rattle.model.specs.Bench.{bench_clock}
 use Rattle.model.specs.Bench.{on_takes, rounds}
 use Rattle.model.specs.declared.Machine.{Machine}
 use Rattle.model.specs.declared.Outcome.{Outcome}

@@ -4,7 +4,10 @@ use Rattle.machine.proofs.outside.hand_wake.Goals as goal
 
 pub returns-in-Value : goal.returns-in-Value
 returns-in-Value c u h g =
-    undid _ _ _ h _ (c.swap.ensures.held, c.swap.ensures.holds) c.in-Value.is (c.empty_wake-step.ensures u h g) (c.undo.ensures.same, c.undo.ensures.back)
+    undid _ _ _ h _ (c.swap.ensures.held, c.swap.ensures.holds) c.in-Value.is (c.empty_wake-step.ensures u h g) (
+      c.undo.ensures.same,
+      c.undo.ensures.back,
+    )
 
 pub returns-in-Fault : goal.returns-in-Fault
 returns-in-Fault c u h g =

@@ -14,7 +14,8 @@ returns-then-memory-size c =
       answer = rw e c.unchanged.ensures.0;
       machine = rw e c.unchanged.ensures.1;
       memory = rw e refl;
-      refusal = with_number refused_offer (offer-refuses c.args.machine c.args.memory.now c.args.k c.args.value) (rw e c.unchanged.ensures.0);
+      refusal = with_number refused_offer (offer-refuses c.args.machine c.args.memory.now c.args.k c.args.value)
+          (rw e c.unchanged.ensures.0);
     }
 
 pub returns-in-Fault : goal.returns-in-Fault
@@ -24,7 +25,8 @@ returns-in-Fault c =
       answer = rw e c.unchanged-in-Fault.ensures.0;
       machine = rw e c.unchanged-in-Fault.ensures.1;
       memory = rw e refl;
-      refusal = with_number refused_offer (offer-refuses c.args.machine c.args.memory.now c.args.k c.args.value) (rw e c.unchanged-in-Fault.ensures.0);
+      refusal = with_number refused_offer (offer-refuses c.args.machine c.args.memory.now c.args.k c.args.value)
+          (rw e c.unchanged-in-Fault.ensures.0);
     }
 
 pub returns-in-Nothing : goal.returns-in-Nothing
@@ -33,5 +35,6 @@ returns-in-Nothing c =
       answer = c.offer_machine.ensures.answer;
       machine = c.offer_machine.ensures.machine;
       memory = c.offer_machine.ensures.memory;
-      refusal = with_number refused_offer (offer-refuses c.args.machine c.args.memory.now c.args.k c.args.value) c.offer_machine.ensures.answer;
+      refusal = with_number refused_offer (offer-refuses c.args.machine c.args.memory.now c.args.k c.args.value)
+          c.offer_machine.ensures.answer;
     }

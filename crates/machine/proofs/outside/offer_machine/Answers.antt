@@ -13,7 +13,11 @@ returns-then-setup-k c =
     let n : c.args.k < c.args.machine.setup.inputs → c.args.k < 8 → ⊥ =
     λ p q. ⊎_elim (λ t. omega arith) (λ t. omega arith) c.then-setup-k.either in
     let g : memory_size c.args.machine.setup ≤ length c.args.memory.now = omega (arith, c.requires.0, c.requires.1) in
-    rw (offer-nowhere c.args.machine c.args.memory.now c.args.k c.args.value g c.requires.2 n) (record { answer = c.unchanged.ensures.0; machine = c.unchanged.ensures.1; memory = refl })
+    rw (offer-nowhere c.args.machine c.args.memory.now c.args.k c.args.value g c.requires.2 n) (record {
+      answer = c.unchanged.ensures.0;
+      machine = c.unchanged.ensures.1;
+      memory = refl;
+    })
 
 pub returns-then-held-k : goal.returns-then-held-k
 returns-then-held-k c =

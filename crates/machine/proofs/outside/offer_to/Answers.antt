@@ -11,7 +11,12 @@ unfolding space_of
 returns-then-alt_state c =
     let d = c.peek.ensures c.args.machine.setup c.requires.size_in_bounds.1 (rest_of c.args.machine) c.args.machine.cpu in
     rw (c.settle.ensures, c.hold.ensures)
-    (offer-tells _ _ _ _ (omega (arith, c.requires.size_in_bounds.0, c.requires.size_in_bounds.1)) c.requires.size_in_bounds.2 c.requires.k_lt_inputs.0 c.requires.k_lt_inputs.1 c.requires.k_lt_inputs.2 c.requires.k_value.0 c.requires.k_value.1 (rw (c.state_word.ensures, c.in-Value.is) at d)
+    (offer-tells _ _ _ _ (omega (
+      arith,
+      c.requires.size_in_bounds.0,
+      c.requires.size_in_bounds.1,
+    )) c.requires.size_in_bounds.2 c.requires.k_lt_inputs.0 c.requires.k_lt_inputs.1
+    c.requires.k_lt_inputs.2 c.requires.k_value.0 c.requires.k_value.1 (rw (c.state_word.ensures, c.in-Value.is) at d)
     (sym c.alt_state.ensures ∙ c.if-alt_state.true) (c.notify_wake-told.ensures c.args.machine.setup c.requires.size_in_bounds.1 refl))
 
 pub returns-else-alt_state : goal.returns-else-alt_state
@@ -19,7 +24,12 @@ unfolding space_of
 returns-else-alt_state c =
     let d = c.peek.ensures c.args.machine.setup c.requires.size_in_bounds.1 (rest_of c.args.machine) c.args.machine.cpu in
     rw c.settle-in-Value.ensures
-    (offer-hands _ _ _ _ (omega (arith, c.requires.size_in_bounds.0, c.requires.size_in_bounds.1)) c.requires.size_in_bounds.2 c.requires.k_lt_inputs.0 c.requires.k_lt_inputs.1 c.requires.k_lt_inputs.2 c.requires.k_value.0 c.requires.k_value.1 (rw (c.state_word.ensures, c.in-Value.is) at d)
+    (offer-hands _ _ _ _ (omega (
+      arith,
+      c.requires.size_in_bounds.0,
+      c.requires.size_in_bounds.1,
+    )) c.requires.size_in_bounds.2 c.requires.k_lt_inputs.0 c.requires.k_lt_inputs.1
+    c.requires.k_lt_inputs.2 c.requires.k_value.0 c.requires.k_value.1 (rw (c.state_word.ensures, c.in-Value.is) at d)
     (sym c.alt_state.ensures ∙ c.if-alt_state.false) (c.hand_wake-handed.ensures c.args.machine.setup c.requires.size_in_bounds.1 refl))
 
 pub returns-in-Fault : goal.returns-in-Fault
@@ -27,5 +37,10 @@ unfolding space_of
 returns-in-Fault c =
     let d = c.peek.ensures c.args.machine.setup c.requires.size_in_bounds.1 (rest_of c.args.machine) c.args.machine.cpu in
     rw c.settle-in-Fault.ensures
-    (offer-fault _ _ _ _ (omega (arith, c.requires.size_in_bounds.0, c.requires.size_in_bounds.1)) c.requires.size_in_bounds.2 c.requires.k_lt_inputs.0 c.requires.k_lt_inputs.1 c.requires.k_lt_inputs.2 c.requires.k_value.0 c.requires.k_value.1
+    (offer-fault _ _ _ _ (omega (
+      arith,
+      c.requires.size_in_bounds.0,
+      c.requires.size_in_bounds.1,
+    )) c.requires.size_in_bounds.2 c.requires.k_lt_inputs.0 c.requires.k_lt_inputs.1
+    c.requires.k_lt_inputs.2 c.requires.k_value.0 c.requires.k_value.1
     (rw (c.state_word.ensures, c.in-Fault.is) at d))

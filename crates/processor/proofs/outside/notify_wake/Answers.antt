@@ -7,7 +7,8 @@ use Rattle.processor.proofs.outside.notify_wake.Goals as goal
 pub returns-in-Value : goal.returns-in-Value
 unfolding space_of
 returns-in-Value c u h g =
-    like (undid _ _ _ h _ (c.swap.ensures.held, c.swap.ensures.holds) c.in-Value.is (c.wake_waiting-step.ensures u h g) (c.undo.ensures.same, c.undo.ensures.back))
+    like (undid _ _ _ h _ (c.swap.ensures.held, c.swap.ensures.holds) c.in-Value.is (c.wake_waiting-step.ensures u h g)
+    (c.undo.ensures.same, c.undo.ensures.back))
     (λ x. rw (← c.state_word-a.ensures))
 
 pub returns-in-Fault : goal.returns-in-Fault

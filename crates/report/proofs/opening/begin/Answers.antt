@@ -11,4 +11,8 @@ slice_bounds-start-end-2 c =
 
 pub returns : goal.returns
 returns c =
-    record { report = rw c.start-begun.ensures.machine; memory = ap (λ l. l ++ drop c.args.facts.words c.args.memory.now) c.start-begun.ensures.memory }
+    record {
+      report = rw c.start-begun.ensures.machine;
+      memory = ap (λ l. l
+          ++ drop c.args.facts.words c.args.memory.now) c.start-begun.ensures.memory;
+    }

@@ -13,7 +13,8 @@ slice_bounds-begin-end c =
 
 pub begin-requires : goal.begin-requires
 begin-requires c =
-    let f = facts-fit c.args.table.now _ (compile c.args.table.now code_limit) refl c.requires.code_limit_value (sym c.read.ensures.answer ∙ c.in-Accepted.is) in
+    let f = facts-fit c.args.table.now _ (compile c.args.table.now code_limit) refl c.requires.code_limit_value (sym c.read.ensures.answer
+    ∙ c.in-Accepted.is) in
     (f.0, omega (arith, f.1, c.requires.size_in_bounds.1))
 
 pub returns-in-Accepted : goal.returns-in-Accepted

@@ -29,7 +29,14 @@ load-requires c =
     let q = sym c.compile_into.ensures.answer ∙ c.in-Code.is in
     let d = ap (λ l. l ++ drop code_limit c.args.code.now) (rw t at c.compile_into.ensures.buffer) in
     let s = rw t at q in
-    record { size_in_bounds = (size_fits (take code_limit c.args.code.now) (drop code_limit c.args.code.now) (compile c.args.table.now code_limit) s d, c.if-memory-lt-MEMORY.false); code_limit_value = s }
+    record {
+      size_in_bounds = (
+        size_fits (take code_limit c.args.code.now) (drop code_limit c.args.code.now)
+            (compile c.args.table.now code_limit) s d,
+        c.if-memory-lt-MEMORY.false,
+      );
+      code_limit_value = s;
+    }
 
 pub returns-in-Code : goal.returns-in-Code
 returns-in-Code c =

@@ -15,8 +15,11 @@ pub push-r-requires : goal.push-r-requires
 push-r-requires c = omega (arith, c.loop-i.invariant.2)
 
 pub loop-i-preserved : goal.loop-i-preserved
-loop-i-preserved c =
-    (omega arith, further (text_in c.args.piece) c.args.text.now c.loop-i.i (omega arith) c.push-r.ensures.text c.loop-i.invariant.1, omega (arith, c.loop-i.invariant.2, c.push-r.ensures.long))
+loop-i-preserved c = (
+  omega arith,
+  further (text_in c.args.piece) c.args.text.now c.loop-i.i (omega arith) c.push-r.ensures.text c.loop-i.invariant.1,
+  omega (arith, c.loop-i.invariant.2, c.push-r.ensures.long),
+)
 
 pub returns : goal.returns
 returns c =

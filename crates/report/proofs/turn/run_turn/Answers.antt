@@ -15,15 +15,18 @@ stand-requires c =
 
 pub returns-in-Ran : goal.returns-in-Ran
 returns-in-Ran c =
-    ran _ _ _ (c.requires) c.if-report-eq0.false c.budget.ensures.0 c.run-ran.ensures.answer c.run-ran.ensures.machine c.run-ran.ensures.memory
+    ran _ _ _ (c.requires) c.if-report-eq0.false c.budget.ensures.0 c.run-ran.ensures.answer c.run-ran.ensures.machine
+    c.run-ran.ensures.memory
     (rw c.in-Ran.is (c.stand.ensures _))
 
 pub returns-in-EarlierClock : goal.returns-in-EarlierClock
 returns-in-EarlierClock c =
-    ran _ _ _ (c.requires) c.if-report-eq0.false c.budget.ensures.0 c.run-ran.ensures.answer c.run-ran.ensures.machine c.run-ran.ensures.memory
+    ran _ _ _ (c.requires) c.if-report-eq0.false c.budget.ensures.0 c.run-ran.ensures.answer c.run-ran.ensures.machine
+    c.run-ran.ensures.memory
     (rw c.in-EarlierClock.is (c.not_run.ensures _))
 
 pub returns-in-Short : goal.returns-in-Short
 returns-in-Short c =
-    ran _ _ _ (c.requires) c.if-report-eq0.false c.budget.ensures.0 c.run-ran.ensures.answer c.run-ran.ensures.machine c.run-ran.ensures.memory
+    ran _ _ _ (c.requires) c.if-report-eq0.false c.budget.ensures.0 c.run-ran.ensures.answer c.run-ran.ensures.machine
+    c.run-ran.ensures.memory
     (rw c.in-Short.is (c.not_run-in-Short.ensures _))
