@@ -2,7 +2,7 @@
 // channels, ALT, held offers, kept fault and outcomes. It runs the loops of crates/speed_test and writes the same lines.
 //
 //     rustc -O -o target/plain speed/plain.rs     (-O is opt-level 3)
-//     target/plain 10000000                       all loops, as target/bin/speed_test
+//     target/plain 10000000                       all loops, as crates/speed_test/out/speed_test
 //     target/plain 500000000 mixed                one of them
 
 const NOT_PROCESS: u32 = 0x8000_0000;
