@@ -175,9 +175,11 @@ numbers_of r =
 abbrev guards : Guards
 guards = guard (input_guard stores_one c x) SKIP (guard (skip_guard stores_one) SKIP no_guard)
 
--- one of a time guard whose condition stores a value
+-- one of a guard of each kind, whose condition stores a value
 abbrev timed_guards : Guards
-timed_guards = guard (time_guard stores_one (constant 7)) SKIP no_guard
+timed_guards =
+    guard (input_guard stores_one c x) SKIP
+    (guard (skip_guard stores_one) SKIP (guard (time_guard stores_one (constant 7)) SKIP no_guard))
 
 -- their conditions' code between AJW -6 and AJW 6, and what follows it
 abbrev wrapped : (condition rest : List Instruction) → List Instruction
@@ -384,8 +386,13 @@ pub record Examples : Type 0 where
   -- words and processes of the statements of order 4
   pub timed-needs : map need timed_statements ≡ 2 ∷ 5 ∷ 6 ∷ 6 ∷ 9 ∷ 9 ∷ 8 ∷ []
   pub timed-live : map processes timed_statements ≡ 1 ∷ 1 ∷ 1 ∷ 1 ∷ 1 ∷ 1 ∷ 3 ∷ []
-  -- order 4: the wrap of a time guard is around time and condition, here condition, time, REV
+  -- 02, order 2: the wrap of each guard, in enabling and in disabling, is AJW -6 and AJW 6 for one stored value; order 4: that of a time
+  -- guard is around time and condition, here condition, time, REV
   pub timed-wraps : (word : Site → ℕ)
       → code_enable word 100 timed_guards ⧺ code_disable word 100 70 71 timed_guards
-      ≡ wrapped (expr_code word 94 0 stores_one ⧺ plain ldc 7 ∷ operation rev ∷ []) (operation enbt ∷ [])
-      ⧺ wrapped (expr_code word 94 0 stores_one ⧺ plain ldc 7 ∷ operation rev ∷ []) (distance ldc 71 70 ∷ operation dist ∷ [])
+      ≡ wrapped (expr_code word 94 0 stores_one) (plain ldlp (less (word c) 100) ∷ operation rev ∷ operation enbc ∷ [])
+      ⧺ wrapped (expr_code word 94 0 stores_one) (operation enbs ∷ [])
+      ⧺ wrapped (expr_code word 94 0 stores_one ⧺ plain ldc 7 ∷ operation rev ∷ []) (operation enbt ∷ [])
+      ⧺ wrapped (expr_code word 94 0 stores_one) (plain ldlp (less (word c) 100) ∷ operation rev ∷ distance ldc 71 70 ∷ operation disc ∷ [])
+      ⧺ wrapped (expr_code word 94 0 stores_one) (distance ldc 77 70 ∷ operation diss ∷ [])
+      ⧺ wrapped (expr_code word 94 0 stores_one ⧺ plain ldc 7 ∷ operation rev ∷ []) (distance ldc 79 70 ∷ operation dist ∷ [])
