@@ -1,11 +1,13 @@
 -- Laws of actions of memory alone: whatever the stack holds they do the same, and the process stays where it is.
 use Prim.Native.Nat.{ℕ, ◌≤◌, ◌<◌}
-use mathlib.Core.Path.{◌≡◌, refl, ap, ◌∙◌}
+use mathlib.Core.Path.{◌≡◌, refl, ap, sym, ◌∙◌}
 use mathlib.Core.Bool.{Bool, true, false, cond}
 use mathlib.Core.List.{List, []}
 use borrow.Author.Tests.{lt-ltb, ltb-true}
-use lib.ListN.{get_or, set}
+use lib.ListN.{get_or, set, length}
+use Rattle.std.specs.Prelude.{◌++◌}
 use lib.Dec.{ltb, eqb}
+use Rattle.std.specs.Prelude.{Ok, Err, Option, Some, None, is_some}
 use Rattle.model.specs.Word.{not_process}
 use Rattle.model.specs.Machine.{World, Act, Result, done, faults, next, ◌>>=◌, ◌>>◌, return, with_cpu, with_memory, registers, name_of}
 use Rattle.model.specs.Machine.{memory_size, stack, peek, poke, state_word, release, changing}
@@ -13,16 +15,12 @@ use Rattle.model.specs.Alternative.{set_ready, ready, select, none_selected, wai
 use Rattle.model.specs.Run.{land, no_timer}
 use Rattle.model.specs.declared.Cpu.{Cpu}
 use Rattle.model.specs.declared.Setup.{Setup}
-use Rattle.model.specs.declared.Kept.TheVariants.{Nothing}
+use Rattle.std.specs.Prelude.{None}
 use Rattle.model.specs.declared.FaultKind.{FaultKind}
 use Rattle.model.specs.declared.FaultKind.TheVariants.{Word}
-use Rattle.processor.specs.Seen.{Rest, world, Keeps, Does, Finds}
+use Rattle.processor.specs.Seen.{Step, Peeked, Rest, whole, world, Keeps, Does, Finds}
 use Rattle.processor.specs.Pieces.{landing, poke2_tell}
-use Rattle.processor.specs.Quiet.{quiet, offering, Takes}
-use Rattle.processor.specs.declared.memory.Step.{Step}
-use Rattle.processor.specs.declared.memory.Step.TheVariants.{Done, Fault}
-use Rattle.processor.specs.declared.memory.Peeked.{Peeked}
-use Rattle.processor.specs.declared.memory.Peeked.TheVariants.{Value}
+use Rattle.processor.specs.Quiet.{quiet, offering, Takes, HeldAt, offered}
 use Rattle.processor.proofs.Laws.{next-next, first-place}
 use Rattle.processor.proofs.Talking.{lands, still-held}
 use Rattle.alternative.specs.Guards.{choosing, selecting, disable_held, enable_inside, wait_ready}
@@ -34,18 +32,18 @@ pub data Outcome (A : Type 0) : Type 0 where
 
 -- as the model's result
 abbrev pub placed : {A : Type 0} → Rest → Setup → Cpu → Outcome A → Result A
-placed x u r (gave n m) = done n (world x u r m)
+placed x u r (gave n m) = done n (whole x u r m)
 placed x u r (failed k) = faults k
 
 -- an action that comes to the same whatever the stack holds, and keeps all registers
 pub record Blind {A : Type 0} (u : Setup) (r : Cpu) (act : Act A) (l : List ℕ) : Type 0 where
   pub comes : Outcome A
-  pub said : (x : Rest) (a b c : ℕ) → act (world x u (stack a b c r) l) ≡ placed x u (stack a b c r) comes
+  pub said : (x : Rest) (a b c : ℕ) → act (whole x u (stack a b c r) l) ≡ placed x u (stack a b c r) comes
 
 -- a word inside the memory, or the fault
 inside :
     {A : Type 0} (t : Bool) (x : Rest) (u : Setup) (r : Cpu) (n : A) (m : List ℕ) (k : FaultKind)
-    → cond t (done n (world x u r m)) (faults k) ≡ placed x u r (cond t (gave n m) (failed k))
+    → cond t (done n (whole x u r m)) (faults k) ≡ placed x u r (cond t (gave n m) (failed k))
 inside true x u r n m k = refl
 inside false x u r n m k = refl
 
@@ -84,7 +82,7 @@ module _ {u : Setup} {r : Cpu} where
   then {A} {B} {act} {l} f d e = joined d.comes d.said
     where
       joined :
-          (o : Outcome A) → ((x : Rest) (a b c : ℕ) → act (world x u (stack a b c r) l) ≡ placed x u (stack a b c r) o)
+          (o : Outcome A) → ((x : Rest) (a b c : ℕ) → act (whole x u (stack a b c r) l) ≡ placed x u (stack a b c r) o)
           → Blind u r (do n ← act; f n) l
       joined (gave n m) h = record { comes = (e n m).comes; said = λ x a b c. rw (h x a b c) ((e n m).said x a b c) }
       joined (failed k) h = record { comes = failed k; said = λ x a b c. rw (h x a b c) }
@@ -92,7 +90,7 @@ module _ {u : Setup} {r : Cpu} where
   -- an action that computes to another
   alike :
       {A : Type 0} {act other : Act A} {l : List ℕ} → Blind u r other l
-      → ((x : Rest) (a b c : ℕ) → act (world x u (stack a b c r) l) ≡ other (world x u (stack a b c r) l)) → Blind u r act l
+      → ((x : Rest) (a b c : ℕ) → act (whole x u (stack a b c r) l) ≡ other (whole x u (stack a b c r) l)) → Blind u r act l
   alike d e = record { comes = d.comes; said = λ x a b c. e x a b c ∙ d.said x a b c }
 
   -- a ready guard's branch
@@ -134,35 +132,35 @@ module _ {u : Setup} {r : Cpu} where
 
 module _ (x : Rest) (u : Setup) (r : Cpu) (l : List ℕ) (t : r.running ≡ true) (p : r.place ≤ u.code) where
   -- the process stays where it is
-  pub stays : {act : Act (Unit {0})} → Blind u r act l → landing act (world x u r l) ≡ act (world x u r l)
+  pub stays : {act : Act (Unit {0})} → Blind u r act l → landing act (whole x u r l) ≡ act (whole x u r l)
   stays {act} d = rw (d.said x r.a r.b r.c) (go d.comes)
     where
       go : (o : Outcome (Unit {0})) → next (placed x u r o) (λ n. land) ≡ placed x u r o
-      go (gave n m) = lands (world x u r m) t p
+      go (gave n m) = lands (whole x u r m) t p
       go (failed k) = refl
 
   -- the stack, at which the action does not look, may change before it
   pub moves :
       {act : Act (Unit {0})} (a b c : ℕ) (f : Cpu → Cpu) → f r ≡ stack a b c r → Blind u r act l
-      → landing (do act; changing f) (world x u r l) ≡ act (world x u (stack a b c r) l)
+      → landing (do act; changing f) (whole x u r l) ≡ act (whole x u (stack a b c r) l)
   moves {act} a b c f e d = rw (d.said x r.a r.b r.c, d.said x a b c) (go d.comes)
     where
       go : (o : Outcome (Unit {0})) → next (next (placed x u r o) (λ n. changing f)) (λ n. land) ≡ placed x u (stack a b c r) o
-      go (gave n m) = rw e (lands (world x u (stack a b c r) m) t p)
+      go (gave n m) = rw e (lands (whole x u (stack a b c r) m) t p)
       go (failed k) = refl
 
   -- so may B where A then says whether a branch was chosen
   pub chooses :
       {act : Act ℕ} (a : ℕ) (f : Cpu → ℕ) → Blind u r act l
-      → landing (do n ← act; changing (λ q. stack n (f q) q.c q)) (world x u r l)
-      ≡ choosing act (world x u (stack a (f r) r.c r) l)
+      → landing (do n ← act; changing (λ q. stack n (f q) q.c q)) (whole x u r l)
+      ≡ choosing act (whole x u (stack a (f r) r.c r) l)
   chooses {act} a f d = rw (d.said x r.a r.b r.c, d.said x a (f r) r.c) (go d.comes)
     where
       go :
           (o : Outcome ℕ)
           → next (next (placed x u r o) (λ n. changing (λ q. stack n (f q) q.c q))) (λ n. land)
           ≡ next (placed x u (stack a (f r) r.c r) o) (λ n. changing (λ q. stack n q.b q.c q))
-      go (gave n m) = lands (world x u (stack n (f r) r.c r) m) t p
+      go (gave n m) = lands (whole x u (stack n (f r) r.c r) m) t p
       go (failed k) = refl
 
 -- writing a word looks at no registers, and what comes after it may change them
@@ -195,16 +193,16 @@ poke-later c b s = later c not_process (select b s)
 
 -- a rest of the world
 nothing : Rest
-nothing = record { timer = no_timer; offers = []; held = []; fault = Nothing; talk = [] }
+nothing = record { behind = []; timer = no_timer; offers = []; held = []; fault = None; talk = [] }
 
 -- a word inside the memory is written without a fault
 pub poke-inside :
     {u : Setup} (c v : ℕ) {r : Cpu} {l m : List ℕ} (before : List ℕ) (s : Step) → c < memory_size u → Does u (poke c v) r l s m
     → Keeps s before m
-unfolding poke
-poke-inside c v before (Done q) h d = tt
-poke-inside {u} c v {r} {l} before (Fault k) h d =
-    let e : done tt (world nothing u r (set l c v)) ≡ faults k = rw (lt-ltb _ _ h) at (d.said nothing) in
+unfolding poke nothing
+poke-inside c v before (Ok q) h d = tt
+poke-inside {u} c v {r} {l} before (Err k) h d =
+    let e : done tt (whole nothing u r (set (l ++ []) c v)) ≡ faults k = rw (lt-ltb _ _ h) at (d.said nothing) in
     cc
 
 -- a word that was looked at is inside
@@ -213,12 +211,12 @@ found_inside true n m s q k e = refl
 found_inside false n m s q k e = cc
 
 pub peek-inside :
-    (a : ℕ) (l : List ℕ) {size v : ℕ} {p : Peeked} (u : Setup) (r : Cpu) → memory_size u ≡ size → Finds size (peek a) l p → p ≡ Value v
-    → a < size
-unfolding peek
+    (a : ℕ) (l : List ℕ) {v : ℕ} {p : Peeked} (u : Setup) (r : Cpu) → memory_size u ≡ length l → Finds (peek a) l p → p ≡ Ok v
+    → a < length l
+unfolding peek nothing
 peek-inside a l {v = v} u r h d e =
     let s = world nothing u r l in
-    rw (← h) (ltb-true _ _ (found_inside (ltb a (memory_size u)) (get_or l a 0) v s s (Word a) (rw e at (d u h nothing r))))
+    rw (← h) (ltb-true _ _ (found_inside (ltb a (memory_size u)) (get_or (l ++ []) a 0) v s s (Word a) (rw e at (d u h nothing r))))
 
 -- two words are written and the processor is free, with no process to tell
 pub poke2-release : (a v b w : ℕ) (s : World) → landing (do poke a v; poke b w; release) s ≡ poke2_tell a v b w 0 0 s
@@ -230,6 +228,12 @@ pub waits :
     → landing wait_alt s ≡ (do r ← registers; poke r.workspace none_selected; wait_ready r.workspace r.place) s
 unfolding wait_alt
 waits s = next-next (poke s.machine.cpu.workspace none_selected s) _ _
+
+-- whether an offer is held on a channel's word, by the number that was looked for
+pub offered-at :
+    (c : ℕ) (u : Setup) (b : List Bool) (k : Option ℕ) {s t : Bool} → HeldAt c u b k → s ≡ is_some k → s ≡ t → offered c u b ≡ t
+offered-at c u b (Some k) h e g = h.0 ∙ sym e ∙ g
+offered-at c u b None h e g = h ∙ sym e ∙ g
 
 -- an action that sees which offers are held and comes to one that does not
 pub sees :

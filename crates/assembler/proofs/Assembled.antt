@@ -1,76 +1,38 @@
 -- What the assembler makes of the entries of instructions is the definition's size, places and bytes.
-use Prim.Native.Nat.{ℕ, zero, suc, ◌+◌, ◌*◌, ◌^◌, ◌≤◌, ◌<◌}
+use Prim.Native.Nat.{ℕ, zero, suc, ◌+◌, ◌*◌, ◌%◌, ◌^◌, ◌≤◌, ◌<◌}
 use native.Mathlib.Omega.{arith}
-use native.Mathlib.Nat.{zero-add, add-zero}
+use native.Mathlib.Nat.{zero-add, add-zero, mod-eq_of_lt}
 use native.Mathlib.Numerals.{add-one}
-use borrow.Author.Tests.{le-leb, lt-leb}
+use borrow.Author.Tests.{le-leb}
 use mathlib.Core.Path.{◌≡◌, refl, sym, ap, ◌∙◌}
-use mathlib.Core.Bool.{true, false}
 use mathlib.Core.List.{List, [], ◌∷◌}
 use lib.ListN.{length, get_or, take, drop, set, length-set}
 use lib.Seq.{sets, get_or-set_same, get_or-set_other}
 use Rattle.model.specs.Limits.{code_limit}
 use Rattle.model.specs.Word.{low}
 use Rattle.model.specs.Prefix.{with_prefixes}
-use Rattle.model.specs.Instruction.{Function, j, ldlp, ldc, ldl, cj, ajw, eqc, stl, opr, function_code, Instruction, plain, distance}
+use Rattle.model.specs.Instruction.{function_code, Instruction, plain, distance}
 use Rattle.model.specs.Code.{Fits, AllFit, cons-fits, prefixes_of, bytes_in, place_of, function_in, operand_in as operand_of, encode}
 use Rattle.model.proofs.Coding.RoundTrip.{with_prefixes-length, fewest-fits}
+use Rattle.model.proofs.Cases.{never}
 use Rattle.instruction.specs.Coded.{coded}
 use Rattle.instruction.proofs.Stores.{sets-append}
 use Rattle.instruction.proofs.Decodes.{coded-is}
-use Rattle.assembler.specs.Entries.{plain_entry, distance_entry, entry_of, entries_of, byte_in, operand_in, distance_in, reached_in}
-use Rattle.assembler.specs.Entries.{user_in}
+use Rattle.assembler.specs.Entries.{blank, entry_of, entries_of, byte_in}
+use Rattle.assembler.specs.declared.entry.Entry.{Entry}
 use Rattle.assembler.specs.Places.{prefixes_in, sized, placed, place_in, operand_by, wrote, within}
 use Rattle.assembler.specs.Listed.{Listed, PlacesOf}
 
--- a function has four bits
-code_below : (f : Function) → function_code f < 16
-unfolding function_code
-code_below j = omega arith
-code_below ldlp = omega arith
-code_below ldc = omega arith
-code_below ldl = omega arith
-code_below cj = omega arith
-code_below ajw = omega arith
-code_below eqc = omega arith
-code_below stl = omega arith
-code_below opr = omega arith
+-- the function and the prefixes of an entry are the definition's: at most seven
+byte_of : (x : Instruction) → byte_in (entry_of x) ≡ function_code (function_in x) * 16
+unfolding entry_of function_in
+byte_of (plain f o) = refl
+byte_of (distance f r u) = refl
 
--- the parts of an entry
-byte_of : (x : Instruction) (n : ℕ) → Fits n x → byte_in (entry_of x) ≡ function_code (function_in x) * 16
-unfolding byte_in entry_of plain_entry distance_entry function_in
-byte_of (plain f o) n h = omega (arith, code_below f)
-byte_of (distance f r u) n h = omega (arith, code_below f)
-
-is_plain : (f : Function) (o : ℕ) → o < 2 ^ 32 → distance_in (entry_of (plain f o)) ≡ false
-unfolding distance_in entry_of plain_entry
-is_plain f o h =
-    let small : entry_of (plain f o) < 2 ^ 36 = omega (arith, code_below f) in
-    lt-leb (2 ^ 36) (entry_of (plain f o)) small
-
-plain-operand : (f : Function) (o : ℕ) → o < 2 ^ 32 → operand_in (entry_of (plain f o)) ≡ o
-unfolding operand_in entry_of plain_entry
-plain-operand f o h = omega arith
-
-is-distance : (f : Function) (r u : ℕ) → distance_in (entry_of (distance f r u)) ≡ true
-unfolding distance_in entry_of distance_entry
-is-distance f r u =
-    let large : 2 ^ 36 ≤ entry_of (distance f r u) = omega arith in
-    le-leb (2 ^ 36) (entry_of (distance f r u)) large
-
-reached-of : (f : Function) (r u : ℕ) → r ≤ code_limit → reached_in (entry_of (distance f r u)) ≡ r
-unfolding reached_in operand_in entry_of distance_entry
-reached-of f r u h = omega arith
-
-user-of : (f : Function) (r u : ℕ) → u < code_limit → user_in (entry_of (distance f r u)) ≡ u
-unfolding user_in operand_in entry_of distance_entry
-user-of f r u h = omega arith
-
--- its prefixes are the definition's: at most seven
-prefixes-are : (x : Instruction) (n : ℕ) → Fits n x → prefixes_in (entry_of x) ≡ prefixes_of x
-unfolding prefixes_in prefixes_of
-prefixes-are (plain f o) n h = rw (is_plain f o h, plain-operand f o h)
-prefixes-are (distance f r u) n h = rw (is-distance f r u)
+prefixes-are : (x : Instruction) → prefixes_in (entry_of x) ≡ prefixes_of x
+unfolding entry_of prefixes_of
+prefixes-are (plain f o) = refl
+prefixes-are (distance f r u) = refl
 
 prefixes-few : (x : Instruction) → prefixes_of x ≤ 7
 unfolding prefixes_of
@@ -89,25 +51,26 @@ bytes-few [] = omega arith
 bytes-few (x ∷ xs) = omega (arith, prefixes-few x, bytes-few xs)
 
 -- the entries of these instructions stand in a list from index i on
-abbrev Stands : (xs : List Instruction) (i : ℕ) (list : List ℕ) → Type 0
+abbrev Stands : (xs : List Instruction) (i : ℕ) (list : List Entry) → Type 0
 Stands xs i l = take (length xs) (drop i l) ≡ entries_of xs
 
-first : (n i e : ℕ) (es l : List ℕ) → take (suc n) (drop i l) ≡ e ∷ es → (get_or l i 0 ≡ e) × (take n (drop (suc i) l) ≡ es)
-first n zero e es [] h = absurd (let z : ◌≡◌ {A = ℕ} 0 1 = cc in omega arith)
+first : (n i : ℕ) (e : Entry) (es l : List Entry) → take (suc n) (drop i l) ≡ e ∷ es
+    → (get_or l i blank ≡ e) × (take n (drop (suc i) l) ≡ es)
+first n zero e es [] h = never (cc)
 first n zero e es (y ∷ l) h = (cc, cc)
-first n (suc i) e es [] h = absurd (let z : ◌≡◌ {A = ℕ} 0 1 = cc in omega arith)
+first n (suc i) e es [] h = never (cc)
 first n (suc i) e es (y ∷ l) h = first n i e es l h
 
-stands-first : (x : Instruction) (xs : List Instruction) (i : ℕ) (l : List ℕ) → Stands (x ∷ xs) i l
-    → (get_or l i 0 ≡ entry_of x) × Stands xs (i + 1) l
+stands-first : (x : Instruction) (xs : List Instruction) (i : ℕ) (l : List Entry) → Stands (x ∷ xs) i l
+    → (get_or l i blank ≡ entry_of x) × Stands xs (i + 1) l
 unfolding entries_of
 stands-first x xs i l h = rw add-one (first (length xs) i (entry_of x) (entries_of xs) l h)
 
-module _ (n : ℕ) (list : List ℕ) where
+module _ (n : ℕ) (list : List Entry) where
   -- the place after an instruction
-  after : (x : Instruction) (i h : ℕ) → Fits n x → get_or list i 0 ≡ entry_of x → h + suc (prefixes_of x) < 2 ^ 32
-      → low (h + (prefixes_in (get_or list i 0) + 1)) ≡ h + suc (prefixes_of x)
-  after x i h f e b = rw (e, prefixes-are x n f) (omega arith)
+  after : (x : Instruction) (i h : ℕ) → get_or list i blank ≡ entry_of x → h + suc (prefixes_of x) < 2 ^ 32
+      → low (h + (prefixes_in (get_or list i blank) + 1)) ≡ h + suc (prefixes_of x)
+  after x i h e b = rw (e, prefixes-are x) (omega arith)
 
   sized-is : (xs : List Instruction) (i h : ℕ) → AllFit n xs → Stands xs i list → h + bytes_in xs < 2 ^ 32
       → sized (length xs) i h list ≡ h + bytes_in xs
@@ -115,7 +78,7 @@ module _ (n : ℕ) (list : List ℕ) where
   sized-is [] i h f s b = omega arith
   sized-is (x ∷ xs) i h (cons-fits f fs) s b =
       let (e, t) = stands-first x xs i list s in
-      ap (λ z. sized (length xs) (i + 1) z list) (after x i h f e (omega arith))
+      ap (λ z. sized (length xs) (i + 1) z list) (after x i h e (omega arith))
       ∙ sized-is xs (i + 1) (h + suc (prefixes_of x)) fs t (omega arith)
       ∙ omega arith
 
@@ -137,7 +100,7 @@ module _ (n : ℕ) (list : List ℕ) where
       let on : i + suc k ≡ i + 1 + k = omega arith in
       let room : i + 1 + length xs < length (set p i h) = rw length-set (omega arith) in
       rw on
-      (ap (λ z. get_or (placed (length xs) (i + 1) z list (set p i h)) (i + 1 + k) 0) (after x i h f e (omega arith))
+      (ap (λ z. get_or (placed (length xs) (i + 1) z list (set p i h)) (i + 1 + k) 0) (after x i h e (omega arith))
       ∙ placed-is xs (i + 1) (h + suc (prefixes_of x)) k (set p i h) fs t (omega arith) room (omega arith)
       ∙ omega arith)
 
@@ -147,23 +110,18 @@ module _ (n : ℕ) (list : List ℕ) where
     place_is i h = rw (le-leb i code_limit (omega arith)) (at i h)
 
     operand-is : (x : Instruction) → Fits n x → operand_by places (entry_of x) ≡ operand_of off x
-    unfolding operand_by operand_of
-    operand-is (plain f o) h = rw (is_plain f o h, plain-operand f o h)
+    unfolding entry_of operand_of
+    operand-is (plain f o) h = refl
     operand-is (distance f r u) h =
-        rw (
-          is-distance f r u,
-          reached-of f r u (omega arith),
-          user-of f r u (omega arith),
-          add-one,
-          place_is r h.0,
-          place_is (suc u) h.1,
-        )
+        let reached : r % 2 ^ 16 ≡ r = mod-eq_of_lt (omega arith) in
+        let user : u % 2 ^ 16 ≡ u = mod-eq_of_lt (omega arith) in
+        rw (reached, user, add-one, place_is r h.0, place_is (suc u) h.1)
 
     -- one instruction, and all of them
     one-is : (x : Instruction) → Fits n x
         → coded (prefixes_in (entry_of x)) (byte_in (entry_of x)) (operand_by places (entry_of x))
         ≡ with_prefixes (prefixes_of x) (function_in x) (operand_of off x)
-    one-is x h = rw (prefixes-are x n h, byte_of x n h, operand-is x h) (coded-is _ _ _)
+    one-is x h = rw (prefixes-are x, byte_of x, operand-is x h) (coded-is _ _ _)
 
     wrote-is : (xs : List Instruction) (i h : ℕ) (out : List ℕ) → AllFit n xs → Stands xs i list
         → ((k : ℕ) → k ≤ length xs → get_or places (i + k) 0 ≡ h + place_of xs k)
@@ -172,7 +130,7 @@ module _ (n : ℕ) (list : List ℕ) where
     wrote-is [] i h out f s p = refl
     wrote-is (x ∷ xs) i h out (cons-fits f fs) s p =
         let (e, t) = stands-first x xs i list s in
-        let b = get_or list i 0 in
+        let b = get_or list i blank in
         let w = with_prefixes (prefixes_of x) (function_in x) (operand_of off x) in
         let length-w : length w ≡ suc (prefixes_of x) = with_prefixes-length _ _ _ in
         let here : get_or places i 0 ≡ h = simp add-zero at (p 0 (omega arith)) in
@@ -185,7 +143,7 @@ module _ (n : ℕ) (list : List ℕ) where
         ∙ sym (rw length-w at (sets-append w (encode off xs) out h))
 
 -- of every list
-module _ (xs : List Instruction) (count : ℕ) (list : List ℕ) (l : Listed xs count list) where
+module _ (xs : List Instruction) (count : ℕ) (list : List Entry) (l : Listed xs count list) where
   within-is : within count ≡ length xs
   within-is = omega arith
 

@@ -6,35 +6,39 @@ use Rattle.model.specs.Limits.{code_limit}
 use Rattle.model.specs.Word.{low, less}
 use Rattle.model.specs.Prefix.{fewest, distance_prefixes}
 use Rattle.instruction.specs.Coded.{coded}
-use Rattle.assembler.specs.Entries.{byte_in, operand_in, distance_in, reached_in, user_in}
+use Rattle.assembler.specs.Entries.{byte_in, blank}
+use Rattle.assembler.specs.declared.entry.Entry.{Entry}
+use Rattle.assembler.specs.declared.entry.Entry.TheVariants.{Plain, Distance}
 
 -- the prefixes of an entry
-unfoldable pub prefixes_in : ℕ → ℕ
-prefixes_in e = cond (distance_in e) distance_prefixes (fewest (operand_in e))
+abbrev pub prefixes_in : Entry → ℕ
+prefixes_in (Plain f n) = fewest n
+prefixes_in (Distance f r u) = distance_prefixes
 
 -- the place after so many entries from index i on, the first of which stands at place h
-unfoldable pub sized : (left i h : ℕ) → (list : List ℕ) → ℕ
+unfoldable pub sized : (left i h : ℕ) → (list : List Entry) → ℕ
 sized zero i h l = h
-sized (suc n) i h l = sized n (i + 1) (low (h + (prefixes_in (get_or l i 0) + 1))) l
+sized (suc n) i h l = sized n (i + 1) (low (h + (prefixes_in (get_or l i blank) + 1))) l
 
 -- their places, and behind them the place after the last
-unfoldable pub placed : (left i h : ℕ) → (list places : List ℕ) → List ℕ
+unfoldable pub placed : (left i h : ℕ) → (list : List Entry) → (places : List ℕ) → List ℕ
 placed zero i h l p = set p i h
-placed (suc n) i h l p = placed n (i + 1) (low (h + (prefixes_in (get_or l i 0) + 1))) l (set p i h)
+placed (suc n) i h l p = placed n (i + 1) (low (h + (prefixes_in (get_or l i blank) + 1))) l (set p i h)
 
 -- the place of an index, 0 where there is none
 unfoldable pub place_in : (places : List ℕ) → (index : ℕ) → ℕ
 place_in p i = cond (leb i code_limit) (get_or p i 0) 0
 
 -- an entry's operand, by the places
-unfoldable pub operand_by : (places : List ℕ) → ℕ → ℕ
-operand_by p e = cond (distance_in e) (less (place_in p (reached_in e)) (place_in p (user_in e + 1))) (operand_in e)
+abbrev pub operand_by : (places : List ℕ) → Entry → ℕ
+operand_by p (Plain f n) = n
+operand_by p (Distance f r u) = less (place_in p r) (place_in p (u + 1))
 
 -- the bytes of so many entries from index i on, each at its place
-unfoldable pub wrote : (left i : ℕ) → (list places out : List ℕ) → List ℕ
+unfoldable pub wrote : (left i : ℕ) → (list : List Entry) → (places out : List ℕ) → List ℕ
 wrote zero i l p o = o
 wrote (suc n) i l p o =
-    let e = get_or l i 0 in
+    let e = get_or l i blank in
     wrote n (i + 1) l p (sets o (get_or p i 0) (coded (prefixes_in e) (byte_in e) (operand_by p e)))
 
 -- so many entries as a list can have

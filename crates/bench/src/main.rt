@@ -4,33 +4,24 @@
 // error.
 #![tactic(auto)]
 
-ghost use Rattle.bench.specs.Inputs.{Within};
+ghost use Rattle.std.specs.Prelude.{◌≤◌, length, IfOk};
 
-use std::io::{Read, Stderr, Stdin};
+use std::io::{self, Read, Stderr, Stdin};
 
-// What reading found: so many bytes at the front of the room, or a read that failed.
-#[derive(Clone, Copy)]
-enum Input {
-    Bytes(usize),
-    Failed,
-}
-
-// Reads until the input ends or the room is full. A read may bring only a part, as from a pipe.
-fn read_table(mut input: Stdin, room: &mut [u8]) -> Input
-    ensures { Within result room.new }
+// Reads until the input ends or the room is full, and answers how many bytes stand at its front. A read may bring only a part, as from a
+// pipe.
+fn read_table(mut input: Stdin, room: &mut [u8]) -> io::Result<usize>
+    ensures { IfOk result (λ n. n ≤ length room.new) }
 {
     let mut n = 0;
     while n < room.len() {
-        let more = match input.read(&mut room[n..]) {
-            Ok(more) => more,
-            Err(_) => return Input::Failed,
-        };
+        let more = input.read(&mut room[n..])?;
         if more == 0 {
-            return Input::Bytes(n);
+            break;
         }
         n += more;
     }
-    Input::Bytes(n)
+    Ok(n)
 }
 
 // Says on standard error what failed.
@@ -42,11 +33,11 @@ fn say(errors: Stderr, line: &[u8]) {
 fn main(rt: HostRuntime) {
     let mut table = [0; model::limits::TABLE + 1];
     match read_table(rt.stdin(), &mut table) {
-        Input::Bytes(n) => {
-            if !console::print_report(rt.stdout(), &table[..n]) {
+        Ok(n) => {
+            if console::print_report(rt.stdout(), &table[..n]).is_err() {
                 say(rt.stderr(), b"bench: cannot write standard output\n");
             }
         }
-        Input::Failed => say(rt.stderr(), b"bench: cannot read standard input\n"),
+        Err(_) => say(rt.stderr(), b"bench: cannot read standard input\n"),
     }
 }

@@ -17,6 +17,8 @@
 // the kept fault; and a sum over the memory's 4,200 words. Numbers are hexadecimal, but for those of refusals.
 #![tactic(auto)]
 
+use lines::{at, word};
+use model::{Machine, Refusal};
 use std::io::Stdout;
 
 // The code's room: longer than any code and than a start takes.
@@ -25,279 +27,223 @@ const BYTES: usize = model::limits::CODE + 256;
 // The memory's words: more than any program needs.
 const WORDS: usize = 4200;
 
-// How far a list has come: the machine, what is lent, which number comes next, and whether there was no answer yet.
+// A call of a list. The numbers of a code or a table are its bytes.
+#[derive(Clone, Copy)]
+enum Call<'a> {
+    Code(&'a [u64]),
+    Lend(usize, usize),
+    Start(Start),
+    Table(u32, &'a [u64]),
+    Run(u64, u32),
+    Offer(u32, u32),
+    Take(u32),
+}
+
+// What a start is asked.
+#[derive(Clone, Copy)]
+struct Start {
+    w: u32,
+    inputs: u32,
+    outputs: u32,
+    slice: u32,
+}
+
+// How far a list has come: the machine, what is lent, and whether there was no answer yet.
 #[derive(Clone, Copy)]
 struct List {
-    machine: model::Machine,
+    machine: Machine,
     bytes: usize,
     words: usize,
-    next: usize,
     first: bool,
 }
 
+// The first so many numbers behind some, and no more than there is room for.
+fn bytes_of(numbers: &[u64], behind: u64, count: u64, room: u64) -> &[u64] {
+    lines::front(lines::front(lines::rest(numbers, behind), count), room)
+}
+
+// The call that numbers begin with, and how many it takes; none where the first is no call's number.
+fn parse(numbers: &[u64]) -> Option<(Call<'_>, usize)> {
+    match at(numbers, 0) {
+        0 => {
+            let bytes = bytes_of(numbers, 2, at(numbers, 1), BYTES as u64);
+            Some((Call::Code(bytes), bytes.len().wrapping_add(2)))
+        }
+        1 => {
+            let bytes = lines::least(at(numbers, 1), BYTES);
+            let words = lines::least(at(numbers, 2), WORDS);
+            Some((Call::Lend(bytes, words), 3))
+        }
+        2 => {
+            let start = Start {
+                w: word(numbers, 1),
+                inputs: word(numbers, 2),
+                outputs: word(numbers, 3),
+                slice: word(numbers, 4),
+            };
+            Some((Call::Start(start), 5))
+        }
+        3 => {
+            let bytes = bytes_of(numbers, 3, at(numbers, 2), lines::NUMBERS as u64);
+            Some((
+                Call::Table(word(numbers, 1), bytes),
+                bytes.len().wrapping_add(3),
+            ))
+        }
+        4 => Some((Call::Run(at(numbers, 1), word(numbers, 2)), 3)),
+        5 => Some((Call::Offer(word(numbers, 1), word(numbers, 2)), 3)),
+        6 => Some((Call::Take(word(numbers, 1)), 2)),
+        _ => None,
+    }
+}
+
 // Begins an answer: one after the first stands behind a comma.
-fn begin_answer(out: Stdout, list: List) {
+fn begin_answer(out: Stdout, list: &mut List) {
     if !list.first {
         lines::write(out, b", ");
     }
+    list.first = false;
 }
 
-// A list after a call without an answer: so many numbers further.
-fn onward(list: List, numbers: usize) -> List {
-    let mut further = list;
-    further.next = list.next.wrapping_add(numbers);
-    further
+// Writes a start's answer, and keeps its machine.
+fn keep_started(out: Stdout, list: &mut List, begun: machine::Begun) {
+    lines::show(out, &show::Hex(begun.answer));
+    list.machine = begun.machine;
 }
 
-// A list after an answer: with another machine, and so many numbers further.
-fn answered(list: List, machine: model::Machine, numbers: usize) -> List {
-    let mut further = onward(list, numbers);
-    further.machine = machine;
-    further.first = false;
-    further
-}
-
-// A list with other lengths lent.
-fn lending(list: List, bytes: usize, words: usize) -> List {
-    let mut lent = list;
-    lent.bytes = bytes;
-    lent.words = words;
-    lent
-}
-
-// A list after a start, whose answer is written.
-fn started(out: Stdout, list: List, begun: machine::Begun, numbers: usize) -> List {
-    let machine = begun.machine;
-    let answer = begun.answer;
-    show::print_start(out, answer);
-    answered(list, machine, numbers)
-}
-
-// Call 0: other code.
-fn load_code(numbers: &[u64], list: List, code: &mut [u8]) -> List {
-    let bytes = lines::front(lines::rest(numbers, 2), lines::at(numbers, 1));
-    let count = lines::to_bytes(bytes, code);
-    onward(lending(list, count, list.words), count.wrapping_add(2))
-}
-
-// Call 1: what is lent.
-fn lend(numbers: &[u64], list: List) -> List {
-    let bytes = lines::least(lines::at(numbers, 1), BYTES);
-    let words = lines::least(lines::at(numbers, 2), WORDS);
-    onward(lending(list, bytes, words), 3)
-}
-
-// Call 2: a start.
-fn call_start(out: Stdout, numbers: &[u64], list: List, code: &[u8], memory: &mut [u32]) -> List {
-    let begun = machine::start(
-        code,
-        memory,
-        lines::word(numbers, 1),
-        lines::word(numbers, 2),
-        lines::word(numbers, 3),
-        lines::word(numbers, 4),
-    );
-    started(out, list, begun, 5)
-}
-
-// Call 4: a run.
-fn call_run(out: Stdout, numbers: &[u64], list: List, code: &[u8], memory: &mut [u32]) -> List {
-    let before = list.machine;
-    let machine = show::run(
+// Writes why a table is refused.
+fn print_refusal(out: Stdout, refusal: Refusal) {
+    let number = refusal.reason.number();
+    lines::show(
         out,
-        before,
-        code,
-        memory,
-        lines::at(numbers, 1),
-        lines::word(numbers, 2),
+        &format_args!("refused {number} at {:x}", refusal.returned),
     );
-    answered(list, machine, 3)
 }
 
-// Call 5: an offer.
-fn call_offer(out: Stdout, numbers: &[u64], list: List, memory: &mut [u32]) -> List {
-    let before = list.machine;
-    let machine = show::offer(
-        out,
-        before,
-        memory,
-        lines::word(numbers, 1),
-        lines::word(numbers, 2),
-    );
-    answered(list, machine, 3)
-}
-
-// Call 6: a take.
-fn call_take(out: Stdout, numbers: &[u64], list: List, memory: &mut [u32]) -> List {
-    let before = list.machine;
-    let machine = show::take(out, before, memory, lines::word(numbers, 1));
-    answered(list, machine, 2)
-}
-
-// A call over lent code and memory.
-fn call_machine(out: Stdout, numbers: &[u64], list: List, code: &[u8], memory: &mut [u32]) -> List {
-    begin_answer(out, list);
-    match lines::at(numbers, 0) {
-        2 => call_start(out, numbers, list, code, memory),
-        4 => call_run(out, numbers, list, code, memory),
-        5 => call_offer(out, numbers, list, memory),
-        _ => call_take(out, numbers, list, memory),
-    }
-}
-
-// Starts a program that was compiled into the front of the code.
-fn start_program(
+// Reads a table, compiles it into the front of the code, and starts it: that code is lent from here on.
+fn start_table(
     out: Stdout,
-    list: List,
-    code: &[u8],
-    memory: &mut [u32],
-    facts: model::Facts,
-    slice: u32,
-    numbers: usize,
-) -> List {
-    let begun = show::start_program(code, memory, facts, slice);
-    started(out, lending(list, code.len(), list.words), begun, numbers)
-}
-
-// A list after the refusal of a table.
-fn refused(out: Stdout, list: List, number: u32, place: usize, numbers: usize) -> List {
-    let machine = list.machine;
-    lines::print(out, b"refused ", number as u64);
-    lines::print_hex(out, b" at ", place as u64);
-    answered(list, machine, numbers)
-}
-
-// Compiles an accepted table and starts it.
-fn compile(
-    out: Stdout,
-    list: List,
-    table: &[u8],
-    code: &mut [u8],
-    memory: &mut [u32],
-    facts: model::Facts,
-    slice: u32,
-    numbers: usize,
-) -> List {
-    match compiler::compile_into(table, code) {
-        model::Compiled::Code(length) => {
-            if length <= code.len() {
-                return start_program(out, list, &code[0..length], memory, facts, slice, numbers);
-            }
-            onward(list, numbers)
-        }
-        model::Compiled::Refused(number, place) => refused(out, list, number, place, numbers),
-    }
-}
-
-// Reads a table, compiles it and starts it.
-fn read(
-    out: Stdout,
-    list: List,
+    list: &mut List,
     table: &[u8],
     code: &mut [u8],
     memory: &mut [u32],
     slice: u32,
-    numbers: usize,
-) -> List {
-    match table::read(table) {
-        model::Reading::Accepted(facts) => compile(
-            out, list, table, code, memory, facts, slice, numbers,
-        ),
-        model::Reading::Refused(number, place) => refused(out, list, number, place, numbers),
+) -> Result<(), Refusal> {
+    let facts = table::read(table)?;
+    let length = compiler::compile_into(table, code)?;
+    if length <= code.len() {
+        list.bytes = length;
+        let begun = show::start_program(&code[..length], memory, facts, slice);
+        keep_started(out, list, begun);
     }
+    Ok(())
 }
 
 // Call 3: a table.
 fn call_table(
     out: Stdout,
+    list: &mut List,
     numbers: &[u64],
-    list: List,
     code: &mut [u8],
     memory: &mut [u32],
-) -> List {
-    let mut table = [0; lines::NUMBERS];
-    let bytes = lines::front(lines::rest(numbers, 3), lines::at(numbers, 2));
-    let count = lines::to_bytes(bytes, &mut table);
-    begin_answer(out, list);
-    read(
-        out,
-        list,
-        &table[0..count],
-        code,
-        memory,
-        lines::word(numbers, 1),
-        count.wrapping_add(3),
-    )
+    slice: u32,
+) {
+    let mut bytes = [0; lines::NUMBERS];
+    let count = lines::to_bytes(numbers, &mut bytes);
+    if let Err(refusal) = start_table(out, list, &bytes[..count], code, memory, slice) {
+        print_refusal(out, refusal);
+    }
 }
 
-// A call that is lent memory.
-fn call_lent(
+// A call over the code and the memory that are lent.
+fn call_machine(out: Stdout, list: &mut List, call: Call<'_>, code: &[u8], memory: &mut [u32]) {
+    let machine = list.machine;
+    match call {
+        Call::Start(start) => {
+            let begun = machine::start(
+                code,
+                memory,
+                start.w,
+                start.inputs,
+                start.outputs,
+                start.slice,
+            );
+            keep_started(out, list, begun);
+        }
+        Call::Run(budget, clock) => {
+            list.machine = show::run(out, machine, code, memory, budget, clock);
+        }
+        Call::Offer(k, value) => list.machine = show::offer(out, machine, memory, k, value),
+        Call::Take(k) => list.machine = show::take(out, machine, memory, k),
+        Call::Code(_) | Call::Lend(_, _) | Call::Table(_, _) => {}
+    }
+}
+
+// A call that is answered.
+fn call_answered(
     out: Stdout,
-    numbers: &[u64],
-    list: List,
+    list: &mut List,
+    call: Call<'_>,
     code: &mut [u8],
     memory: &mut [u32],
-) -> List {
+) {
+    begin_answer(out, list);
     let bytes = list.bytes;
-    if lines::at(numbers, 0) == 3 {
-        return call_table(out, numbers, list, code, memory);
+    match call {
+        Call::Table(slice, numbers) => call_table(out, list, numbers, code, memory, slice),
+        _ => {
+            if bytes <= code.len() {
+                call_machine(out, list, call, &code[..bytes], memory);
+            }
+        }
     }
-    if bytes > code.len() {
-        return onward(list, numbers.len());
-    }
-    call_machine(out, numbers, list, &code[0..bytes], memory)
 }
 
-// One call, whose number is the first. A number that is no call ends the list.
-fn call(out: Stdout, numbers: &[u64], list: List, code: &mut [u8], memory: &mut [u32]) -> List {
+// One call.
+fn make_call(out: Stdout, list: &mut List, call: Call<'_>, code: &mut [u8], memory: &mut [u32]) {
     let words = list.words;
-    let kind = lines::at(numbers, 0);
-    if kind == 0 {
-        return load_code(numbers, list, code);
+    match call {
+        Call::Code(numbers) => list.bytes = lines::to_bytes(numbers, code),
+        Call::Lend(bytes, words) => {
+            list.bytes = bytes;
+            list.words = words;
+        }
+        _ => {
+            if words <= memory.len() {
+                call_answered(out, list, call, code, &mut memory[..words]);
+            }
+        }
     }
-    if kind == 1 {
-        return lend(numbers, list);
-    }
-    if kind > 6 || words > memory.len() {
-        return onward(list, numbers.len());
-    }
-    call_lent(out, numbers, list, code, &mut memory[0..words])
 }
 
-// A list before its first call.
-fn begin() -> List {
-    List {
+// Makes the calls of a list, over code and memory, and gives the machine at the end. There are no more calls than numbers; a number that is
+// no call's ends the list.
+fn make_calls(out: Stdout, numbers: &[u64], code: &mut [u8], memory: &mut [u32]) -> Machine {
+    let mut list = List {
         machine: machine::blank(),
         bytes: 0,
         words: WORDS,
-        next: 0,
         first: true,
+    };
+    let mut rest = numbers;
+    for _ in 0..numbers.len() {
+        if rest.is_empty() {
+            break;
+        }
+        let Some((call, count)) = parse(rest) else {
+            break;
+        };
+        make_call(out, &mut list, call, &mut *code, &mut *memory);
+        rest = lines::rest(rest, count as u64);
     }
-}
-
-// Makes the calls of a list, over code and memory. There are no more calls than numbers.
-fn make_calls(out: Stdout, numbers: &[u64], code: &mut [u8], memory: &mut [u32]) -> model::Machine {
-    let mut list = begin();
-    let mut turns = numbers.len();
-    while turns > 0 && list.next < numbers.len() {
-        list = call(
-            out,
-            lines::rest(numbers, list.next as u64),
-            list,
-            code,
-            memory,
-        );
-        turns -= 1;
-    }
-    let machine = list.machine;
-    machine
+    list.machine
 }
 
 // Answers a line's list, if it has one.
 fn answer(out: Stdout, numbers: &[u64]) {
     let mut code = [0x99; BYTES];
     let mut memory = [0; WORDS];
-    if numbers.len() == 0 {
+    if numbers.is_empty() {
         return;
     }
     show::fill(&mut memory);

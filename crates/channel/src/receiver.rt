@@ -8,64 +8,48 @@ ghost use Rattle.processor.specs.Quiet.{Talks, Takes};
 ghost use Rattle.channel.specs.Channels.{inside_input};
 
 use crate::wait::{deliver, wait_at};
-use processor::{Peeked, Step, held_at, peek, state_word, swap};
+use processor::{Step, held_at, peek, state_word, swap};
 
 // The value of the sender that waits at a channel's word.
-pub fn receive(memory: &[u32], size: u64, p: u32) -> Peeked
-    requires { size ≤ length memory.now }
-    ensures { Finds size (receive_of p) memory.now result }
+pub fn receive(memory: &[u32], p: u32) -> Result<u32, model::FaultKind>
+    ensures { Finds (receive_of p) memory.now result }
 {
-    match peek(memory, size, state_word(p)) {
-        Peeked::Value(m) => peek(memory, size, m),
-        Peeked::Fault(k) => Peeked::Fault(k),
-    }
+    let m = peek(memory, state_word(p))?;
+    peek(memory, m)
 }
 
 // IN from a channel on which no offer is held.
-fn input_inside(memory: &mut [u32], size: u64, cpu: model::Cpu, code: u32) -> Step
-    requires { (size ≤ length memory.old) × (cpu.running ≡ true) × (cpu.place ≤ code) }
-    ensures { Talks size code inside_input cpu memory.old result memory.new }
+fn input_inside(memory: &mut [u32], cpu: model::Cpu, code: u32) -> Step
+    requires { (cpu.running ≡ true) × (cpu.place ≤ code) }
+    ensures { Talks code inside_input cpu memory.old result memory.new }
 {
-    match peek(memory, size, cpu.b) {
-        Peeked::Value(p) => {
-            if p == model::constants::NOT_PROCESS {
-                return wait_at(memory, size, cpu, code, cpu.b, cpu.c, 0, 0);
-            }
-            match receive(memory, size, p) {
-                Peeked::Value(v) => deliver(memory, size, cpu, cpu.b, p, cpu.c, v),
-                Peeked::Fault(k) => Step::Fault(k),
-            }
-        }
-        Peeked::Fault(k) => Step::Fault(k),
+    let p = peek(memory, cpu.b)?;
+    if p == model::constants::NOT_PROCESS {
+        return wait_at(memory, cpu, code, cpu.b, cpu.c, 0, 0);
     }
+    let v = receive(memory, p)?;
+    deliver(memory, cpu, cpu.b, p, cpu.c, v)
 }
 
 // IN: A is the count, B the channel, C the message place. It takes a held offer, else the value of a sender, else the process waits.
 pub fn input(
     memory: &mut [u32],
-    size: u64,
     cpu: model::Cpu,
     setup: model::Setup,
     offers: &[u32; 8],
     held: &mut [bool; 8],
 ) -> Step
-    requires size_in_bounds { (size ≤ length memory.old) × (cpu.running ≡ true) × (memory_size setup ≡ size) × (cpu.place ≤ setup.code) }
-    requires held_len { length held.old ≡ 8 }
+    requires sized { (cpu.running ≡ true) × (memory_size setup ≡ length memory.old) × (cpu.place ≤ setup.code) }
     ensures { Takes setup (landing input_message) cpu offers.now held.old memory.old result
         held.new memory.new }
 {
     if cpu.a != model::constants::WORD_BYTES {
-        return Step::Fault(model::FaultKind::Count(cpu.a));
+        return Err(model::FaultKind::Count(cpu.a));
     }
-    let k = held_at(cpu.b, setup, held);
-    if model::limits::START_CHANNELS <= k {
-        return input_inside(memory, size, cpu, setup.code);
-    }
-    match swap(memory, size, cpu.c, offers[k as usize]) {
-        Peeked::Value(old) => {
-            held[k as usize] = false;
-            Step::Done(cpu)
-        }
-        Peeked::Fault(f) => Step::Fault(f),
-    }
+    let Some(k) = held_at(cpu.b, setup, held) else {
+        return input_inside(memory, cpu, setup.code);
+    };
+    swap(memory, cpu.c, offers[k])?;
+    held[k] = false;
+    Ok(cpu)
 }

@@ -3,37 +3,18 @@
 #![tactic(auto)]
 
 // Compiles the table into a buffer of the largest size.
-fn compile_once(table: &[u8]) -> model::Compiled {
+fn compile_once(table: &[u8]) -> Result<usize, model::Refusal> {
     let mut out = [0; model::limits::CODE];
     compiler::compile_into(table, &mut out)
 }
 
-// Compiles the table ten times.
-fn compile_ten(table: &[u8]) -> model::Compiled {
-    compile_once(table);
-    compile_once(table);
-    compile_once(table);
-    compile_once(table);
-    compile_once(table);
-    compile_once(table);
-    compile_once(table);
-    compile_once(table);
-    compile_once(table);
-    compile_once(table)
-}
-
-// Compiles the table a hundred times.
-fn compile_hundred(table: &[u8]) -> model::Compiled {
-    compile_ten(table);
-    compile_ten(table);
-    compile_ten(table);
-    compile_ten(table);
-    compile_ten(table);
-    compile_ten(table);
-    compile_ten(table);
-    compile_ten(table);
-    compile_ten(table);
-    compile_ten(table)
+// Compiles the table a hundred times; the answer is the last one's.
+fn compile_hundred(table: &[u8]) -> Result<usize, model::Refusal> {
+    let mut answer = compile_once(table);
+    for _ in 1..100 {
+        answer = compile_once(table);
+    }
+    answer
 }
 
 // Reads into room for the longest table and one byte more, so that a longer input is refused and not cut off.
@@ -42,10 +23,13 @@ fn main(rt: HostRuntime) {
     let mut table = [0; model::limits::TABLE + 1];
     let n = lines::read_full(rt.stdin(), &mut table);
     match compile_hundred(&table[..n]) {
-        model::Compiled::Code(size) => lines::print(out, b"bytes ", size as u64),
-        model::Compiled::Refused(number, returned) => {
-            lines::print(out, b"refused ", number as u64);
-            lines::print(out, b" with ", returned as u64);
+        Ok(size) => lines::print(out, b"bytes ", size as u64),
+        Err(refusal) => {
+            let number = refusal.reason.number();
+            lines::show(
+                out,
+                &format_args!("refused {number} with {}", refusal.returned),
+            );
         }
     }
     lines::write(out, b"\n");

@@ -5,7 +5,7 @@ use native.Mathlib.Nat.{zero-add}
 use mathlib.Core.Path.{◌≡◌, refl, sym, ap, ◌∙◌}
 use mathlib.Core.List.{List}
 use lib.ListN.{length, take}
-use lib.Seq.{sets, sets-eq, take_at}
+use lib.Seq.{sets, sets-eq, take_at, take-length}
 use lib.Dec.{leb}
 use borrow.Author.Tests.{le-leb, lt-leb, leb-true}
 use Rattle.model.specs.Limits.{word_limit, code_limit}
@@ -16,8 +16,10 @@ use Rattle.model.specs.Scheme.{scheme}
 use Rattle.model.specs.Code.{Compilation, bytes_in, place_of, code_of, encode, compiled, refused, fitting, compile, compiled_answer}
 use Rattle.model.specs.Code.{buffer_after, given_back, number_of, returned_of}
 use Rattle.model.specs.declared.Facts.{Facts}
-use Rattle.model.specs.declared.Reading.TheVariants.{Accepted, Refused}
-use Rattle.model.specs.declared.Compiled.TheVariants.{Code as CodeOf, Refused as NoCode}
+use Rattle.std.specs.Prelude.{Ok, Err}
+use Rattle.model.specs.Answers.{reason_number}
+use Rattle.model.specs.declared.Refusal.{Refusal}
+use Rattle.model.specs.declared.Reason.TheVariants.{TooLarge}
 use Rattle.model.proofs.Tables.Accepts.{accept-reads, compile-accepts}
 use Rattle.model.proofs.Tables.Readers.{read-well}
 use Rattle.model.proofs.Coding.Fits.{scheme-fits}
@@ -25,39 +27,43 @@ use Rattle.model.proofs.Coding.Realise.{encode-length}
 use Rattle.model.proofs.Cases.{by_bool, never}
 use Rattle.assembler.specs.Entries.{entries_of}
 use Rattle.assembler.specs.Listed.{Listed}
+use Rattle.assembler.specs.declared.entry.Entry.{Entry}
 use Rattle.assembler.proofs.Assembled.{bytes-least}
 use Rattle.statements.proofs.Fills.{entries-length}
 use Rattle.statements.proofs.TableCode.{facts-are}
 use Rattle.compiler.specs.Codes.{assembled, bytes_into}
 
 -- what the reader's answer says of the table
-pub accepted-as : (r : Read) (f : Facts) → answer_of r ≡ Accepted f → (p : Program) × (r ≡ program p)
+pub accepted-as : (r : Read) (f : Facts) → answer_of r ≡ Ok f → (p : Program) × (r ≡ program p)
 accepted-as (program p) f e = (p, refl)
 accepted-as (unread n at) f e = never (cc)
 
-refused_as : (r : Read) (n p : ℕ) → answer_of r ≡ Refused n p → r ≡ unread n p
-refused_as (program q) n p e = never (cc)
-refused_as (unread k at) n p e = let a : k ≡ n = cc in let b : at ≡ p = cc in rw (a, b)
+refused_as : (r : Read) (z : Refusal) → answer_of r ≡ Err z → r ≡ unread z.reason z.returned
+refused_as (program q) z e = never (cc)
+refused_as (unread k at) z e = let a : record { reason = k; returned = at } ≡ z = cc in rw (← a)
 
 -- the scheme's list, where it is not too long
-pub scheme-listed : (s : List ℕ) (p : Program) (o : List ℕ) {n : ℕ} {l : List ℕ} → accept s ≡ program p → memory_words p ≤ word_limit
-    → length o ≡ code_limit → n ≡ length (scheme p) → l ≡ sets o 0 (entries_of (scheme p)) → n ≤ code_limit → Listed (scheme p) n l
-scheme-listed s p o e few long counted is short =
+pub scheme-listed : (s : List ℕ) (p : Program) (o : List Entry) {n : ℕ} {l : List Entry} → accept s ≡ program p
+    → memory_words p ≤ word_limit → length o ≡ code_limit → n ≡ length (scheme p) → l ≡ sets o 0 (entries_of (scheme p)) → n ≤ code_limit
+    → Listed (scheme p) (length (take n l)) (take n l)
+scheme-listed s p o {n} {l} e few long counted is short =
     let xs = entries_of (scheme p) in
     let same = entries-length (scheme p) in
+    let front : take n l ≡ xs =
+    rw counted (ap (take (length (scheme p))) (is ∙ sets-eq xs o 0 (omega arith)) ∙ take_at xs _ (length (scheme p)) same) in
     record {
-      counted = counted;
+      counted = ap length front ∙ same;
       short = omega arith;
       fit = scheme-fits p (read-well s p (accept-reads s p e)).0 (omega (arith, few));
-      entries = ap (take (length (scheme p))) (is ∙ sets-eq xs o 0 (omega arith)) ∙ take_at xs _ (length (scheme p)) same;
+      entries = ap (take (length (scheme p))) front ∙ rw same at (take-length xs);
     }
 
 module _ (s : List ℕ) (room : ℕ) where
-  pub compile-refused : (n p : ℕ) → answer_of (accept s) ≡ Refused n p → compile s room ≡ refused n p
+  pub compile-refused : (z : Refusal) → answer_of (accept s) ≡ Err z → compile s room ≡ refused z.reason z.returned
   unfolding compile
-  compile-refused n p e = rw (refused_as (accept s) n p e)
+  compile-refused z e = rw (refused_as (accept s) z e)
 
-  module _ (f : Facts) (p : Program) (is : accept s ≡ program p) (answer : answer_of (accept s) ≡ Accepted f) where
+  module _ (f : Facts) (p : Program) (is : accept s ≡ program p) (answer : answer_of (accept s) ≡ Ok f) where
     as-fitting : compile s room ≡ fitting room p (code_of p)
     unfolding compile
     as-fitting = rw is
@@ -70,11 +76,11 @@ module _ (s : List ℕ) (room : ℕ) where
     code-long = encode-length (place_of (scheme p)) (scheme p)
 
     -- over 4,096 words, or a list of more than 16,384 instructions: 10
-    pub words-refused : word_limit < f.words → compile s room ≡ refused 10 0
+    pub words-refused : word_limit < f.words → compile s room ≡ refused TooLarge 0
     unfolding fitting
     words-refused l = as-fitting ∙ rw (lt-leb (memory_words p) word_limit (rw words_are at l))
 
-    pub list-refused : memory_words p ≤ word_limit → code_limit < length (scheme p) → compile s room ≡ refused 10 0
+    pub list-refused : memory_words p ≤ word_limit → code_limit < length (scheme p) → compile s room ≡ refused TooLarge 0
     unfolding fitting
     list-refused h l =
         as-fitting
@@ -108,18 +114,18 @@ module _ (s : List ℕ) (room : ℕ) where
         (λ a. rw a refl))
 
 -- the answer is the code's length: what was compiled
-coded-as : (x : Compilation) (n : ℕ) → compiled_answer x ≡ CodeOf n
+coded-as : (x : Compilation) (n : ℕ) → compiled_answer x ≡ Ok n
     → (p : Program) × (code : List ℕ) × (x ≡ compiled p code) × (length code ≡ n)
 coded-as (compiled p code) n e = (p, code, refl, cc)
 coded-as (refused k r) n e = never (cc)
 
 -- then the front of the buffer is the code
-pub front_fits : (s : List ℕ) (room n : ℕ) → compiled_answer (compile s room) ≡ CodeOf n → n ≤ room
+pub front_fits : (s : List ℕ) (room n : ℕ) → compiled_answer (compile s room) ≡ Ok n → n ≤ room
 front_fits s room n e =
     let q = coded-as (compile s room) n e in
     omega (arith, (compile-accepts s room q.0 q.1 q.2).4, q.3)
 
-pub front-given : (x : Compilation) (n : ℕ) (o : List ℕ) → compiled_answer x ≡ CodeOf n
+pub front-given : (x : Compilation) (n : ℕ) (o : List ℕ) → compiled_answer x ≡ Ok n
     → (take n (buffer_after x o) ≡ given_back x o) × (0 ≡ number_of x) × (n ≡ returned_of x)
 front-given (compiled p code) n o e =
     let q : length code ≡ n = cc in
@@ -127,7 +133,7 @@ front-given (compiled p code) n o e =
 front-given (refused k r) n o e = never (cc)
 
 -- on a refusal the buffer is as it was
-pub refusal-given : (x : Compilation) (n r : ℕ) (o : List ℕ) → compiled_answer x ≡ NoCode n r
-    → (buffer_after x o ≡ given_back x o) × (n ≡ number_of x) × (r ≡ returned_of x)
-refusal-given (compiled p code) n r o e = never (cc)
-refusal-given (refused k q) n r o e = (refl, cc, cc)
+pub refusal-given : (x : Compilation) (z : Refusal) (o : List ℕ) → compiled_answer x ≡ Err z
+    → (buffer_after x o ≡ given_back x o) × (reason_number z.reason ≡ number_of x) × (z.returned ≡ returned_of x)
+refusal-given (compiled p code) z o e = never (cc)
+refusal-given (refused k q) z o e = let a : record { reason = k; returned = q } ≡ z = cc in rw (← a) (refl, refl, refl)

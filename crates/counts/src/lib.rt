@@ -8,6 +8,7 @@ ghost use Rattle.model.specs.Counts.{sides_need, order_of, sides_hold, guard_wor
 ghost use Rattle.counts.specs.Words.{asked, least_words};
 
 use model::kinds::Order;
+use model::limits::REGISTERS;
 use numbers::kinds::Head;
 
 // The words of SKIP, STOP and TIME, of an input, and of a PAR beside its branches.
@@ -19,7 +20,7 @@ pub const PAR_WORDS: u32 = 2;
 
 // What an expression that stands in no other is: a value or a condition, what is output, a guard's condition, a time that is waited for,
 // or a time guard's time and condition together.
-#[derive(Clone, Copy)]
+#[derive(Clone, Copy, Debug, PartialEq, Eq)]
 pub enum Role {
     Value,
     Output,
@@ -32,16 +33,17 @@ pub enum Role {
 pub fn larger(a: u32, b: u32) -> u32
     ensures { result ≡ max a b }
 {
-    if a < b { b } else { a }
+    a.max(b)
 }
 
 // The registers of an operator by those of its sides: one more where both need the same, else the larger, and never over 3.
+#[tactic(auto, unfolding(model::specs::Counts::sides_need))]
 pub fn sides_need(left: u32, right: u32) -> u32
     ensures { result ≡ sides_need left right }
 {
-    let most = larger(left, right);
-    if model::limits::REGISTERS <= most {
-        return model::limits::REGISTERS;
+    let most = left.max(right);
+    if REGISTERS <= most {
+        return REGISTERS;
     }
     if left == right {
         return most + 1;
@@ -50,31 +52,33 @@ pub fn sides_need(left: u32, right: u32) -> u32
 }
 
 // The order of two sides by their registers.
+#[tactic(auto, unfolding(model::specs::Counts::order_of))]
 pub fn order_of(left: u32, right: u32) -> Order
     ensures { result ≡ order_of left right }
 {
     if left < right {
         return Order::RightFirst;
     }
-    if left == model::limits::REGISTERS && right == model::limits::REGISTERS {
+    if left == REGISTERS && right == REGISTERS {
         return Order::RightStored;
     }
     Order::LeftFirst
 }
 
 // The values that two sides hold together at most, by what each holds: where the right value is stored, left holds it beside its own.
+#[tactic(auto, unfolding(model::specs::Counts::sides_hold))]
 pub fn sides_hold(order: Order, left: u32, right: u32) -> u32
     requires { left ≤ 255 }
     ensures { result ≡ sides_hold order left right }
 {
     match order {
-        Order::LeftFirst => larger(left, right),
-        Order::RightFirst => larger(left, right),
-        Order::RightStored => larger(left + 1, right),
+        Order::LeftFirst | Order::RightFirst => left.max(right),
+        Order::RightStored => (left + 1).max(right),
     }
 }
 
 // The words that an ALT asks for, by the stored values of a guard.
+#[tactic(auto, unfolding(model::specs::Counts::guard_words))]
 fn guard_words(stored: u32) -> u32
     requires { stored ≤ 256 }
     ensures { result ≡ guard_words stored }
@@ -83,16 +87,17 @@ fn guard_words(stored: u32) -> u32
 }
 
 // The words that a statement asks for, by the stored values of an expression in it.
+#[tactic(auto, unfolding(crate::specs::Words::asked))]
 pub fn ask(role: Role, stored: u32) -> u32
     requires { stored ≤ 256 }
     ensures { result ≡ asked role stored }
 {
     match role {
         Role::Value => stored + 2,
-        Role::Output => larger(4, stored + 3),
+        Role::Output => 4.max(stored + 3),
         Role::Guard => guard_words(stored),
-        Role::Wait => larger(5, stored + 2),
-        Role::Time => larger(6, guard_words(stored)),
+        Role::Wait => 5.max(stored + 2),
+        Role::Time => 6.max(guard_words(stored)),
     }
 }
 
@@ -101,8 +106,7 @@ pub fn least_words(head: Head) -> u32
     ensures { result ≡ least_words head }
 {
     match head {
-        Head::Nothing => 2,
-        Head::Condition => 2,
+        Head::Nothing | Head::Condition => 2,
         Head::Guard => 4,
     }
 }

@@ -5,6 +5,7 @@ use mathlib.Core.Path.{◌≡◌, refl, ap, ◌∙◌}
 use mathlib.Core.Bool.{Bool, true, false, cond, ◌||◌}
 use mathlib.Core.List.{List}
 use lib.Dec.{eqb}
+use Rattle.std.specs.Prelude.{Ok}
 use Rattle.model.specs.Instruction.{pfix_code, nfix_code}
 use Rattle.model.specs.Prefix.{gathered}
 use Rattle.model.specs.Machine.{World, Act, done, next, with_cpu, set_registers, gathering}
@@ -12,11 +13,9 @@ use Rattle.model.specs.Run.{act, land}
 use Rattle.model.specs.declared.Cpu.{Cpu}
 use Rattle.model.specs.declared.Setup.{Setup}
 use Rattle.instruction.specs.Coded.{is_prefix, moved_up}
-use Rattle.processor.specs.Seen.{Rest, world}
+use Rattle.processor.specs.Seen.{Step, Rest, world}
 use Rattle.processor.specs.Pieces.{landing}
 use Rattle.processor.specs.Quiet.{quiet, offering, timing, Acts}
-use Rattle.processor.specs.declared.memory.Step.{Step}
-use Rattle.processor.specs.declared.memory.Step.TheVariants.{Done}
 use Rattle.processor.proofs.Laws.{ends}
 use Rattle.processor.proofs.Talking.{lands, takes_none, silent, untimed}
 use Rattle.executor.specs.Steps.{executing, advanced_to}
@@ -69,7 +68,7 @@ module _ (x : Rest) (u : Setup) (r : Cpu) (l : List ℕ) (b : ℕ) where
 pub prefix-takes :
     {u : Setup} {r q : Cpu} {l : List ℕ} (o : List ℕ) (d : List Bool) (k f b : ℕ) → is_prefix (b / 16) ≡ true
     → q ≡ advanced_to (moved_up (gathered r.operand b) (b / 16)) r → r.running ≡ true → r.place < u.code
-    → Acts u (landing (act b)) r o d k f l (Done q) d f l
+    → Acts u (landing (act b)) r o d k f l (Ok q) d f l
 prefix-takes {u} {r} {q} {l} o d k f b e g t p =
     untimed k f
     (takes_none o d

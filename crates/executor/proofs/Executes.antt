@@ -1,10 +1,13 @@
 -- Laws of instructions by their codes.
 use Prim.Native.Nat.{ℕ, ◌≤◌}
 use mathlib.Core.Path.{◌≡◌, refl, ap, sym, ◌∙◌}
-use mathlib.Core.Bool.{Bool, true}
+use mathlib.Core.Bool.{Bool, true, false}
+use mir.Val.{bool_byte}
+use Rattle.model.specs.Word.{truth}
 use mathlib.Core.List.{List, [], ◌∷◌}
 use mathlib.Core.Option.{none}
 use borrow.Author.Tests.{ne_eqb}
+use Rattle.std.specs.Prelude.{Ok, Err}
 use Rattle.model.specs.Instruction.{Function, j, ldlp, ldc, ldl, cj, ajw, eqc, stl, opr, Operation, rev, endp, diff, «in», prod, gt, startp}
 use Rattle.model.specs.Instruction.{outword, stopp, ldpi, disc, diss, xor, mint, alt, altwt, altend, and, enbc, enbs, or, sum, ldtimer}
 use Rattle.model.specs.Instruction.{tin, dist, enbt, talt, taltwt, function_code}
@@ -16,14 +19,17 @@ use Rattle.model.specs.declared.Cpu.{Cpu}
 use Rattle.model.specs.declared.Setup.{Setup}
 use Rattle.model.specs.declared.FaultKind.{FaultKind}
 use Rattle.model.specs.declared.FaultKind.TheVariants.{Operation as BadOperation}
-use Rattle.processor.specs.Seen.{world, Does}
+use Rattle.processor.specs.Seen.{Step, world, Does}
 use Rattle.processor.specs.Pieces.{landing}
 use Rattle.processor.specs.Quiet.{quiet, Times, Acts}
-use Rattle.processor.specs.declared.memory.Step.{Step}
-use Rattle.processor.specs.declared.memory.Step.TheVariants.{Done, Fault}
 use Rattle.processor.proofs.Laws.{ends}
 use Rattle.processor.proofs.Talking.{lands, takes_none, silent, untimed, unoffered}
 use Rattle.executor.specs.Steps.{executing, Other, on_registers, on_processes, on_alts, on_timers}
+
+-- a truth as a word, as the language has it and as the model has it
+pub flag : (b : Bool) → bool_byte b ≡ truth b
+flag true = refl
+flag false = refl
 
 -- an operation by its code
 pub operates : (o : Operation) {n : ℕ} → n ≡ operation_code o → execute opr n ≡ operate o
@@ -90,24 +96,24 @@ uncoded code n (a ∷ l) h = rw (ne_eqb (code a) n (λ e. h.0 (sym e)), coded) (
 module _ {u : Setup} {act : Act (Unit {0})} {r q : Cpu} {l : List ℕ} (f : Cpu → Cpu) (e : act ≡ changing f) (g : q ≡ f r)
     (t : (f r).running ≡ true) (p : (f r).place ≤ u.code) where
   -- the registers alone are changed, and the process goes on behind the instruction
-  pub settles : Does u (landing act) r l (Done q) l
+  pub settles : Does u (landing act) r l (Ok q) l
   settles = rw (e, g) (ends (λ x. lands (world x u (f r) l) t p))
 
   -- no offer is taken, and the timer queue stays
-  pub settled : (o : List ℕ) (b : List Bool) (k c : ℕ) → Acts u (landing act) r o b k c l (Done q) b c l
+  pub settled : (o : List ℕ) (b : List Bool) (k c : ℕ) → Acts u (landing act) r o b k c l (Ok q) b c l
   settled o b k c = untimed k c (takes_none o b (silent settles))
 
 -- two values give one
 pub reduces :
     {u : Setup} {act : Act (Unit {0})} {r q : Cpu} {l : List ℕ} {v : ℕ} (g : ℕ → ℕ → ℕ) → act ≡ changing (λ r. reduce (g r.b r.a) r)
     → q ≡ reduce v r → v ≡ g r.b r.a → r.running ≡ true → r.place ≤ u.code → (o : List ℕ) (b : List Bool) (k f : ℕ)
-    → Acts u (landing act) r o b k f l (Done q) b f l
+    → Acts u (landing act) r o b k f l (Ok q) b f l
 reduces {r} g e h k = settled (λ r. reduce (g r.b r.a) r) e (h ∙ ap (λ v. reduce v r) k)
 
 -- LDTIMER, whose reading is heard
 pub loads :
     {u : Setup} {r q : Cpu} {l : List ℕ} (o : List ℕ) (b : List Bool) (k f : ℕ) → r.running ≡ true → r.place ≤ u.code → q ≡ push k r
-    → Acts u (landing load_timer) r o b k f l (Done q) b f l
+    → Acts u (landing load_timer) r o b k f l (Ok q) b f l
 unfolding load_timer
 loads o b k f t p e =
     rw e (record { said = λ x. ap quiet (lands _ t p); keeps = tt; keeps_held = tt; keeps_front = tt; long = refl })
@@ -127,7 +133,7 @@ timed-as o b e t = rw e (unoffered o b t)
 -- a fault before anything is done
 pub faulted :
     {u : Setup} {act : Act (Unit {0})} {r : Cpu} {l : List ℕ} {j : FaultKind} (o : List ℕ) (b : List Bool) (k f : ℕ) → act ≡ fault j
-    → Acts u (landing act) r o b k f l (Fault j) b f l
+    → Acts u (landing act) r o b k f l (Err j) b f l
 faulted o b k f e = rw e (record { said = λ x. refl; keeps = refl; keeps_held = refl; keeps_front = refl; long = refl })
 
 -- a number that is no operation's

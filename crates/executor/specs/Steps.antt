@@ -1,5 +1,6 @@
 -- Instructions by their codes.
-use Rattle.std.specs.Prelude.{ℕ, suc, min, ◌≡◌, Bool, List, [], ◌∷◌}
+use Rattle.processor.specs.Seen.{Step}
+use Rattle.std.specs.Prelude.{ℕ, suc, min, ◌≡◌, Bool, List, [], ◌∷◌, length}
 use Rattle.model.specs.Limits.{slice_limit}
 use Rattle.model.specs.Instruction.{function_of, Operation, operation_code, rev, endp, diff, «in», prod, gt, startp, outword, stopp, ldpi}
 use Rattle.model.specs.Instruction.{disc, diss, xor, mint, alt, altwt, altend, and, enbc, enbs, or, sum, ldtimer, tin, dist, enbt, talt}
@@ -10,7 +11,6 @@ use Rattle.model.specs.Run.{function_or12}
 use Rattle.model.specs.declared.Cpu.{Cpu}
 use Rattle.model.specs.declared.Setup.{Setup}
 use Rattle.processor.specs.Quiet.{Acts}
-use Rattle.processor.specs.declared.memory.Step.{Step}
 
 -- a direct function by its code
 abbrev pub executing : (code operand : ℕ) → Act (Unit {0})
@@ -37,10 +37,10 @@ on_alts = enbs ∷ enbc ∷ altend ∷ altwt ∷ alt ∷ diss ∷ disc ∷ []
 abbrev pub on_timers : List Operation
 on_timers = taltwt ∷ talt ∷ enbt ∷ dist ∷ tin ∷ ldtimer ∷ []
 
--- an operation of the clock, which may be heard, in any machine with so many words and code of that length
-abbrev pub Ticks : (size code : ℕ) → Act (Unit {0}) → Cpu → (clock front : ℕ) → (before : List ℕ) → Step → (front' : ℕ)
+-- an operation of the clock, which may be heard, in any machine with so many words as the memory and code of that length
+abbrev pub Ticks : (code : ℕ) → Act (Unit {0}) → Cpu → (clock front : ℕ) → (before : List ℕ) → Step → (front' : ℕ)
     → (after : List ℕ) → Type 0
-Ticks size code act r k f l s g m = (u : Setup) → memory_size u ≡ size → u.code ≡ code → (o : List ℕ) (b : List Bool)
+Ticks code act r k f l s g m = (u : Setup) → memory_size u ≡ length l → u.code ≡ code → (o : List ℕ) (b : List Bool)
     → Acts u act r o b k f l s b g m
 
 -- an action that sees which offers are held, and takes none

@@ -15,10 +15,7 @@ use word::plus;
 fn counted(count: u32) -> u32
     ensures { result ≡ min (suc count) slice_limit }
 {
-    if count < model::limits::SLICE {
-        return count + 1;
-    }
-    model::limits::SLICE
+    count.saturating_add(1).min(model::limits::SLICE)
 }
 
 // The byte counts towards the slice, the next one is behind it, and the operand is given.
@@ -26,24 +23,16 @@ fn advanced(r: model::Cpu, operand: u32) -> model::Cpu
     ensures { result ≡ advanced_to operand r }
 {
     model::Cpu {
-        front: r.front,
-        back: r.back,
-        operand: operand,
-        a: r.a,
-        b: r.b,
-        c: r.c,
-        workspace: r.workspace,
+        operand,
         count: counted(r.count),
         place: plus(r.place, 1),
-        running: r.running,
-        queued: r.queued,
+        ..r
     }
 }
 
 // What a byte does once it is fetched: a prefix gathers, any other uses the operand and leaves 0.
 fn act(
     memory: &mut [u32],
-    size: u64,
     cpu: model::Cpu,
     setup: model::Setup,
     offers: &[u32; 8],
@@ -52,20 +41,18 @@ fn act(
     front: &mut u32,
     byte: u8,
 ) -> Step
-    requires size_in_bounds { (size ≤ length memory.old) × (cpu.running ≡ true) × (memory_size setup ≡ size) × (cpu.place < setup.code) }
-    requires held_len { length held.old ≡ 8 }
+    requires sized { (cpu.running ≡ true) × (memory_size setup ≡ length memory.old) × (cpu.place < setup.code) }
     ensures { Acts setup (landing (act_of byte)) cpu offers.now held.old clock front.old
         memory.old result held.new front.new memory.new }
 {
     let function = byte / 16;
     let operand = instruction::gather(cpu.operand, byte);
     if instruction::is_prefix(function) {
-        return Step::Done(advanced(cpu, instruction::prefixed(operand, function)));
+        return Ok(advanced(cpu, instruction::prefixed(operand, function)));
     }
     let r = advanced(cpu, 0);
     execute(
         memory,
-        size,
         r,
         setup,
         offers,
@@ -81,7 +68,6 @@ fn act(
 pub fn step(
     code: &[u8],
     memory: &mut [u32],
-    size: u64,
     cpu: model::Cpu,
     setup: model::Setup,
     offers: &[u32; 8],
@@ -89,17 +75,14 @@ pub fn step(
     clock: u32,
     front: &mut u32,
 ) -> Step
-    requires size_in_bounds { (size ≤ length memory.old) × (cpu.running ≡ true) × (memory_size setup ≡ size)
+    requires sized { (cpu.running ≡ true) × (memory_size setup ≡ length memory.old)
         × (setup.code ≤ length code.now) }
-    requires held_len { length held.old ≡ 8 }
     ensures { Acts setup (byte_of code.now) cpu offers.now held.old clock front.old
         memory.old result held.new front.new memory.new }
 {
     if setup.code <= cpu.place {
-        return Step::Fault(model::FaultKind::Place(cpu.place));
+        return Err(model::FaultKind::Place(cpu.place));
     }
     let at = cpu.place as usize;
-    act(
-        memory, size, cpu, setup, offers, held, clock, front, code[at],
-    )
+    act(memory, cpu, setup, offers, held, clock, front, code[at])
 }

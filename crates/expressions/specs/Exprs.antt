@@ -4,6 +4,7 @@ use Rattle.model.specs.Word.{low, minus}
 use Rattle.model.specs.Counts.{order_of}
 use Rattle.model.specs.declared.kinds.Order.{Order}
 use Rattle.model.specs.declared.kinds.Order.TheVariants.{LeftFirst, RightFirst, RightStored}
+use Rattle.assembler.specs.declared.entry.Entry.{Entry}
 use Rattle.numbers.specs.Items.{value_at}
 use Rattle.expressions.specs.Emits.{Code, plain_into, operation_into}
 use Rattle.expressions.specs.Names.{local_of}
@@ -20,10 +21,10 @@ use Rattle.instruction.specs.Codes.{AJW, AND, DIFF, EQC, GT, LDC, LDL, OR, PROD,
 pub record Wrote : Type 0 where
   pub next : ℕ
   pub here : ℕ
-  pub list : List ℕ
+  pub list : List Entry
 
 -- the same from what a function answers, and the list
-abbrev pub wrote : Cursor → List ℕ → Wrote
+abbrev pub wrote : Cursor → List Entry → Wrote
 wrote d l = record { next = d.at; here = d.here; list = l }
 
 -- the same from a place of the table, and the code so far

@@ -7,7 +7,10 @@ ghost use Rattle.expressions.specs.Exprs.{expr_into, lowering, adjust_into, whol
 
 use crate::emit::Cursor;
 use crate::sides::Pair;
-use crate::words::Scope;
+use crate::words::{Scope, Words};
+use crate::{emit, sides, words};
+use assembler::Entry;
+use instruction::codes;
 use model::kinds::{ExprKind, Operator};
 
 // The workspace, the values held before, and how many variables are in scope.
@@ -19,33 +22,34 @@ struct Frame {
 }
 
 // An operator; EQ is DIFF, EQC 0.
-fn gen_operator(operator: Operator, list: &mut [u64; 16384], here: u32) -> u32
+#[tactic(auto, unfolding(crate::specs::Exprs::operator_into))]
+fn gen_operator(operator: Operator, list: &mut [Entry], here: u32) -> u32
     ensures { standing result list.new ≡ operator_into operator (standing here list.old) }
 {
     match operator {
-        Operator::Plus => crate::emit::operation(list, here, instruction::codes::SUM),
-        Operator::Minus => crate::emit::operation(list, here, instruction::codes::DIFF),
-        Operator::Times => crate::emit::operation(list, here, instruction::codes::PROD),
-        Operator::Gt => crate::emit::operation(list, here, instruction::codes::GT),
+        Operator::Plus => emit::operation(list, here, codes::SUM),
+        Operator::Minus => emit::operation(list, here, codes::DIFF),
+        Operator::Times => emit::operation(list, here, codes::PROD),
+        Operator::Gt => emit::operation(list, here, codes::GT),
         Operator::Eq => {
-            let next = crate::emit::operation(list, here, instruction::codes::DIFF);
-            crate::emit::plain(list, next, instruction::codes::EQC, 0)
+            let next = emit::operation(list, here, codes::DIFF);
+            emit::plain(list, next, codes::EQC, 0)
         }
-        Operator::And => crate::emit::operation(list, here, instruction::codes::AND),
-        Operator::Or => crate::emit::operation(list, here, instruction::codes::OR),
-        Operator::Xor => crate::emit::operation(list, here, instruction::codes::XOR),
+        Operator::And => emit::operation(list, here, codes::AND),
+        Operator::Or => emit::operation(list, here, codes::OR),
+        Operator::Xor => emit::operation(list, here, codes::XOR),
     }
 }
 
 // A constant.
-fn gen_constant(table: &[u8], cursor: Cursor, list: &mut [u64; 16384]) -> Cursor
+fn gen_constant(table: &[u8], cursor: Cursor, list: &mut [Entry]) -> Cursor
     ensures { wrote result list.new ≡ constant_into table.now cursor.at (standing cursor.here list.old) }
 {
     let constant = numbers::value_at(table, cursor.at);
-    let end = crate::emit::plain(list, cursor.here, instruction::codes::LDC, constant.value);
+    let here = emit::plain(list, cursor.here, codes::LDC, constant.value);
     Cursor {
         at: constant.next,
-        here: end,
+        here,
     }
 }
 
@@ -54,18 +58,18 @@ fn gen_variable(
     table: &[u8],
     cursor: Cursor,
     frame: Frame,
-    words: &[u32; 2112],
-    list: &mut [u64; 16384],
+    words: &Words,
+    list: &mut [Entry],
 ) -> Cursor
     ensures { WithVariables frame.variables words.now (λ vs. wrote result list.new
         ≡ variable_into frame.w vs table.now cursor.at (standing cursor.here list.old)) }
 {
     let name = numbers::value_at(table, cursor.at);
-    let word = crate::words::variable(words, frame.variables, name.value, frame.w);
-    let end = crate::emit::plain(list, cursor.here, instruction::codes::LDL, word);
+    let word = words::variable(words, frame.variables, name.value, frame.w);
+    let here = emit::plain(list, cursor.here, codes::LDL, word);
     Cursor {
         at: name.next,
-        here: end,
+        here,
     }
 }
 
@@ -73,56 +77,54 @@ fn gen_variable(
 #[cycle(gen_binary_gen_expr_gen_sides)]
 fn gen_sides(
     table: &[u8],
-    plan: &[u32; 16384],
+    plan: &plan::Plan,
     pair: Pair,
     here: u32,
     depth: u64,
     frame: Frame,
-    words: &[u32; 2112],
-    list: &mut [u64; 16384],
+    words: &Words,
+    list: &mut [Entry],
 ) -> u32
     ensures { WithVariables frame.variables words.now (λ vs. standing result list.new
         ≡ sides_into (inner_at depth frame.w vs plan.now table.now) plan.now frame.held pair
         (standing here list.old)) }
 {
-    let sides = crate::sides::arrange(plan, pair, frame.held);
+    let sides = sides::arrange(plan, pair, frame.held);
     let start = Cursor {
         at: sides.first,
-        here: here,
+        here,
     };
     let one = gen_expr(table, plan, start, depth, frame, words, list);
-    let order = sides.order;
-    let between = crate::sides::put_between(order, frame.held, list, one.here);
+    let between = sides::put_between(sides.order, frame.held, list, one.here);
     let second = Cursor {
         at: sides.second,
         here: between,
     };
     let inner = Frame {
-        w: frame.w,
         held: sides.held,
-        variables: frame.variables,
+        ..frame
     };
     let two = gen_expr(table, plan, second, depth, inner, words, list);
-    crate::sides::put_behind(order, frame.held, list, two.here)
+    sides::put_behind(sides.order, frame.held, list, two.here)
 }
 
 // What follows an operator's kind: operator, left, right.
 #[cycle(gen_binary_gen_expr_gen_sides)]
 fn gen_binary(
     table: &[u8],
-    plan: &[u32; 16384],
+    plan: &plan::Plan,
     cursor: Cursor,
     depth: u64,
     frame: Frame,
-    words: &[u32; 2112],
-    list: &mut [u64; 16384],
+    words: &Words,
+    list: &mut [Entry],
 ) -> Cursor
     ensures { WithVariables frame.variables words.now (λ vs. wrote result list.new
         ≡ operated_into (inner_at depth frame.w vs plan.now table.now) plan.now table.now
         frame.held cursor.at (standing cursor.here list.old)) }
 {
     let operator = numbers::value_at(table, cursor.at);
-    let pair = crate::sides::sides_of(plan, operator.next);
+    let pair = sides::sides_of(plan, operator.next);
     let here = gen_sides(table, plan, pair, cursor.here, depth, frame, words, list);
     let which = numbers::kinds::operator_of(operator.value as u64);
     Cursor {
@@ -135,12 +137,12 @@ fn gen_binary(
 #[cycle(gen_binary_gen_expr_gen_sides)]
 fn gen_expr(
     table: &[u8],
-    plan: &[u32; 16384],
+    plan: &plan::Plan,
     cursor: Cursor,
     depth: u64,
     frame: Frame,
-    words: &[u32; 2112],
-    list: &mut [u64; 16384],
+    words: &Words,
+    list: &mut [Entry],
 ) -> Cursor
     ensures { WithVariables frame.variables words.now (λ vs. wrote result list.new
         ≡ expr_into depth frame.w vs plan.now table.now frame.held cursor.at
@@ -159,17 +161,15 @@ fn gen_expr(
         ExprKind::Variable => gen_variable(table, behind, frame, words, list),
         ExprKind::Not => {
             let inner = gen_expr(table, plan, behind, depth - 1, frame, words, list);
-            let end = crate::emit::plain(list, inner.here, instruction::codes::EQC, 0);
-            Cursor {
-                at: inner.at,
-                here: end,
-            }
+            let here = emit::plain(list, inner.here, codes::EQC, 0);
+            Cursor { at: inner.at, here }
         }
         ExprKind::Binary => gen_binary(table, plan, behind, depth - 1, frame, words, list),
     }
 }
 
 // By how many words W is lowered for a whole expression: its stored values and so many more; without stored values by none.
+#[tactic(auto, unfolding(crate::specs::Exprs::lowering))]
 fn lowered(stored: u32, more: u32) -> u32
     ensures { result ≡ lowering stored more }
 {
@@ -180,24 +180,25 @@ fn lowered(stored: u32, more: u32) -> u32
 }
 
 // AJW where W is lowered.
-fn put_adjust(lowered: u32, operand: u32, list: &mut [u64; 16384], here: u32) -> u32
+#[tactic(auto, unfolding(crate::specs::Exprs::adjust_into))]
+fn put_adjust(lowered: u32, operand: u32, list: &mut [Entry], here: u32) -> u32
     ensures { standing result list.new ≡ adjust_into lowered operand (standing here list.old) }
 {
     if lowered == 0 {
         return here;
     }
-    crate::emit::plain(list, here, instruction::codes::AJW, operand)
+    emit::plain(list, here, codes::AJW, operand)
 }
 
 // A whole expression: one with stored values stands between AJW -n and AJW n, n words being its stored values and so many more.
 pub fn gen_whole(
     table: &[u8],
-    plan: &[u32; 16384],
+    plan: &plan::Plan,
     cursor: Cursor,
     more: u32,
     scope: Scope,
-    words: &[u32; 2112],
-    list: &mut [u64; 16384],
+    words: &Words,
+    list: &mut [Entry],
 ) -> Cursor
     ensures { WithVariables scope.variables words.now (λ vs. wrote result list.new
         ≡ whole_into scope.depth scope.w more vs plan.now table.now cursor.at
@@ -205,9 +206,9 @@ pub fn gen_whole(
 {
     let stored = plan::stored_in(plan::entry_at(plan, cursor.at));
     let n = lowered(stored, more);
-    let begin = put_adjust(n, crate::emit::minus(n), list, cursor.here);
+    let begin = put_adjust(n, emit::minus(n), list, cursor.here);
     let frame = Frame {
-        w: crate::words::below(scope.w, n),
+        w: words::below(scope.w, n),
         held: 0,
         variables: scope.variables,
     };
@@ -216,34 +217,32 @@ pub fn gen_whole(
         here: begin,
     };
     let inner = gen_expr(table, plan, start, scope.depth, frame, words, list);
-    let end = put_adjust(n, n, list, inner.here);
-    Cursor {
-        at: inner.at,
-        here: end,
-    }
+    let here = put_adjust(n, n, list, inner.here);
+    Cursor { at: inner.at, here }
 }
 
 // A time guard's time and condition, the condition at a place: the sides of an operator that is not there, with the wrap of both.
+// Stays beside `gen_whole`: with the code inside as a closure its contract would be the closure's, and these two would say no less.
 pub fn gen_both(
     table: &[u8],
-    plan: &[u32; 16384],
+    plan: &plan::Plan,
     cursor: Cursor,
     more: u32,
     scope: Scope,
-    words: &[u32; 2112],
-    list: &mut [u64; 16384],
+    words: &Words,
+    list: &mut [Entry],
 ) -> Cursor
     ensures { WithVariables scope.variables words.now (λ vs. wrote result list.new
         ≡ both_into scope.depth scope.w more vs plan.now table.now cursor.at
         (standing cursor.here list.old)) }
 {
-    let pair = crate::sides::time_and_condition(plan, cursor.at);
+    let pair = sides::time_and_condition(plan, cursor.at);
     let time = plan::entry_at(plan, pair.left);
     let condition = plan::entry_at(plan, pair.right);
     let n = lowered(plan::sides_held(time, condition), more);
-    let begin = put_adjust(n, crate::emit::minus(n), list, cursor.here);
+    let begin = put_adjust(n, emit::minus(n), list, cursor.here);
     let frame = Frame {
-        w: crate::words::below(scope.w, n),
+        w: words::below(scope.w, n),
         held: 0,
         variables: scope.variables,
     };

@@ -4,6 +4,9 @@ ghost use Rattle.std.specs.Prelude.{◌≡◌};
 ghost use Rattle.expressions.specs.Emits.{at as standing};
 ghost use Rattle.expressions.specs.Exprs.{sides_of, time_and_condition, arranged, between_into, behind_into};
 
+use crate::emit;
+use assembler::Entry;
+use instruction::codes;
 use model::kinds::Order;
 
 // The places of two sides, and the place after both.
@@ -24,19 +27,19 @@ pub struct Sides {
 }
 
 // The sides of an operator: the left one at a place, the right one behind it.
-pub fn sides_of(plan: &[u32; 16384], at: usize) -> Pair
+pub fn sides_of(plan: &plan::Plan, at: usize) -> Pair
     ensures { result ≡ sides_of plan.now at }
 {
     let right = plan::next_in(plan::entry_at(plan, at));
     Pair {
         left: at,
-        right: right,
+        right,
         next: plan::next_in(plan::entry_at(plan, right)),
     }
 }
 
 // A time guard's time and condition: the right one at a place, the left one behind it.
-pub fn time_and_condition(plan: &[u32; 16384], at: usize) -> Pair
+pub fn time_and_condition(plan: &plan::Plan, at: usize) -> Pair
     ensures { result ≡ time_and_condition plan.now at }
 {
     let sides = sides_of(plan, at);
@@ -48,51 +51,45 @@ pub fn time_and_condition(plan: &[u32; 16384], at: usize) -> Pair
 }
 
 // Two sides, with so many values held before.
-pub fn arrange(plan: &[u32; 16384], pair: Pair, held: u32) -> Sides
+pub fn arrange(plan: &plan::Plan, pair: Pair, held: u32) -> Sides
     ensures { result ≡ arranged plan.now held pair }
 {
     let left = plan::entry_at(plan, pair.left);
     let right = plan::entry_at(plan, pair.right);
-    match counts::order_of(plan::registers_in(left), plan::registers_in(right)) {
-        Order::LeftFirst => Sides {
-            order: Order::LeftFirst,
-            first: pair.left,
-            second: pair.right,
-            held: held,
-        },
-        Order::RightFirst => Sides {
-            order: Order::RightFirst,
-            first: pair.right,
-            second: pair.left,
-            held: held,
-        },
-        Order::RightStored => Sides {
-            order: Order::RightStored,
-            first: pair.right,
-            second: pair.left,
-            held: word::plus(held, 1),
-        },
+    let order = counts::order_of(plan::registers_in(left), plan::registers_in(right));
+    let (first, second, held) = match order {
+        Order::LeftFirst => (pair.left, pair.right, held),
+        Order::RightFirst => (pair.right, pair.left, held),
+        Order::RightStored => (pair.right, pair.left, word::plus(held, 1)),
+    };
+    Sides {
+        order,
+        first,
+        second,
+        held,
     }
 }
 
-// Between two sides: STL where the first value is stored, as number `held`.
-pub fn put_between(order: Order, held: u32, list: &mut [u64; 16384], here: u32) -> u32
+// Between two sides: STL where the first value is stored, as number `held`. This and the next stay two: they are two rows of the scheme,
+// which share no case that has code.
+#[tactic(auto, unfolding(crate::specs::Exprs::between_into))]
+pub fn put_between(order: Order, held: u32, list: &mut [Entry], here: u32) -> u32
     ensures { standing result list.new ≡ between_into order held (standing here list.old) }
 {
     match order {
-        Order::LeftFirst => here,
-        Order::RightFirst => here,
-        Order::RightStored => crate::emit::plain(list, here, instruction::codes::STL, held),
+        Order::LeftFirst | Order::RightFirst => here,
+        Order::RightStored => emit::plain(list, here, codes::STL, held),
     }
 }
 
 // Behind two sides: REV where right went first, LDL where it was stored.
-pub fn put_behind(order: Order, held: u32, list: &mut [u64; 16384], here: u32) -> u32
+#[tactic(auto, unfolding(crate::specs::Exprs::behind_into))]
+pub fn put_behind(order: Order, held: u32, list: &mut [Entry], here: u32) -> u32
     ensures { standing result list.new ≡ behind_into order held (standing here list.old) }
 {
     match order {
         Order::LeftFirst => here,
-        Order::RightFirst => crate::emit::operation(list, here, instruction::codes::REV),
-        Order::RightStored => crate::emit::plain(list, here, instruction::codes::LDL, held),
+        Order::RightFirst => emit::operation(list, here, codes::REV),
+        Order::RightStored => emit::plain(list, here, codes::LDL, held),
     }
 }

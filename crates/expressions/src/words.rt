@@ -12,6 +12,9 @@ const MOST: u32 = 1056;
 
 const CHANNELS: usize = MOST as usize;
 
+// The words of the variables in scope, and behind them those of the channels.
+pub type Words = [u32; 2112];
+
 // The depth left, the workspace, and how many variables and channels are in scope.
 #[derive(Clone, Copy)]
 pub struct Scope {
@@ -22,57 +25,48 @@ pub struct Scope {
 }
 
 // The word of one of so many names, whose words begin at an index; 0 of one that is not in scope.
-fn word_of(words: &[u32; 2112], first: usize, count: u32, name: u32) -> u32
+fn word_of(words: &Words, first: usize, count: u32, name: u32) -> u32
     requires { first ≤ most_names }
     ensures { (vs : List ℕ) → Shown first count words.now vs → result ≡ get_or vs name 0 }
 {
-    if count <= name {
-        return 0;
-    }
-    if MOST <= name {
+    if count <= name || MOST <= name {
         return 0;
     }
     words[first + name as usize]
 }
 
 // A variable's word, counted from w.
-pub fn variable(words: &[u32; 2112], count: u32, name: u32, w: u32) -> u32
+pub fn variable(words: &Words, count: u32, name: u32, w: u32) -> u32
     ensures { WithVariables count words.now (λ vs. result ≡ local_of vs name w) }
 {
     word::less(word_of(words, 0, count, name), w)
 }
 
 // A channel's word, counted from w.
-pub fn channel(words: &[u32; 2112], count: u32, name: u32, w: u32) -> u32
+pub fn channel(words: &Words, count: u32, name: u32, w: u32) -> u32
     ensures { WithChannels count words.now (λ cs. result ≡ local_of cs name w) }
 {
     word::less(word_of(words, CHANNELS, count, name), w)
 }
 
 // So many names behind so many stand in the words from w on. Of more names than there can be none.
-fn fill(words: &mut [u32; 2112], first: usize, names: u32, count: u32, w: u32)
+fn fill(words: &mut Words, first: usize, names: u32, count: u32, w: u32)
     requires { first ≤ most_names }
     ensures { words.new ≡ fill_into first names count w words.old }
 {
-    if MOST < names {
+    if MOST < names || MOST - names < count {
         return;
     }
-    if MOST - names < count {
-        return;
-    }
-    let mut index = first + names as usize;
+    let start = first + names as usize;
     let mut word = w;
-    let mut left = count;
-    while 0 < left {
+    for index in start..start + count as usize {
         words[index] = word;
-        index += 1;
         word = word::plus(word, 1);
-        left -= 1;
     }
 }
 
 // The scope of a VAR or CHAN of so many names, which stand in the words from its workspace on.
-pub fn enter(words: &mut [u32; 2112], declared: Declared, count: u32, scope: Scope) -> Scope
+pub fn enter(words: &mut Words, declared: Declared, count: u32, scope: Scope) -> Scope
     ensures scope { result ≡ entered declared count scope }
     ensures names { words.new ≡ declare_into declared count (scope.w - count) scope words.old }
 {
@@ -81,19 +75,17 @@ pub fn enter(words: &mut [u32; 2112], declared: Declared, count: u32, scope: Sco
         Declared::Variables => {
             fill(words, 0, scope.variables, count, w);
             Scope {
-                depth: scope.depth,
-                w: w,
+                w,
                 variables: word::plus(scope.variables, count),
-                channels: scope.channels,
+                ..scope
             }
         }
         Declared::Channels => {
             fill(words, CHANNELS, scope.channels, count, w);
             Scope {
-                depth: scope.depth,
-                w: w,
-                variables: scope.variables,
+                w,
                 channels: word::plus(scope.channels, count),
+                ..scope
             }
         }
     }
@@ -103,5 +95,5 @@ pub fn enter(words: &mut [u32; 2112], declared: Declared, count: u32, scope: Sco
 pub fn below(w: u32, n: u32) -> u32
     ensures { result ≡ w - n }
 {
-    if n < w { w - n } else { 0 }
+    w.saturating_sub(n)
 }

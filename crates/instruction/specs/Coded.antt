@@ -1,10 +1,10 @@
 -- An instruction's bytes, and what decoding answers, by the model's definitions.
 use Rattle.std.specs.Prelude.{ℕ, ◌+◌, ◌-◌, ◌*◌, ◌/◌, ◌%◌, Bool, cond, ◌||◌, List, [], ◌∷◌, ◌++◌, length, eqb}
-use Rattle.std.proofs.Math.Option.{Option, none, some}
+use Rattle.std.specs.Prelude.{Option, Some, None}
+use Rattle.std.proofs.Math.Option.{none, some, Option as Maybe}
 use Rattle.model.specs.Instruction.{pfix_code, nfix_code}
 use Rattle.model.specs.Prefix.{shifted, prefixes, pfixed, nfixed, Decoded}
-use Rattle.instruction.specs.declared.decoder.Decoded.{Decoded as Answer}
-use Rattle.instruction.specs.declared.decoder.Decoded.TheVariants.{Instruction, Nothing}
+use Rattle.instruction.specs.declared.decoder.Instruction.{Instruction}
 
 -- the bytes of an instruction with so many prefixes, whose function is the high four bits of a byte (01, "Workspace and code")
 unfoldable pub coded : (count byte operand : ℕ) → List ℕ
@@ -20,6 +20,6 @@ moved_up o f = cond (eqb f pfix_code) (pfixed o) (nfixed o)
 
 -- the answer for what was decoded in code of some size: the function's four bits, the operand and the place after the instruction
 -- (01, "The machine")
-abbrev pub answer : (size : ℕ) → Option Decoded → Answer
-answer size none = Nothing
-answer size (some d) = Instruction d.function d.operand (size - length d.rest)
+abbrev pub answer : (size : ℕ) → Maybe Decoded → Option Instruction
+answer size none = None
+answer size (some d) = Some (record { function = d.function; operand = d.operand; next = size - length d.rest })

@@ -1,4 +1,5 @@
-// The codes of INMOS's guide for the instructions that document 01 uses.
+// The codes of INMOS's guide for the instructions that document 01 uses. They stay numbers: a byte of code may have any function, and an
+// operand of OPR may be any word.
 
 // Direct functions, in the high four bits of a byte.
 pub const J: u8 = 0x00;

@@ -3,11 +3,12 @@ ghost use Rattle.std.specs.Prelude.{◌≡◌, length, drop};
 ghost use Rattle.model.specs.Prefix.{gathered, decode as decoding};
 ghost use Rattle.instruction.specs.Coded.{is_prefix, moved_up, answer};
 
-// A decoded instruction: its function's four bits, its operand and the place after it; or none where the code ends before.
-#[derive(Clone, Copy)]
-pub enum Decoded {
-    Instruction(u8, u32, usize),
-    Nothing,
+// A decoded instruction: its function's four bits, its operand and the place after it.
+#[derive(Clone, Copy, PartialEq, Eq)]
+pub struct Instruction {
+    pub function: u8,
+    pub operand: u32,
+    pub next: usize,
 }
 
 // The operand with its low four bits set to a byte's.
@@ -21,10 +22,7 @@ pub fn gather(operand: u32, byte: u8) -> u32
 pub fn is_prefix(function: u8) -> bool
     ensures { result ≡ is_prefix function }
 {
-    if function == 6 {
-        return true;
-    }
-    function == 2
+    matches!(function, 2 | 6)
 }
 
 // The operand behind a prefix byte: moved up by four bits, and by NFIX turned over before.
@@ -37,22 +35,27 @@ pub fn prefixed(operand: u32, function: u8) -> u32
     (4294967295 - operand) % 268435456 * 16
 }
 
-// Prefix bytes are gathered until a byte that is no prefix.
-pub fn decode(code: &[u8], from: usize) -> Decoded
+// Prefix bytes are gathered until a byte that is no prefix. None where the code ends before.
+// Stays a `loop`: document 01 names this form, a loop that yields the instruction and the next place by `break`.
+pub fn decode(code: &[u8], from: usize) -> Option<Instruction>
     ensures { result ≡ answer (length code.now) (decoding 0 (drop from code.now)) }
 {
     let mut at = from;
     let mut operand: u32 = 0;
     let found = loop {
         if code.len() <= at {
-            break Decoded::Nothing;
+            break None;
         }
         let byte = code[at];
         let function = byte / 16;
         let whole = gather(operand, byte);
         at += 1;
         if !is_prefix(function) {
-            break Decoded::Instruction(function, whole, at);
+            break Some(Instruction {
+                function,
+                operand: whole,
+                next: at,
+            });
         }
         operand = prefixed(whole, function);
     };

@@ -9,9 +9,10 @@ ghost use Rattle.instruction.specs.Coded.{coded};
 pub mod codes;
 mod decoder;
 
-pub use decoder::{Decoded, decode, gather, is_prefix, prefixed};
+pub use decoder::{Instruction, decode, gather, is_prefix, prefixed};
 
 // A word divided by 16 as a signed number, rounded down.
+#[tactic(auto, unfolding(model::specs::Prefix::shifted))]
 fn shift(n: u32) -> u32
     ensures { result ≡ shifted n }
 {
@@ -33,13 +34,13 @@ fn digit(n: u32) -> u8
 fn put(out: &mut [u8], at: usize, byte: u8)
     ensures { out.new ≡ set out.old at byte }
 {
-    if out.len() <= at {
-        return;
+    if at < out.len() {
+        out[at] = byte;
     }
-    out[at] = byte;
 }
 
 // Below 0 the first prefix is NFIX, which turns every bit over, so its digit is turned over too.
+#[tactic(auto, unfolding(model::specs::Prefix::first_prefix))]
 fn first_prefix(n: u32) -> u8
     ensures { result ≡ first_prefix n }
 {
@@ -55,17 +56,14 @@ fn put_prefixes(out: &mut [u8], here: usize, count: u32, n: u32)
     requires { here < 2 ^ 32 }
     ensures { out.new ≡ sets out.old here (prefixes count n) }
 {
-    let mut left = count;
     let mut rest = n;
-    while 1 < left {
-        left -= 1;
+    for left in (1..count).rev() {
         put(out, here + left as usize, 32 + digit(rest));
         rest = shift(rest);
     }
-    if left == 0 {
-        return;
+    if 0 < count {
+        put(out, here, first_prefix(rest));
     }
-    put(out, here, first_prefix(rest));
 }
 
 // An instruction with so many prefixes, whose function is the high four bits of a byte. Bytes outside are left out.
@@ -79,6 +77,7 @@ pub fn put_instruction(out: &mut [u8], here: u32, count: u32, function: u8, oper
 }
 
 // Whether so many prefixes are enough for a signed operand. The limit, 16 to the number of digits, is kept by the caller.
+#[tactic(auto, unfolding(model::specs::Prefix::enough))]
 fn enough(prefixes: u32, limit: u64, n: u32) -> bool
     requires { limit ≡ 16 ^ suc prefixes }
     ensures { result ≡ enough_for prefixes n }
@@ -86,10 +85,7 @@ fn enough(prefixes: u32, limit: u64, n: u32) -> bool
     if n < 2147483648 {
         return (n as u64) < limit;
     }
-    if prefixes == 0 {
-        return false;
-    }
-    ((4294967295 - n) as u64) < limit
+    prefixes != 0 && ((4294967295 - n) as u64) < limit
 }
 
 // The fewest prefixes that are enough for an operand.
@@ -97,14 +93,12 @@ pub fn fewest(n: u32) -> u32
     ensures said { result ≡ fewest_for n }
     ensures bound { result ≤ 7 }
 {
-    let mut prefixes: u32 = 0;
     let mut limit: u64 = 16;
-    while prefixes < 7 {
+    for prefixes in 0..7 {
         if enough(prefixes, limit, n) {
             return prefixes;
         }
-        prefixes += 1;
         limit *= 16;
     }
-    prefixes
+    7
 }

@@ -3,11 +3,16 @@
 
 ghost use Rattle.std.specs.Prelude.{◌≤◌};
 
-use instruction::codes;
+use instruction::{Instruction, codes};
 use std::io::Stdout;
 
-// Writes a function, an operand and the place after the instruction.
-fn print_instruction(out: Stdout, function: u8, operand: u32, next: usize) {
+// Writes a decoded instruction: its function, its operand and the place after it.
+fn print_instruction(out: Stdout, decoded: Instruction) {
+    let Instruction {
+        function,
+        operand,
+        next,
+    } = decoded;
     lines::print_hex(out, b"", function as u64);
     lines::print_word(out, b" ", operand as u64);
     lines::print(out, b" to ", next as u64);
@@ -17,10 +22,8 @@ fn print_instruction(out: Stdout, function: u8, operand: u32, next: usize) {
 fn print_decoded(out: Stdout, code: &[u8], from: usize) {
     lines::write(out, b" -> ");
     match instruction::decode(code, from) {
-        instruction::Decoded::Instruction(function, operand, next) => print_instruction(
-            out, function, operand, next,
-        ),
-        instruction::Decoded::Nothing => lines::write(out, b"nothing"),
+        Some(decoded) => print_instruction(out, decoded),
+        None => lines::write(out, b"nothing"),
     }
     lines::write(out, b"\n");
 }
@@ -42,16 +45,13 @@ fn prefixes(operand: u32, distance: bool) -> u32
     ensures { result ≤ 7 }
 {
     let fewest = instruction::fewest(operand);
-    if distance && fewest < 3 { 3 } else { fewest }
+    if distance { fewest.max(3) } else { fewest }
 }
 
 // A function with each of some operands.
 fn print_all(out: Stdout, function: u8, distance: bool, operands: &[u32]) {
-    let mut i = 0;
-    while i < operands.len() {
-        let operand = operands[i];
-        print_coded(out, function, prefixes(operand, distance), operand);
-        i += 1;
+    for operand in operands {
+        print_coded(out, function, prefixes(*operand, distance), *operand);
     }
 }
 
@@ -116,15 +116,20 @@ fn operations(out: Stdout) {
 
 // Each direct function, with the operand 5.
 fn direct(out: Stdout) {
-    print_coded(out, codes::J, 0, 5);
-    print_coded(out, codes::LDLP, 0, 5);
-    print_coded(out, codes::LDC, 0, 5);
-    print_coded(out, codes::LDL, 0, 5);
-    print_coded(out, codes::CJ, 0, 5);
-    print_coded(out, codes::AJW, 0, 5);
-    print_coded(out, codes::EQC, 0, 5);
-    print_coded(out, codes::STL, 0, 5);
-    print_coded(out, codes::OPR, 0, 5);
+    let functions: [u8; 9] = [
+        codes::J,
+        codes::LDLP,
+        codes::LDC,
+        codes::LDL,
+        codes::CJ,
+        codes::AJW,
+        codes::EQC,
+        codes::STL,
+        codes::OPR,
+    ];
+    for function in functions {
+        print_coded(out, function, 0, 5);
+    }
 }
 
 // Writes code and what decoding from a place answers.
@@ -136,12 +141,9 @@ fn print_code(out: Stdout, code: &[u8], from: usize) {
 // Before the end, at a prefix that the code ends in, at the end and behind it.
 fn ends(out: Stdout) {
     let code: [u8; 4] = [0x41, 0x27, 0x65, 0x21];
-    print_code(out, &code, 0);
-    print_code(out, &code, 1);
-    print_code(out, &code, 3);
-    print_code(out, &code, 4);
-    print_code(out, &code, 5);
-    print_code(out, &code, usize::MAX);
+    for from in [0, 1, 3, 4, 5, usize::MAX] {
+        print_code(out, &code, from);
+    }
 }
 
 // NFIX behind PFIX, another coding of -257; more digits than a word has; and no code.

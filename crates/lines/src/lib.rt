@@ -7,7 +7,7 @@ mod writing;
 
 pub use numbers::{at, flag, front, least, rest, to_bytes, word};
 pub use reading::{Line, begin, next_line, read_full, row};
-pub use writing::{print, print_bytes, print_hex, print_refusal, print_word, write};
+pub use writing::{print, print_bytes, print_hex, print_word, show, write};
 
 // The characters that are read at a time.
 pub const CHARACTERS: usize = 65536;

@@ -4,10 +4,7 @@ ghost use Rattle.lines.specs.Rows.{low_bytes};
 
 // The number at a place, or 0 where the line has no more.
 pub fn at(numbers: &[u64], place: usize) -> u64 {
-    if place < numbers.len() {
-        return numbers[place];
-    }
-    0
+    numbers.get(place).copied().unwrap_or(0)
 }
 
 // The number at a place as a word.
@@ -24,16 +21,13 @@ pub fn flag(numbers: &[u64], place: usize) -> bool {
 pub fn least(a: u64, b: usize) -> usize
     ensures { result ≤ b }
 {
-    if a < b as u64 {
-        return a as usize;
-    }
-    b
+    if a < b as u64 { a as usize } else { b }
 }
 
 // The first so many numbers, or all if there are fewer.
 pub fn front(numbers: &[u64], count: u64) -> &[u64] {
     let end = least(count, numbers.len());
-    &numbers[0..end]
+    &numbers[..end]
 }
 
 // The numbers behind the first so many.
@@ -47,10 +41,9 @@ pub fn to_bytes(numbers: &[u64], bytes: &mut [u8]) -> usize
     ensures bytes_after { bytes.new ≡ low_bytes numbers.now bytes.old }
     ensures upper_bound { result ≤ length bytes.new }
 {
-    let mut i = 0;
-    while i < numbers.len() && i < bytes.len() {
+    let count = numbers.len().min(bytes.len());
+    for i in 0..count {
         bytes[i] = (numbers[i] % 256) as u8;
-        i += 1;
     }
-    i
+    count
 }

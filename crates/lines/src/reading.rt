@@ -9,6 +9,16 @@ use crate::numbers::front;
 use crate::{CHARACTERS, NUMBERS};
 use std::io::{Read, Stderr, Stdin};
 
+// Where a line stands: before its first character, among its numbers, in a comment, at its end, or behind the text's end.
+#[derive(Clone, Copy, PartialEq, Eq)]
+enum Stand {
+    First,
+    Numbers,
+    Comment,
+    Whole,
+    Over,
+}
+
 // A line, and how far the text is read.
 #[derive(Clone, Copy)]
 pub struct Line {
@@ -20,11 +30,7 @@ pub struct Line {
     // The number that is being read: its digits so far, and its value.
     open: usize,
     value: u64,
-    // Where the line stands: before its first character, in a comment, at its end, behind the text's end.
-    first: bool,
-    comment: bool,
-    whole: bool,
-    over: bool,
+    stand: Stand,
     // How many numbers it has.
     count: usize,
     // Whether it is no line or its first character is '#'.
@@ -36,15 +42,12 @@ pub struct Line {
 // Before the first line of a text whose numbers have at most so many digits.
 pub fn begin(most: usize) -> Line {
     Line {
-        most: most,
+        most,
         next: 0,
         end: 0,
         open: 0,
         value: 0,
-        first: true,
-        comment: false,
-        whole: false,
-        over: false,
+        stand: Stand::First,
         count: 0,
         remark: false,
         left: u64::MAX,
@@ -53,19 +56,20 @@ pub fn begin(most: usize) -> Line {
 
 // The line after another, of which nothing is read.
 fn new_line(last: Line) -> Line {
-    let mut line = begin(last.most);
-    line.next = last.next;
-    line.end = last.end;
-    line
+    Line {
+        next: last.next,
+        end: last.end,
+        ..begin(last.most)
+    }
 }
 
-// The value of a hexadecimal digit, and 16 for any other character.
-fn digit(character: u8) -> u64 {
+// The value of a hexadecimal digit.
+fn digit(character: u8) -> Option<u64> {
     match character {
-        b'0'..=b'9' => (character - b'0') as u64,
-        b'A'..=b'F' => (character - b'A') as u64 + 10,
-        b'a'..=b'f' => (character - b'a') as u64 + 10,
-        _ => 16,
+        b'0'..=b'9' => Some((character - b'0') as u64),
+        b'A'..=b'F' => Some((character - b'A') as u64 + 10),
+        b'a'..=b'f' => Some((character - b'a') as u64 + 10),
+        _ => None,
     }
 }
 
@@ -92,17 +96,19 @@ fn end_number(line: Line, numbers: &mut [u64; NUMBERS]) -> Line {
 
 // The end of the line.
 fn end_line(line: Line, numbers: &mut [u64; NUMBERS]) -> Line {
-    let mut done = end_number(line, numbers);
-    done.whole = true;
-    done
+    Line {
+        stand: Stand::Whole,
+        ..end_number(line, numbers)
+    }
 }
 
 // A '#': the rest of the line is comment, all of it if this is the first character.
 fn begin_comment(line: Line, numbers: &mut [u64; NUMBERS]) -> Line {
-    let mut done = end_number(line, numbers);
-    done.comment = true;
-    done.remark = line.first;
-    done
+    Line {
+        stand: Stand::Comment,
+        remark: line.stand == Stand::First,
+        ..end_number(line, numbers)
+    }
 }
 
 // A digit more, in a number of at most so many digits, and of 16 if that is less.
@@ -117,25 +123,27 @@ fn take_digit(line: Line, numbers: &mut [u64; NUMBERS], value: u64) -> Line {
 }
 
 // A character that is neither the line's end nor in or before a comment.
-fn take_symbol(line: Line, numbers: &mut [u64; NUMBERS], value: u64) -> Line {
-    let mut begun = line;
-    begun.first = false;
-    if value > 15 {
-        return end_number(begun, numbers);
+fn take_symbol(line: Line, numbers: &mut [u64; NUMBERS], character: u8) -> Line {
+    let begun = Line {
+        stand: Stand::Numbers,
+        ..line
+    };
+    match digit(character) {
+        Some(value) => take_digit(begun, numbers, value),
+        None => end_number(begun, numbers),
     }
-    take_digit(begun, numbers, value)
 }
 
 // One character.
 fn take_character(line: Line, numbers: &mut [u64; NUMBERS], character: u8) -> Line {
     if character == b'\n' {
         end_line(line, numbers)
-    } else if line.comment {
+    } else if line.stand == Stand::Comment {
         line
     } else if character == b'#' {
         begin_comment(line, numbers)
     } else {
-        take_symbol(line, numbers, digit(character))
+        take_symbol(line, numbers, character)
     }
 }
 
@@ -159,8 +167,9 @@ fn read_part(
     };
     longer.next = 0;
     longer.end = n;
-    longer.whole = n == 0;
-    longer.over = n == 0;
+    if n == 0 {
+        longer.stand = Stand::Over;
+    }
     longer
 }
 
@@ -187,7 +196,7 @@ fn counted(line: Line, last: Line) -> Line
     ensures { result.left < last.left }
 {
     let mut read = line;
-    if line.over {
+    if line.stand == Stand::Over {
         read.count = 0;
         read.remark = true;
         read.left = 0;
@@ -198,7 +207,7 @@ fn counted(line: Line, last: Line) -> Line
 }
 
 // The line after another, with its numbers at the front of `numbers`; those for which there is no room are dropped. The characters are the
-// same for all lines of a text. The loop counts its turns down, from a number that no line uses up.
+// same for all lines of a text. The loop has more turns than any line uses up.
 pub fn next_line(
     input: Stdin,
     errors: Stderr,
@@ -210,18 +219,18 @@ pub fn next_line(
     ensures { result.left < last.left }
 {
     let mut line = new_line(last);
-    let mut turns = u64::MAX;
-    while turns > 0 && !line.whole {
+    for _ in 0..u64::MAX {
+        if matches!(&line.stand, Stand::Whole | Stand::Over) {
+            break;
+        }
         line = go_on(input, errors, line, characters, numbers);
-        turns -= 1;
     }
     counted(line, last)
 }
 
 // The numbers of a line.
 pub fn row(line: Line, numbers: &[u64; NUMBERS]) -> &[u64] {
-    let all = &numbers[..];
-    front(all, line.count as u64)
+    front(&numbers[..], line.count as u64)
 }
 
 // Reads until the room is full, the input ends or a read fails, and answers how many bytes stand at the front of the room.

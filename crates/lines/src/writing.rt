@@ -1,9 +1,15 @@
 // Numbers and bytes to standard output. What is written is compared with an expected text, so a write that fails shows there.
+use std::fmt::Display;
 use std::io::Stdout;
 
 // Writes a text.
 pub fn write(out: Stdout, text: &[u8]) {
     let _written = out.write_all(text).is_ok();
+}
+
+// Writes a value.
+pub fn show<T: Display>(out: Stdout, value: &T) {
+    let _written = out.print(value).is_ok();
 }
 
 // Writes a number behind its name, in decimal.
@@ -32,15 +38,7 @@ fn print_byte(out: Stdout, before: &[u8], byte: u8) {
 
 // Writes bytes, each behind the same text.
 pub fn print_bytes(out: Stdout, before: &[u8], bytes: &[u8]) {
-    let mut i = 0;
-    while i < bytes.len() {
-        print_byte(out, before, bytes[i]);
-        i += 1;
+    for &byte in bytes {
+        print_byte(out, before, byte);
     }
-}
-
-// Writes a refusal's number and place, in decimal.
-pub fn print_refusal(out: Stdout, number: u32, place: usize) {
-    print(out, b"refused ", number as u64);
-    print(out, b" at ", place as u64);
 }

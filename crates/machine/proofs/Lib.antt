@@ -1,7 +1,6 @@
 -- Runs and Answered tie the loop to the definition of a run, Woken, Offers and Takes the outside's calls to theirs, Refusals a start;
--- Numbers has 01's number of each answer, Lists the memory that a start fills.
+-- Numbers has 01's number of each answer.
 pub mod Numbers
-pub mod Lists
 pub mod Refusals
 pub mod Runs
 pub mod Answered

@@ -9,8 +9,9 @@ use lib.ListN.{length, drop, replicate}
 use lib.Dec.{leb}
 use Rattle.model.specs.Limits.{word_limit, code_limit, channel_limit, slice_limit}
 use Rattle.model.specs.Word.{not_process}
-use Rattle.model.specs.declared.StartAnswer.{StartAnswer}
-use Rattle.model.specs.declared.StartAnswer.TheVariants.{Started, BadSlice, BadCount, TooLarge, Short}
+use Rattle.model.specs.Answers.{StartAnswer}
+use Rattle.std.specs.Prelude.{Err, Ok}
+use Rattle.model.specs.declared.StartRefusal.TheVariants.{BadSlice, BadCount, TooLarge, Short}
 use Rattle.model.specs.Run.{After, unchanged, fresh, blank, cleared, start}
 
 -- one of two flags is false
@@ -25,19 +26,20 @@ not-both a b c d h = one-false (leb a b) (leb c d) λ p q. h (leb-true a b p) (l
 
 module _ (code memory : List ℕ) (w i o q : ℕ) where
   -- 15
-  pub bad-slice : (1 ≤ q → q ≤ slice_limit → ⊥) → start code memory w i o q ≡ unchanged BadSlice blank memory
+  pub bad-slice : (1 ≤ q → q ≤ slice_limit → ⊥) → start code memory w i o q ≡ unchanged (Err BadSlice) blank memory
   unfolding start
   bad-slice h = rw (not-both 1 q q slice_limit h)
 
   module _ (q₁ : 1 ≤ q) (q₂ : q ≤ slice_limit) where
     -- 3
-    pub bad-count : (i ≤ channel_limit → o ≤ channel_limit → ⊥) → start code memory w i o q ≡ unchanged BadCount blank memory
+    pub bad-count : (i ≤ channel_limit → o ≤ channel_limit → ⊥) → start code memory w i o q ≡ unchanged (Err BadCount) blank memory
     unfolding start
     bad-count h = simp (le-leb 1 q q₁, le-leb q slice_limit q₂, not-both i channel_limit o channel_limit h)
 
     module _ (i₈ : i ≤ channel_limit) (o₈ : o ≤ channel_limit) where
       -- 10
-      pub too_large : (w + i + o ≤ word_limit → length code ≤ code_limit → ⊥) → start code memory w i o q ≡ unchanged TooLarge blank memory
+      pub too_large : (w + i + o ≤ word_limit → length code ≤ code_limit → ⊥)
+          → start code memory w i o q ≡ unchanged (Err TooLarge) blank memory
       unfolding start
       too_large h =
           let n = not-both (w + i + o) word_limit (length code) code_limit h in
@@ -47,7 +49,7 @@ module _ (code memory : List ℕ) (w i o q : ℕ) where
         abbrev begun : After StartAnswer
         begun =
             record {
-              answer = Started;
+              answer = Ok tt;
               machine = fresh (record { code = length code; base = w; inputs = i; outputs = o; slice = q });
               memory = replicate w 0 ++ replicate (w + i + o - w) not_process ++ drop (w + i + o) memory;
               talk = [];
@@ -55,7 +57,7 @@ module _ (code memory : List ℕ) (w i o q : ℕ) where
 
         -- only the lent memory is left to be tested
         by-memory : start code memory w i o q
-            ≡ cond (leb (w + i + o) (length memory)) begun (unchanged (Short (w + i + o)) blank memory)
+            ≡ cond (leb (w + i + o) (length memory)) begun (unchanged (Err (Short (w + i + o))) blank memory)
         unfolding start cleared
         by-memory =
             let n : w + i + o - w ≡ i + o = omega arith in
@@ -71,7 +73,7 @@ module _ (code memory : List ℕ) (w i o q : ℕ) where
             )
 
         -- 11
-        pub short : length memory < w + i + o → start code memory w i o q ≡ unchanged (Short (w + i + o)) blank memory
+        pub short : length memory < w + i + o → start code memory w i o q ≡ unchanged (Err (Short (w + i + o))) blank memory
         short h = by-memory ∙ rw (lt-leb (w + i + o) (length memory) h)
 
         pub starts : w + i + o ≤ length memory → start code memory w i o q ≡ begun

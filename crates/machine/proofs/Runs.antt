@@ -6,6 +6,7 @@ use mathlib.Core.Bool.{Bool, true, false, not, ◌&&◌}
 use mathlib.Core.List.{List, []}
 use lib.Dec.{eqb}
 use borrow.Author.Tests.{eq-eqb, ne_eqb}
+use Rattle.std.specs.Prelude.{Ok, Err, ◌++◌}
 use Rattle.model.specs.Machine.{Talk, Result, done, faults}
 use Rattle.model.specs.Run.{byte}
 use Rattle.model.specs.declared.Cpu.{Cpu}
@@ -13,9 +14,8 @@ use Rattle.model.specs.declared.Setup.{Setup}
 use Rattle.model.specs.declared.Machine.{Machine}
 use Rattle.model.specs.declared.FaultKind.{FaultKind}
 use Rattle.model.specs.declared.Outcome.TheVariants.{Ended, Waiting, Spent, Fault as RunFault}
-use Rattle.processor.specs.Seen.{Rest, world}
+use Rattle.processor.specs.Seen.{Rest, whole, world}
 use Rattle.processor.specs.Quiet.{quiet, offering, timing, Acts}
-use Rattle.processor.specs.declared.memory.Step.TheVariants.{Done, Fault}
 use Rattle.model.proofs.Laws.RunSteps.{run-waits, run_ends, run-spent, run_on, run-faults}
 use Rattle.machine.specs.Runs.{saying, Reaches, Finishes}
 
@@ -30,13 +30,13 @@ memory_in l (faults k) = l
 
 -- a result is known but for its communications
 pub heard :
-    (s : Result (Unit {0})) (y : Rest) (u : Setup) (r : Cpu) (m : List ℕ) → quiet s ≡ quiet (done tt (world y u r m))
-    → (t : List Talk) × (s ≡ done tt (world (saying t y) u r m))
+    (s : Result (Unit {0})) (y : Rest) (u : Setup) (r : Cpu) (m : List ℕ) → quiet s ≡ quiet (done tt (whole y u r m))
+    → (t : List Talk) × (s ≡ done tt (whole (saying t y) u r m))
 heard (done n s) y u r m e =
-    let f : s.machine ≡ (world y u r m).machine = ap (machine_in s.machine) e in
+    let f : s.machine ≡ (whole y u r m).machine = ap (machine_in s.machine) e in
     let g : s.memory ≡ m = ap (memory_in m) e in
     let h : Machine → List ℕ → Result (Unit {0}) = λ k a. done tt (record { machine = k; memory = a; talk = s.talk }) in
-    (s.talk, ap (λ k. h k s.memory) f ∙ ap (h (world y u r m).machine) g)
+    (s.talk, ap (λ k. h k s.memory) f ∙ ap (h (whole y u r m).machine) g)
 heard (faults k) y u r m e = ([], cc)
 
 -- a fault is known
@@ -107,20 +107,20 @@ module _ {u : Setup} {code : List ℕ} {budget : ℕ} {o : List ℕ} {r : Cpu} {
       module _ (h : n < budget) {c : List Bool} {to : ℕ} {k : List ℕ} where
         -- a byte is done
         pub reaches-on :
-            {i : Cpu} → Acts u (byte code) q o d clock at m (Done i) c to k → Reaches u code budget o r b clock from l (suc n) i c to k
+            {i : Cpu} → Acts u (byte code) q o d clock at m (Ok i) c to k → Reaches u code budget o r b clock from l (suc n) i c to k
         reaches-on {i} w =
             let z : budget - n ≡ suc (budget - suc n) = omega arith in
             record {
               goes = λ x.
                   let t = g.goes x in
                   let s = world (saying t.0 (offering o d (timing clock at x))) u q m in
-                  let v = heard (byte code s) (saying t.0 (offering o c (timing clock to x))) u i k (w.said (saying t.0 x)) in
+                  let v = heard (byte code s) (saying t.0 (offering o c (timing clock to x))) u i (k ++ x.behind) (w.said (saying t.0 x)) in
                   (v.0, t.1 ∙ rw z (run_on code n s goes_on_lem f (budget - suc n) _ v.1));
             }
 
         -- a byte would fault
         pub finishes-fault :
-            {j : FaultKind} → Acts u (byte code) q o d clock at m (Fault j) c to k
+            {j : FaultKind} → Acts u (byte code) q o d clock at m (Err j) c to k
             → Finishes u code budget o r b clock from l (record { cpu = q; front = to; held = c; outcome = RunFault n j }) k
         finishes-fault {j} w =
             let z : budget - n ≡ suc (budget - suc n) = omega arith in

@@ -4,8 +4,11 @@ use native.Mathlib.Omega.{arith}
 use mathlib.Core.Path.{◌≡◌, refl, ap, ◌∙◌}
 use mathlib.Core.List.{List}
 use mathlib.Core.Option.{none, some}
-use lib.ListN.{length, get_or}
+use lib.ListN.{length, get_or, get_or-append}
+use Rattle.std.proofs.lemmas.List.{length-append}
+use Rattle.std.specs.Prelude.{◌++◌}
 use borrow.Author.Tests.{lt-ltb, le-ltb, eq-eqb, ne_eqb}
+use Rattle.std.specs.Prelude.{Ok, Err}
 use Rattle.model.specs.Word.{not_process}
 use Rattle.model.specs.Machine.{done, faults, next, return, memory_size, peek}
 use Rattle.model.specs.Execute.{receive, received}
@@ -13,12 +16,10 @@ use Rattle.model.specs.Run.{unchanged, world_of, waking}
 use Rattle.model.specs.Outside.{looking, taking, took, take_unless, take}
 use Rattle.model.specs.declared.Machine.{Machine}
 use Rattle.model.specs.declared.FaultKind.{FaultKind}
-use Rattle.model.specs.declared.Kept.TheVariants.{Nothing as NoFault, Fault as KeptFault}
-use Rattle.model.specs.declared.TakeAnswer.TheVariants.{Nothing, Short, Fault as TakeFault, NoChannel}
-use Rattle.processor.specs.Seen.{Does}
+use Rattle.std.specs.Prelude.{Err, None, Ok, Some}
+use Rattle.model.specs.declared.TakeRefusal.TheVariants.{Short, Fault as TakeFault, NoChannel}
+use Rattle.processor.specs.Seen.{Step, Does}
 use Rattle.processor.specs.Quiet.{quiet}
-use Rattle.processor.specs.declared.memory.Step.{Step}
-use Rattle.processor.specs.declared.memory.Step.TheVariants.{Done, Fault}
 use Rattle.machine.specs.Runs.{rest_of, Answers}
 use Rattle.machine.specs.Outsides.{empty_wake, taken_by}
 use Rattle.machine.proofs.Runs.{heard, heard-fault}
@@ -56,52 +57,64 @@ module _ (m : Machine) (memory : List ℕ) (k : ℕ) {p : ℕ} (i : k < m.setup.
 
 module _ (m : Machine) (memory : List ℕ) (k : ℕ) where
   -- 11
-  pub take_short : length memory < memory_size m.setup → take m memory k ≡ unchanged (Short (memory_size m.setup)) m memory
+  pub take_short : length memory < memory_size m.setup → take m memory k ≡ unchanged (Err (Short (memory_size m.setup))) m memory
   unfolding take
   take_short h = rw (lt-ltb _ _ h)
 
   module _ (g : memory_size m.setup ≤ length memory) where
     -- a kept fault
-    pub take-kept : {f : FaultKind} → m.fault ≡ KeptFault f → take m memory k ≡ unchanged (TakeFault f) m memory
+    pub take-kept : {f : FaultKind} → m.fault ≡ Some f → take m memory k ≡ unchanged (Err (TakeFault f)) m memory
     unfolding take
     take-kept e = rw (le-ltb _ _ g) (ap (λ f. take_unless f m memory k) e)
 
-    module _ (e : m.fault ≡ NoFault) where
-      goes : take m memory k ≡ take_unless NoFault m memory k
-      unfolding take
-      goes = rw (le-ltb _ _ g) (ap (λ f. take_unless f m memory k) e)
+module _ (m : Machine) (words behind : List ℕ) (k : ℕ) (g : memory_size m.setup ≡ length words) (e : m.fault ≡ None) where
+  abbrev memory : List ℕ
+  memory = words ++ behind
 
-      -- 13
-      pub take-nowhere : m.setup.outputs ≤ k → take m memory k ≡ unchanged NoChannel m memory
-      take-nowhere h = goes ∙ rw (le-ltb _ _ h)
+  long : memory_size m.setup ≤ length memory
+  long = rw (length-append words behind) (omega (arith, g))
 
-      module _ (i : k < m.setup.outputs) where
-        came : take m memory k ≡ took (taking k (world_of m memory)) m memory
-        came = goes ∙ rw (lt-ltb _ _ i)
+  goes : take m memory k ≡ take_unless None m memory k
+  unfolding take
+  goes = rw (le-ltb _ _ long) (ap (λ f. take_unless f m memory k) e)
 
-        module _ {p : ℕ} (a : get_or memory (output_at m k) 0 ≡ p) where
-          -- no sender waits
-          pub take_none : p ≡ not_process → take m memory k ≡ unchanged Nothing m memory
-          take_none n = came ∙ rw (taking-none m memory k i a n)
+  -- 13
+  pub take-nowhere : m.setup.outputs ≤ k → take m memory k ≡ unchanged (Err NoChannel) m memory
+  take-nowhere h = goes ∙ rw (le-ltb _ _ h)
 
-          module _ (n : p ≡ not_process → ⊥) where
-            -- the sender's value is outside
-            pub take-fault :
-                {f : FaultKind} (v : ℕ) → receive p (world_of m memory) ≡ faults f
-                → Answers (take m memory k) (taken_by m v (Fault f)).answer (taken_by m v (Fault f)).machine memory
-            take-fault v d = rw (came, taking-fault m memory k i a n d) (record { answer = refl; machine = refl; memory = refl })
+  module _ (i : k < m.setup.outputs) where
+    came : take m memory k ≡ took (taking k (world_of m memory)) m memory
+    came = goes ∙ rw (lt-ltb _ _ i)
 
-            -- the sender's value is taken
-            pub take-wakes :
-                {v : ℕ} {l : List ℕ} (s : Step) → receive p (world_of m memory) ≡ done v (world_of m memory)
-                → Does m.setup (empty_wake (output_at m k) p) m.cpu memory s l
-                → Answers (take m memory k) (taken_by m v s).answer (taken_by m v s).machine l
-            take-wakes {v} {l} (Done q) d b =
-                let r = waking (received (output_at m k) p v) (world_of m memory) in
-                let h = wakes-received (rest_of m) m.setup m.cpu (output_at m k) p v memory ∙ ap quiet (b.said (rest_of m)) in
-                let t = heard r (rest_of m) m.setup q l h in
-                rw (came, taking-wakes m memory k i a n d, t.1) (record { answer = refl; machine = refl; memory = refl })
-            take-wakes {v} (Fault f) d b =
-                let r = waking (received (output_at m k) p v) (world_of m memory) in
-                let h = wakes-received (rest_of m) m.setup m.cpu (output_at m k) p v memory ∙ ap quiet (b.said (rest_of m)) in
-                rw (came, taking-wakes m memory k i a n d, heard-fault r f h) (record { answer = refl; machine = refl; memory = b.keeps })
+    module _ {p : ℕ} (at : get_or words (output_at m k) 0 ≡ p) where
+      a : get_or memory (output_at m k) 0 ≡ p
+      a =
+          let w : output_at m k < length words = omega (arith, g) in
+          get_or-append words behind 0 _ w ∙ at
+
+      -- no sender waits
+      pub take_none : p ≡ not_process → take m memory k ≡ unchanged (Ok None) m memory
+      take_none n = came ∙ rw (taking-none m memory k i a n)
+
+      module _ (n : p ≡ not_process → ⊥) where
+        -- the sender's value is outside
+        pub take-fault :
+            {f : FaultKind} (v : ℕ) → receive p (world_of m memory) ≡ faults f
+            → Answers (take m memory k) (taken_by m v (Err f)).answer (taken_by m v (Err f)).machine memory
+        take-fault v d = rw (came, taking-fault m memory k i a n d) (record { answer = refl; machine = refl; memory = refl })
+
+        -- the sender's value is taken
+        pub take-wakes :
+            {v : ℕ} {l : List ℕ} (s : Step) → receive p (world_of m memory) ≡ done v (world_of m memory)
+            → Does m.setup (empty_wake (output_at m k) p) m.cpu words s l
+            → Answers (take m memory k) (taken_by m v s).answer (taken_by m v s).machine (l ++ behind)
+        take-wakes {v} {l} (Ok q) d b =
+            let r = waking (received (output_at m k) p v) (world_of m memory) in
+            let h = wakes-received (rest_of m behind) m.setup m.cpu (output_at m k) p v memory ∙ ap quiet (b.said (rest_of m behind)) in
+            let t = heard r (rest_of m behind) m.setup q (l ++ behind) h in
+            rw (came, taking-wakes m memory k i a n d, t.1) (record { answer = refl; machine = refl; memory = refl })
+        take-wakes {v} (Err f) d b =
+            let r = waking (received (output_at m k) p v) (world_of m memory) in
+            let h = wakes-received (rest_of m behind) m.setup m.cpu (output_at m k) p v memory ∙ ap quiet (b.said (rest_of m behind)) in
+            rw (came, taking-wakes m memory k i a n d, heard-fault r f h)
+            (record { answer = refl; machine = refl; memory = ap (λ w. w ++ behind) b.keeps })

@@ -3,9 +3,10 @@ use Prim.Native.Nat.{ℕ, ◌<◌}
 use mathlib.Core.Path.{◌≡◌, refl, ap, ◌∙◌}
 use mathlib.Core.Bool.{Bool, true, false, cond}
 use mathlib.Core.List.{List}
-use lib.ListN.{get_or, set}
+use lib.ListN.{get_or, set, length}
 use lib.Dec.{ltb, leb, eqb}
 use borrow.Author.Tests.{lt-ltb}
+use Rattle.std.specs.Prelude.{Ok}
 use Rattle.model.specs.Word.{not_process}
 use Rattle.model.specs.Machine.{World, Act, Result, done, faults, next, ◌>>◌, return, memory_size, poke, test_place, join, communicate}
 use Rattle.model.specs.Machine.{space_of, state_word}
@@ -15,11 +16,9 @@ use Rattle.model.specs.Run.{land, waking}
 use Rattle.model.specs.declared.Cpu.{Cpu}
 use Rattle.model.specs.declared.Setup.{Setup}
 use Rattle.model.specs.declared.FaultKind.TheVariants.{Word}
-use Rattle.processor.specs.Seen.{Rest, world, Does, looked, undone}
+use Rattle.processor.specs.Seen.{Step, Rest, whole, Does, looked, undone}
 use Rattle.processor.specs.Pieces.{wake_join, notify_wake}
 use Rattle.processor.specs.Quiet.{quiet}
-use Rattle.processor.specs.declared.memory.Step.{Step}
-use Rattle.processor.specs.declared.memory.Peeked.TheVariants.{Value}
 use Rattle.processor.proofs.Laws.{undid}
 use Rattle.processor.proofs.Talking.{after-poke}
 use Rattle.machine.specs.Outsides.{empty_wake}
@@ -44,51 +43,51 @@ wakes-quiet c v (faults k) t = refl
 module _ (x : Rest) (u : Setup) (r : Cpu) where
   -- a word is written first
   pub wakes-poke : (act : Act (Unit {0})) (a v : ℕ) (l : List ℕ)
-      → waking (do poke a v; act) (world x u r l) ≡ (do poke a v; waking act) (world x u r l)
+      → waking (do poke a v; act) (whole x u r l) ≡ (do poke a v; waking act) (whole x u r l)
   unfolding waking poke
   wakes-poke act a v l = go (ltb a (memory_size u)) (set l a v)
     where
       go :
           (t : Bool) (m : List ℕ)
-          → next (next (cond t (done (tt {0}) (world x u r m)) (faults (Word a))) (λ n. act)) (λ n. cond r.running (return tt) land)
-          ≡ next (cond t (done (tt {0}) (world x u r m)) (faults (Word a))) (λ n. waking act)
+          → next (next (cond t (done (tt {0}) (whole x u r m)) (faults (Word a))) (λ n. act)) (λ n. cond r.running (return tt) land)
+          ≡ next (cond t (done (tt {0}) (whole x u r m)) (faults (Word a))) (λ n. waking act)
       go true m = refl
       go false m = refl
 
   -- an action that leaves the registers
   pub wakes-done :
-      (y : Rest) (l : List ℕ) (act : Act (Unit {0})) (t : Bool) → r.running ≡ t → act (world x u r l) ≡ done tt (world y u r l)
-      → waking act (world x u r l) ≡ done tt (world y u r l)
+      (y : Rest) (l : List ℕ) (act : Act (Unit {0})) (t : Bool) → r.running ≡ t → act (whole x u r l) ≡ done tt (whole y u r l)
+      → waking act (whole x u r l) ≡ done tt (whole y u r l)
   unfolding waking land
   wakes-done y l act true e d = rw (d, e)
   wakes-done y l act false e d = rw (d, e)
 
   -- a process in an ALT is told
-  pub wakes-notify : (p s : ℕ) (l : List ℕ) → waking (notify p s) (world x u r l) ≡ notify_wake p s (world x u r l)
+  pub wakes-notify : (p s : ℕ) (l : List ℕ) → waking (notify p s) (whole x u r l) ≡ notify_wake p s (whole x u r l)
   unfolding notify
   wakes-notify p s l =
       wakes-poke (cond (eqb s waiting) (join p) (return tt)) (state_word (space_of p)) ready l
       ∙ after-poke (λ q. q) x u _ _ (state_word (space_of p)) ready r l (go (eqb s waiting))
     where
       go : (t : Bool) (m : List ℕ)
-          → waking (cond t (join p) (return tt)) (world x u r m) ≡ cond t (wake_join p) (return tt) (world x u r m)
+          → waking (cond t (join p) (return tt)) (whole x u r m) ≡ cond t (wake_join p) (return tt) (whole x u r m)
       go true m = refl
       go false m = wakes-done x m (return tt) r.running refl refl
 
   -- a process that waited at a channel's word is woken, and the communication is made
-  pub wakes-received : (c p v : ℕ) (l : List ℕ) → quiet (waking (received c p v) (world x u r l)) ≡ quiet (empty_wake c p (world x u r l))
+  pub wakes-received : (c p v : ℕ) (l : List ℕ) → quiet (waking (received c p v) (whole x u r l)) ≡ quiet (empty_wake c p (whole x u r l))
   unfolding received waking
   wakes-received c p v l =
       ap quiet (wakes-poke (do join p; communicate c v) c not_process l)
       ∙ after-poke quiet x u (waking (do join p; communicate c v)) (wake_join p) c not_process r l go
     where
-      go : (m : List ℕ) → quiet (waking (do join p; communicate c v) (world x u r m)) ≡ quiet (wake_join p (world x u r m))
-      go m = wakes-quiet c v (join p (world x u r m)) r.running
+      go : (m : List ℕ) → quiet (waking (do join p; communicate c v) (whole x u r m)) ≡ quiet (wake_join p (whole x u r m))
+      go m = wakes-quiet c v (join p (whole x u r m)) r.running
 
 -- a channel's word is empty again before a process is woken, and gets back what it held on a fault
 pub empties :
-    {u : Setup} {size : ℕ} {r : Cpu} {l n : List ℕ} (c p : ℕ) (s : Step) → memory_size u ≡ size → c < size
+    {u : Setup} {r : Cpu} {l n : List ℕ} (c p : ℕ) (s : Step) → memory_size u ≡ length l → c < length l
     → Does u (wake_join p) r (set l c not_process) s n → Does u (empty_wake c p) r l s (undone s c (get_or l c 0) n)
-empties {size} {l} c p s h i d =
-    let e : Value (get_or l c 0) ≡ looked size c l = rw (lt-ltb c size i) in
+empties {l = l} c p s h i d =
+    let e : Ok (get_or l c 0) ≡ looked c l = rw (lt-ltb c (length l) i) in
     undid c not_process (wake_join p) h s (e, refl) refl d (refl, refl)

@@ -1,14 +1,12 @@
 -- Pieces of offers and takes that are functions of their own.
-use Rattle.std.specs.Prelude.{ℕ, true, set}
+use Rattle.std.specs.Prelude.{ℕ, true, set, Err, Ok, Some}
+use Rattle.processor.specs.Seen.{Step}
 use Rattle.model.specs.Word.{not_process}
 use Rattle.model.specs.Machine.{Act, ◌>>◌, poke, machine_with}
 use Rattle.model.specs.declared.Machine.{Machine}
-use Rattle.model.specs.declared.Kept.TheVariants.{Fault as KeptFault}
-use Rattle.model.specs.declared.OfferAnswer.TheVariants.{Offered as Held, Fault as OfferFault}
-use Rattle.model.specs.declared.TakeAnswer.TheVariants.{Taken, Fault as TakeFault}
+use Rattle.model.specs.declared.OfferRefusal.TheVariants.{Fault as OfferFault}
+use Rattle.model.specs.declared.TakeRefusal.TheVariants.{Fault as TakeFault}
 use Rattle.processor.specs.Pieces.{wake_join}
-use Rattle.processor.specs.declared.memory.Step.{Step}
-use Rattle.processor.specs.declared.memory.Step.TheVariants.{Done, Fault}
 use Rattle.machine.specs.declared.outside.Offered.{Offered}
 use Rattle.machine.specs.declared.taking.Took.{Took}
 
@@ -30,10 +28,10 @@ holding m k v = machine_with m.cpu (set m.offers k v) (set m.held k true) m.faul
 
 -- what an offer came to: other registers, or a fault, which the machine as it was keeps
 abbrev pub offered_by : (before after : Machine) → Step → Offered
-offered_by m n (Done r) = record { machine = machine_with r n.offers n.held n.fault n; answer = Held }
-offered_by m n (Fault k) = record { machine = machine_with m.cpu m.offers m.held (KeptFault k) m; answer = OfferFault k }
+offered_by m n (Ok r) = record { machine = machine_with r n.offers n.held n.fault n; answer = Ok tt }
+offered_by m n (Err k) = record { machine = machine_with m.cpu m.offers m.held (Some k) m; answer = Err (OfferFault k) }
 
 -- what a take of a value came to
 abbrev pub taken_by : Machine → (value : ℕ) → Step → Took
-taken_by m v (Done r) = record { machine = machine_with r m.offers m.held m.fault m; answer = Taken v }
-taken_by m v (Fault k) = record { machine = machine_with m.cpu m.offers m.held (KeptFault k) m; answer = TakeFault k }
+taken_by m v (Ok r) = record { machine = machine_with r m.offers m.held m.fault m; answer = Ok (Some v) }
+taken_by m v (Err k) = record { machine = machine_with m.cpu m.offers m.held (Some k) m; answer = Err (TakeFault k) }

@@ -1,15 +1,14 @@
 -- What the bytes of a run come to, beside its communications.
-use Rattle.std.specs.Prelude.{ℕ, ◌-◌, ◌≡◌, Bool, List, []}
+use Rattle.std.specs.Prelude.{ℕ, ◌-◌, ◌≡◌, Bool, List, [], ◌++◌, None, Some}
+use Rattle.model.specs.Answers.{KeptFault}
 use Rattle.model.specs.Machine.{World, Talk}
 use Rattle.model.specs.Run.{After, keep, run_from}
 use Rattle.model.specs.declared.Cpu.{Cpu}
 use Rattle.model.specs.declared.Setup.{Setup}
 use Rattle.model.specs.declared.Machine.{Machine}
-use Rattle.model.specs.declared.Kept.{Kept}
-use Rattle.model.specs.declared.Kept.TheVariants.{Nothing, Fault as KeptFault}
 use Rattle.model.specs.declared.Outcome.{Outcome}
 use Rattle.model.specs.declared.Outcome.TheVariants.{Ended, Waiting, Spent, Fault}
-use Rattle.processor.specs.Seen.{Rest, world}
+use Rattle.processor.specs.Seen.{Rest, whole, world}
 use Rattle.processor.specs.Quiet.{offering, timing}
 use Rattle.waking.specs.Wakes.{begun}
 use Rattle.waking.specs.declared.wake.Awake.{Awake}
@@ -17,7 +16,7 @@ use Rattle.machine.specs.declared.budget.Finished.{Finished}
 
 -- the rest of a machine after these communications
 abbrev pub saying : List Talk → Rest → Rest
-saying t x = record { timer = x.timer; offers = x.offers; held = x.held; fault = x.fault; talk = t }
+saying t x = record { behind = x.behind; timer = x.timer; offers = x.offers; held = x.held; fault = x.fault; talk = t }
 
 -- a run under a clock goes on, after n instructions, from other registers, flags, front of the timer queue and memory
 pub record Reaches (u : Setup) (code : List ℕ) (budget : ℕ) (o : List ℕ) (r : Cpu) (b : List Bool) (k f : ℕ) (l : List ℕ) (n : ℕ) (q : Cpu)
@@ -35,11 +34,11 @@ keeping (Spent n) s = s
 keeping (Fault n k) s = keep k s
 
 -- the fault that a machine without one keeps after a run
-abbrev pub kept_after : Outcome → Kept
-kept_after (Ended n) = Nothing
-kept_after (Waiting n) = Nothing
-kept_after (Spent n) = Nothing
-kept_after (Fault n k) = KeptFault k
+abbrev pub kept_after : Outcome → KeptFault
+kept_after (Ended n) = None
+kept_after (Waiting n) = None
+kept_after (Spent n) = None
+kept_after (Fault n k) = Some k
 
 -- how a run ends
 pub record Finishes (u : Setup) (code : List ℕ) (budget : ℕ) (o : List ℕ) (r : Cpu) (b : List Bool) (k g : ℕ) (l : List ℕ) (f : Finished)
@@ -52,16 +51,20 @@ pub record Finishes (u : Setup) (code : List ℕ) (budget : ℕ) (o : List ℕ) 
         world = keeping f.outcome (world (saying t (offering o f.held (timing k f.front x))) u f.cpu m);
       })
 
--- what functions of registers and memory do not see of a machine
-abbrev pub rest_of : Machine → Rest
-rest_of m = record { timer = m.timer; offers = m.offers; held = m.held; fault = m.fault; talk = [] }
+-- what functions of registers and memory do not see of a machine, with these words behind its own
+abbrev pub rest_of : Machine → (behind : List ℕ) → Rest
+rest_of m b = record { behind = b; timer = m.timer; offers = m.offers; held = m.held; fault = m.fault; talk = [] }
 
--- a machine that has begun a run
+-- a machine that has begun a run, with the whole lent memory
 abbrev pub awake_in : Machine → (clock : ℕ) → Awake → List ℕ → World
-awake_in m c a l = world (begun c a.front (rest_of m)) m.setup a.cpu l
+awake_in m c a l = whole (begun c a.front (rest_of m [])) m.setup a.cpu l
 
 -- a call's answer, machine and memory are those of the definition
 pub record Answers {Answer : Type 0} (f : After Answer) (a : Answer) (m : Machine) (l : List ℕ) : Type 0 where
   pub answer : a ≡ f.answer
   pub machine : m ≡ f.machine
   pub memory : l ≡ f.memory
+
+-- and so they are whatever the lent memory holds behind the machine's words, which keeps it
+abbrev pub Amid : {Answer : Type 0} → (List ℕ → After Answer) → Answer → Machine → (before after : List ℕ) → Type 0
+Amid f a m before after = (behind : List ℕ) → Answers (f (before ++ behind)) a m (after ++ behind)

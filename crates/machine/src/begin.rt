@@ -1,10 +1,11 @@
 // A start: its refusals, the memory that it clears, and the machine that it gives (document 01, "The machine").
-ghost use Rattle.std.specs.Prelude.{◌≡◌, ◌++◌, ◌-◌, ◌≤◌, length, take, drop, replicate};
+ghost use Rattle.std.specs.Prelude.{◌≡◌, ◌++◌, ◌-◌, ◌≤◌, length, replicate, Ok};
 ghost use Rattle.model.specs.Word.{not_process};
-ghost use Rattle.model.specs.declared.StartAnswer.TheVariants.{Started};
 ghost use Rattle.model.specs.Run.{registers_at, no_timer, fresh as fresh_for, blank as blank_machine, start as starting};
 ghost use Rattle.model.specs.Answers.{refused_start};
 ghost use Rattle.model.specs.Refusals.{start_refusal};
+
+use model::StartRefusal;
 
 // A start's answer beside the machine.
 #[derive(Clone, Copy)]
@@ -49,11 +50,11 @@ fn fresh(setup: model::Setup) -> model::Machine
 {
     model::Machine {
         cpu: registers(setup.base, true),
-        setup: setup,
+        setup,
         timer: no_timer(),
         offers: [0; 8],
         held: [false; 8],
-        fault: model::Kept::Nothing,
+        fault: None,
     }
 }
 
@@ -70,11 +71,11 @@ pub fn blank() -> model::Machine
     };
     model::Machine {
         cpu: registers(0, false),
-        setup: setup,
+        setup,
         timer: no_timer(),
         offers: [0; 8],
         held: [false; 8],
-        fault: model::Kept::Nothing,
+        fault: None,
     }
 }
 
@@ -84,39 +85,27 @@ fn refused(answer: model::StartAnswer) -> Begun
 {
     Begun {
         machine: blank(),
-        answer: answer,
+        answer,
     }
 }
 
 // The answer of a start that is not refused.
 fn started(setup: model::Setup) -> Begun
-    ensures { (result.answer ≡ Started) × (result.machine ≡ fresh_for setup) }
+    ensures { (result.answer ≡ Ok tt) × (result.machine ≡ fresh_for setup) }
 {
     Begun {
         machine: fresh(setup),
-        answer: model::StartAnswer::Started,
+        answer: Ok(()),
     }
 }
 
-// Stores a value in the words from one place up to another.
-fn fill(memory: &mut [u32], from: usize, to: usize, value: u32)
-    requires { (from ≤ to) × (to ≤ length memory.old) }
-    ensures { memory.new ≡ take from memory.old ++ replicate (to - from) value ++ drop to memory.old }
+// Outside channels start as NotProcess, the words before them as 0.
+fn clear(memory: &mut [u32], w: usize)
+    requires { w ≤ length memory.old }
+    ensures { memory.new ≡ replicate w 0 ++ replicate (length memory.old - w) not_process }
 {
-    let mut i = from;
-    while i < to {
-        memory[i] = value;
-        i += 1;
-    }
-}
-
-// Outside channels start as NotProcess, the words before them as 0; later words stay.
-fn clear(memory: &mut [u32], w: usize, size: usize)
-    requires { (w ≤ size) × (size ≤ length memory.old) }
-    ensures { memory.new ≡ replicate w 0 ++ replicate (size - w) not_process ++ drop size memory.old }
-{
-    fill(memory, 0, w, 0);
-    fill(memory, w, size, model::constants::NOT_PROCESS);
+    memory[..w].fill(0);
+    memory[w..].fill(model::constants::NOT_PROCESS);
 }
 
 // Starts a machine over lent code and lent memory. Refusals: 15 for the slice, then 3 for a channel count, 10 for words or code, and 11
@@ -135,24 +124,24 @@ pub fn start(
     ensures refusal { refused_start result.answer ≡ start_refusal code.now memory.old w inputs outputs slice }
 {
     if slice == 0 || model::limits::SLICE < slice {
-        return refused(model::StartAnswer::BadSlice);
+        return refused(Err(StartRefusal::BadSlice));
     }
     if model::limits::START_CHANNELS < inputs || model::limits::START_CHANNELS < outputs {
-        return refused(model::StartAnswer::BadCount);
+        return refused(Err(StartRefusal::BadCount));
     }
     let size = w as u64 + inputs as u64 + outputs as u64;
     if model::limits::WIDE_WORDS < size || model::limits::CODE < code.len() {
-        return refused(model::StartAnswer::TooLarge);
+        return refused(Err(StartRefusal::TooLarge));
     }
     if (memory.len() as u64) < size {
-        return refused(model::StartAnswer::Short(size));
+        return refused(Err(StartRefusal::Short(size)));
     }
-    clear(memory, w as usize, size as usize);
+    clear(&mut memory[..size as usize], w as usize);
     started(model::Setup {
         code: code.len() as u32,
         base: w,
-        inputs: inputs,
-        outputs: outputs,
-        slice: slice,
+        inputs,
+        outputs,
+        slice,
     })
 }

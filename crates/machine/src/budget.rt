@@ -1,17 +1,16 @@
 // A run with a budget and a clock (document 01, "The machine", "When a call is turned down"; document 02, order 4).
-ghost use Rattle.std.specs.Prelude.{◌≡◌, false, ◌&&◌, ◌≤◌, length};
+ghost use Rattle.std.specs.Prelude.{◌≡◌, false, ◌&&◌, ◌≤◌, length, None};
 ghost use Rattle.model.specs.Machine.{memory_size};
 ghost use Rattle.model.specs.Word.{after as after_of};
 ghost use Rattle.model.specs.Run.{earlier_clock, run_from, finished, run as running};
 ghost use Rattle.model.specs.Answers.{refused_run};
 ghost use Rattle.model.specs.Refusals.{run_refusal};
-ghost use Rattle.model.specs.declared.Kept.TheVariants.{Nothing};
-ghost use Rattle.machine.specs.Runs.{Finishes, kept_after, awake_in, Answers};
+ghost use Rattle.machine.specs.Runs.{Finishes, kept_after, awake_in, Amid};
 
 use crate::outside::keep_fault;
 use executor::step;
-use processor::Step;
-use waking::{Awake, Woken, begin};
+use model::{FaultKind, Outcome, RunRefusal};
+use waking::{Awake, begin};
 use word::after;
 
 // A run's answer beside the machine.
@@ -27,7 +26,7 @@ pub struct Finished {
     pub cpu: model::Cpu,
     pub front: u32,
     pub held: [bool; 8],
-    pub outcome: model::Outcome,
+    pub outcome: Outcome,
 }
 
 // Ended, waiting, spent or fault, tested in that order; only that a machine which waits has no process that could have ended, so these two
@@ -35,7 +34,6 @@ pub struct Finished {
 fn run_bytes(
     code: &[u8],
     memory: &mut [u32],
-    size: u64,
     start: model::Cpu,
     setup: model::Setup,
     offers: &[u32; 8],
@@ -44,7 +42,7 @@ fn run_bytes(
     from: u32,
     budget: u64,
 ) -> Finished
-    requires { (size ≤ length memory.old) × (memory_size setup ≡ size) × (setup.code ≤ length code.now) × (length before ≡ 8) }
+    requires { (memory_size setup ≡ length memory.old) × (setup.code ≤ length code.now) }
     ensures { Finishes setup code.now budget offers.now start before clock from memory.old result
         memory.new }
 {
@@ -52,45 +50,44 @@ fn run_bytes(
     let mut front = from;
     let mut held = before;
     let mut n: u64 = 0;
+    // Stays a `loop`: it ends with the outcome in four places; as a `for` each would be a return of the whole answer, and it is longer.
     let outcome = loop {
         if !cpu.running {
-            break model::Outcome::Waiting(n);
+            break Outcome::Waiting(n);
         }
         if cpu.place == setup.code {
-            break model::Outcome::Ended(n);
+            break Outcome::Ended(n);
         }
         if n == budget {
-            break model::Outcome::Spent(n);
+            break Outcome::Spent(n);
         }
         match step(
-            code, memory, size, cpu, setup, offers, &mut held, clock, &mut front,
+            code, memory, cpu, setup, offers, &mut held, clock, &mut front,
         ) {
-            Step::Done(r) => {
+            Ok(r) => {
                 cpu = r;
                 n += 1;
             }
-            Step::Fault(k) => {
-                break model::Outcome::Fault(n, k);
+            Err(k) => {
+                break Outcome::Fault(n, k);
             }
         }
     };
     Finished {
-        cpu: cpu,
-        front: front,
-        held: held,
-        outcome: outcome,
+        cpu,
+        front,
+        held,
+        outcome,
     }
 }
 
 // The fault that a machine without one keeps after a run.
-fn kept(outcome: model::Outcome) -> model::Kept
+fn kept(outcome: Outcome) -> Option<FaultKind>
     ensures { result ≡ kept_after outcome }
 {
     match outcome {
-        model::Outcome::Fault(n, k) => model::Kept::Fault(k),
-        model::Outcome::Ended(n) => model::Kept::Nothing,
-        model::Outcome::Waiting(n) => model::Kept::Nothing,
-        model::Outcome::Spent(n) => model::Kept::Nothing,
+        Outcome::Fault(_, k) => Some(k),
+        Outcome::Ended(_) | Outcome::Waiting(_) | Outcome::Spent(_) => None,
     }
 }
 
@@ -99,51 +96,44 @@ fn run_awake(
     machine: model::Machine,
     code: &[u8],
     memory: &mut [u32],
-    size: u64,
     budget: u64,
     clock: u32,
     awake: Awake,
 ) -> Ran
-    requires size_in_bounds { (size ≤ length memory.old) × (memory_size machine.setup ≡ size) × (machine.setup.code ≤ length code.now) }
-    requires fault_value { machine.fault ≡ Nothing }
-    ensures { Answers (finished (run_from budget code.now 0 (awake_in machine clock awake memory.old))) result.answer
-        result.machine memory.new }
+    requires sized { (memory_size machine.setup ≡ length memory.old) × (machine.setup.code ≤ length code.now) }
+    requires fault_value { machine.fault ≡ None }
+    ensures { Amid (λ l. finished (run_from budget code.now 0 (awake_in machine clock awake l))) result.answer
+        result.machine memory.old memory.new }
 {
-    let cpu = awake.cpu;
-    let setup = machine.setup;
     let offers = machine.offers;
-    let held = machine.held;
+    let before = machine.held;
     let end = run_bytes(
         code,
         memory,
-        size,
-        cpu,
-        setup,
+        awake.cpu,
+        machine.setup,
         &offers,
-        held,
+        before,
         clock,
         awake.front,
         budget,
     );
-    let registers = end.cpu;
+    let held = end.held;
     let timer = model::Timer {
-        clock: clock,
+        clock,
         given: true,
         front: end.front,
     };
-    let flags = end.held;
-    let outcome = end.outcome;
     let after = model::Machine {
-        cpu: registers,
-        setup: setup,
-        timer: timer,
-        offers: offers,
-        held: flags,
-        fault: kept(outcome),
+        cpu: end.cpu,
+        timer,
+        held,
+        fault: kept(end.outcome),
+        ..machine
     };
     Ran {
         machine: after,
-        answer: model::RunAnswer::Ran(outcome),
+        answer: Ok(end.outcome),
     }
 }
 
@@ -151,10 +141,7 @@ fn run_awake(
 fn unchanged(machine: model::Machine, answer: model::RunAnswer) -> Ran
     ensures { (result.answer ≡ answer) × (result.machine ≡ machine) }
 {
-    Ran {
-        machine: machine,
-        answer: answer,
-    }
+    Ran { machine, answer }
 }
 
 // A run of a machine that keeps no fault: its beginning, and then its bytes. A fault in the beginning is kept, and all else stays.
@@ -162,24 +149,20 @@ fn run_machine(
     machine: model::Machine,
     code: &[u8],
     memory: &mut [u32],
-    size: u64,
     budget: u64,
     clock: u32,
 ) -> Ran
-    requires size_in_bounds { (size ≤ length memory.old) × (memory_size machine.setup ≡ size) × (machine.setup.code ≤ length code.now) }
-    requires fault_value { (machine.fault ≡ Nothing) × (earlier_clock machine clock ≡ false) }
-    ensures { Answers (running machine code.now memory.old budget clock) result.answer result.machine
+    requires sized { (memory_size machine.setup ≡ length memory.old) × (machine.setup.code ≤ length code.now) }
+    requires fault_value { (machine.fault ≡ None) × (earlier_clock machine clock ≡ false) }
+    ensures { Amid (λ l. running machine code.now l budget clock) result.answer result.machine memory.old
         memory.new }
 {
     let cpu = machine.cpu;
     let setup = machine.setup;
     let timer = machine.timer;
-    match begin(memory, size, cpu, setup.code, clock, timer.front) {
-        Woken::Done(awake) => run_awake(machine, code, memory, size, budget, clock, awake),
-        Woken::Fault(k) => {
-            let answer = model::RunAnswer::Ran(model::Outcome::Fault(0, k));
-            unchanged(keep_fault(machine, k), answer)
-        }
+    match begin(memory, cpu, setup.code, clock, timer.front) {
+        Ok(awake) => run_awake(machine, code, memory, budget, clock, awake),
+        Err(k) => unchanged(keep_fault(machine, k), Ok(Outcome::Fault(0, k))),
     }
 }
 
@@ -187,10 +170,7 @@ fn run_machine(
 fn is_earlier(timer: model::Timer, clock: u32) -> bool
     ensures { result ≡ timer.given && after_of timer.clock clock }
 {
-    if timer.given {
-        return after(timer.clock, clock);
-    }
-    false
+    timer.given && after(timer.clock, clock)
 }
 
 // A run over lent code and lent memory, with its clock. Refusal 16 before anything else, then 11, for the code before the memory; then a
@@ -204,21 +184,17 @@ pub fn run(machine: model::Machine, code: &[u8], memory: &mut [u32], budget: u64
     let timer = machine.timer;
     let setup = machine.setup;
     if is_earlier(timer, clock) {
-        return unchanged(machine, model::RunAnswer::EarlierClock);
+        return unchanged(machine, Err(RunRefusal::EarlierClock));
     }
     if code.len() < setup.code as usize {
-        return unchanged(machine, model::RunAnswer::Short(setup.code as u64));
+        return unchanged(machine, Err(RunRefusal::Short(setup.code as u64)));
     }
     let size = setup.base as u64 + setup.inputs as u64 + setup.outputs as u64;
     if (memory.len() as u64) < size {
-        return unchanged(machine, model::RunAnswer::Short(size));
+        return unchanged(machine, Err(RunRefusal::Short(size)));
     }
-    let fault = machine.fault;
-    match fault {
-        model::Kept::Fault(k) => {
-            let answer = model::RunAnswer::Ran(model::Outcome::Fault(0, k));
-            unchanged(machine, answer)
-        }
-        model::Kept::Nothing => run_machine(machine, code, memory, size, budget, clock),
+    match machine.fault {
+        Some(k) => unchanged(machine, Ok(Outcome::Fault(0, k))),
+        None => run_machine(machine, code, &mut memory[..size as usize], budget, clock),
     }
 }

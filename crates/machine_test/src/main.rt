@@ -8,6 +8,7 @@ ghost use Rattle.std.specs.Prelude.{◌+◌, ◌<◌, ◌≤◌, length};
 ghost use Rattle.model.specs.Limits.{code_limit, word_limit};
 
 use lines::print;
+use model::StartRefusal;
 use std::io::Stdout;
 
 // The code's room: a byte longer than a start takes.
@@ -21,14 +22,12 @@ fn same_until(memory: &[u32], from: usize) -> usize
     requires { from < length memory.now }
     ensures { (from < result) × (result ≤ length memory.now) }
 {
-    let mut i = from + 1;
-    while i < memory.len() {
+    for i in from + 1..memory.len() {
         if memory[i] != memory[from] {
             return i;
         }
-        i += 1;
     }
-    i
+    memory.len()
 }
 
 // Writes how many words have a value.
@@ -59,11 +58,11 @@ fn print_setup(out: Stdout, setup: model::Setup) {
 // Writes a start's answer.
 fn print_answer(out: Stdout, answer: model::StartAnswer, setup: model::Setup) {
     match answer {
-        model::StartAnswer::Started => print_setup(out, setup),
-        model::StartAnswer::BadSlice => print(out, b"", 15),
-        model::StartAnswer::BadCount => print(out, b"", 3),
-        model::StartAnswer::TooLarge => print(out, b"", 10),
-        model::StartAnswer::Short(size) => print(out, b"11 ", size),
+        Ok(()) => print_setup(out, setup),
+        Err(StartRefusal::BadSlice) => print(out, b"", 15),
+        Err(StartRefusal::BadCount) => print(out, b"", 3),
+        Err(StartRefusal::TooLarge) => print(out, b"", 10),
+        Err(StartRefusal::Short(size)) => print(out, b"11 ", size),
     }
 }
 
@@ -93,20 +92,15 @@ fn print_case(out: Stdout, case: Case) {
 fn answer(out: Stdout, bytes: &[u8], words: &mut [u32], case: Case)
     requires { (case.code ≤ length bytes.now) × (case.memory ≤ length words.old) }
 {
-    let code = case.code;
-    let memory = case.memory;
     let begun = machine::start(
-        &bytes[0..code],
-        &mut words[0..memory],
+        &bytes[..case.code],
+        &mut words[..case.memory],
         case.w,
         case.inputs,
         case.outputs,
         case.slice,
     );
-    let machine = begun.machine;
-    let setup = machine.setup;
-    let answer = begun.answer;
-    print_answer(out, answer, setup);
+    print_answer(out, begun.answer, begun.machine.setup);
 }
 
 // Writes a start's line.
@@ -114,12 +108,12 @@ fn start(out: Stdout, code: usize, memory: usize, w: u32, inputs: u32, outputs: 
     requires { (code ≤ code_limit + 1) × (memory ≤ word_limit + 4) }
 {
     let case = Case {
-        code: code,
-        memory: memory,
-        w: w,
-        inputs: inputs,
-        outputs: outputs,
-        slice: slice,
+        code,
+        memory,
+        w,
+        inputs,
+        outputs,
+        slice,
     };
     let bytes = [0; BYTES];
     let mut words = [7; WORDS];

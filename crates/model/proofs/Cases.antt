@@ -5,6 +5,7 @@ use mathlib.Core.Bool.{Bool, true, false, cond, ◌||◌, ◌&&◌}
 use mathlib.Core.List.{List, [], ◌∷◌}
 use mathlib.Core.Option.{Option, none, some}
 use native.Mathlib.Omega.{arith}
+use Rattle.model.specs.declared.Reason.{Reason}
 use Rattle.model.specs.Reader.{Parsed, parsed, fails}
 
 pub by_bool : {R : Type 0} (t : Bool) → (t ≡ true → R) → (t ≡ false → R) → R
@@ -27,10 +28,10 @@ by-option none n s = n refl
 by-option (some a) n s = s a refl
 
 -- what became of a reading: failed, at the end of the bytes, or before it
-pub by-parsed : {A R : Type 0} (m : Parsed A) → ((n p : ℕ) → m ≡ fails n p → R)
+pub by-parsed : {A R : Type 0} (m : Parsed A) → ((why : Reason) (p : ℕ) → m ≡ fails why p → R)
     → ((a : A) (to : ℕ) → m ≡ parsed a to [] → R)
     → ((a : A) (to b : ℕ) (left : List ℕ) → m ≡ parsed a to (b ∷ left) → R) → R
-by-parsed (fails n p) f g h = f n p refl
+by-parsed (fails why p) f g h = f why p refl
 by-parsed (parsed a to []) f g h = g a to refl
 by-parsed (parsed a to (b ∷ left)) f g h = h a to b left refl
 

@@ -1,32 +1,48 @@
 -- 01's number and values for each case of the answers ("When a call is turned down"). The promises use these.
-use Rattle.std.specs.Prelude.{ℕ, List, [], ◌∷◌}
+use Rattle.std.specs.Prelude.{ℕ, List, [], ◌∷◌, Result, Ok, Err, Some, None, Option as Maybe}
 use Rattle.std.proofs.Math.Option.{Option, none, some}
 use Rattle.model.specs.declared.FaultKind.{FaultKind}
 use Rattle.model.specs.declared.FaultKind.TheVariants.{Function, Operation, Count, Word, Place}
 use Rattle.model.specs.declared.Outcome.{Outcome}
 use Rattle.model.specs.declared.Outcome.TheVariants.{Ended, Waiting, Spent, Fault as RunFault}
-use Rattle.model.specs.declared.RunAnswer.{RunAnswer}
-use Rattle.model.specs.declared.RunAnswer.TheVariants.{Ran, EarlierClock, Short as RunShort}
-use Rattle.model.specs.declared.StartAnswer.{StartAnswer}
-use Rattle.model.specs.declared.StartAnswer.TheVariants.{Started, BadSlice, BadCount, TooLarge, Short as StartShort}
-use Rattle.model.specs.declared.OfferAnswer.{OfferAnswer}
-use Rattle.model.specs.declared.OfferAnswer.TheVariants.{Offered, Short as OfferShort, Fault as OfferFault}
-use Rattle.model.specs.declared.OfferAnswer.TheVariants.{NoChannel as OfferNoChannel, Held}
-use Rattle.model.specs.declared.TakeAnswer.{TakeAnswer}
-use Rattle.model.specs.declared.TakeAnswer.TheVariants.{Taken, Nothing, Short as TakeShort, Fault as TakeFault}
-use Rattle.model.specs.declared.TakeAnswer.TheVariants.{NoChannel as TakeNoChannel}
-use Rattle.model.specs.declared.Reading.{Reading}
-use Rattle.model.specs.declared.Reading.TheVariants.{Accepted, Refused as Unread}
-use Rattle.model.specs.declared.Compiled.{Compiled}
-use Rattle.model.specs.declared.Compiled.TheVariants.{Code, Refused as Uncompiled}
+use Rattle.model.specs.declared.RunRefusal.{RunRefusal}
+use Rattle.model.specs.declared.RunRefusal.TheVariants.{EarlierClock, Short as RunShort}
+use Rattle.model.specs.declared.StartRefusal.{StartRefusal}
+use Rattle.model.specs.declared.StartRefusal.TheVariants.{BadSlice, BadCount, TooLarge, Short as StartShort}
+use Rattle.model.specs.declared.OfferRefusal.{OfferRefusal}
+use Rattle.model.specs.declared.OfferRefusal.TheVariants.{Short as OfferShort, Fault as OfferFault, NoChannel as OfferNoChannel, Held}
+use Rattle.model.specs.declared.TakeRefusal.{TakeRefusal}
+use Rattle.model.specs.declared.TakeRefusal.TheVariants.{Short as TakeShort, Fault as TakeFault, NoChannel as TakeNoChannel}
+use Rattle.model.specs.declared.Facts.{Facts}
+use Rattle.model.specs.declared.Reason.{Reason}
+use Rattle.model.specs.declared.Reason.TheVariants.{TableSize, BadNumber, OutOfRange, TooDeep, BadName, BytesBehind, Clash}
+use Rattle.model.specs.declared.Reason.TheVariants.{TooManyProcesses, TooLarge as CodeTooLarge, Short as BufferShort}
+use Rattle.model.specs.declared.Refusal.{Refusal}
+
+-- the fault that a machine keeps, if any
+abbrev pub KeptFault : Type 0
+KeptFault = Maybe FaultKind
+
+-- the answers of the machine's calls; a take's is the value, or none where no sender waits
+abbrev pub RunAnswer : Type 0
+RunAnswer = Result Outcome RunRefusal
+
+abbrev pub StartAnswer : Type 0
+StartAnswer = Result (Unit {0}) StartRefusal
+
+abbrev pub OfferAnswer : Type 0
+OfferAnswer = Result (Unit {0}) OfferRefusal
+
+abbrev pub TakeAnswer : Type 0
+TakeAnswer = Result (Maybe ℕ) TakeRefusal
 
 -- a row of the table: the refusal's number and what is returned with it
-pub record Refusal : Type 0 where
+pub record Row : Type 0 where
   pub number : ℕ
   pub returned : List ℕ
 
 -- an answer that is a refusal
-abbrev pub refusal : ℕ → List ℕ → Option Refusal
+abbrev pub refusal : ℕ → List ℕ → Option Row
 refusal n l = some (record { number = n; returned = l })
 
 -- the number that goes with a fault's kind: the direct function, the operand of OPR, the count of IN, the word's address, the code place
@@ -46,7 +62,7 @@ fault_kind (Word n) = 3
 fault_kind (Place n) = 4
 
 -- row 12: the fault's kind and number
-abbrev pub refused_fault : FaultKind → Option Refusal
+abbrev pub refused_fault : FaultKind → Option Row
 refused_fault k = refusal 12 (fault_kind k ∷ fault_number k ∷ [])
 
 -- the instructions executed
@@ -57,48 +73,65 @@ instructions_of (Spent n) = n
 instructions_of (RunFault n k) = n
 
 -- a run that stood ended, waiting or spent was not refused
-abbrev refused_outcome : Outcome → Option Refusal
+abbrev refused_outcome : Outcome → Option Row
 refused_outcome (Ended n) = none
 refused_outcome (Waiting n) = none
 refused_outcome (Spent n) = none
 refused_outcome (RunFault n k) = refused_fault k
 
 -- a run: rows 11 and 12, and 16, which returns nothing more (02, order 4)
-abbrev pub refused_run : RunAnswer → Option Refusal
-refused_run (Ran o) = refused_outcome o
-refused_run EarlierClock = refusal 16 []
-refused_run (RunShort n) = refusal 11 (n ∷ [])
+abbrev pub refused_run : RunAnswer → Option Row
+refused_run (Ok o) = refused_outcome o
+refused_run (Err EarlierClock) = refusal 16 []
+refused_run (Err (RunShort n)) = refusal 11 (n ∷ [])
 
 -- a start: rows 15, 3 and 10 at place 0, and 11
-abbrev pub refused_start : StartAnswer → Option Refusal
-refused_start Started = none
-refused_start BadSlice = refusal 15 []
-refused_start BadCount = refusal 3 (0 ∷ [])
-refused_start TooLarge = refusal 10 (0 ∷ [])
-refused_start (StartShort n) = refusal 11 (n ∷ [])
+abbrev pub refused_start : StartAnswer → Option Row
+refused_start (Ok u) = none
+refused_start (Err BadSlice) = refusal 15 []
+refused_start (Err BadCount) = refusal 3 (0 ∷ [])
+refused_start (Err TooLarge) = refusal 10 (0 ∷ [])
+refused_start (Err (StartShort n)) = refusal 11 (n ∷ [])
 
 -- an offer: rows 11 to 14
-abbrev pub refused_offer : OfferAnswer → Option Refusal
-refused_offer Offered = none
-refused_offer (OfferShort n) = refusal 11 (n ∷ [])
-refused_offer (OfferFault k) = refused_fault k
-refused_offer OfferNoChannel = refusal 13 []
-refused_offer Held = refusal 14 []
+abbrev pub refused_offer : OfferAnswer → Option Row
+refused_offer (Ok u) = none
+refused_offer (Err (OfferShort n)) = refusal 11 (n ∷ [])
+refused_offer (Err (OfferFault k)) = refused_fault k
+refused_offer (Err OfferNoChannel) = refusal 13 []
+refused_offer (Err Held) = refusal 14 []
 
 -- a take: rows 11 to 13. A take with no sender answers none and is not refused
-abbrev pub refused_take : TakeAnswer → Option Refusal
-refused_take (Taken v) = none
-refused_take Nothing = none
-refused_take (TakeShort n) = refusal 11 (n ∷ [])
-refused_take (TakeFault k) = refused_fault k
-refused_take TakeNoChannel = refusal 13 []
+abbrev pub refused_take : TakeAnswer → Option Row
+refused_take (Ok (Some v)) = none
+refused_take (Ok None) = none
+refused_take (Err (TakeShort n)) = refusal 11 (n ∷ [])
+refused_take (Err (TakeFault k)) = refused_fault k
+refused_take (Err TakeNoChannel) = refusal 13 []
+
+-- the rows of the refused tables
+abbrev pub reason_number : Reason → ℕ
+reason_number TableSize = 1
+reason_number BadNumber = 2
+reason_number OutOfRange = 3
+reason_number TooDeep = 4
+reason_number BadName = 5
+reason_number BytesBehind = 6
+reason_number Clash = 7
+reason_number TooManyProcesses = 9
+reason_number CodeTooLarge = 10
+reason_number BufferShort = 11
+
+-- the refusal for a reason, with what it returns
+abbrev pub refused_for : Reason → (returned : ℕ) → Refusal
+refused_for why r = record { reason = why; returned = r }
 
 -- a reading: rows 1 to 7 and 9, with the place
-abbrev pub refused_reading : Reading → Option Refusal
-refused_reading (Accepted f) = none
-refused_reading (Unread n p) = refusal n (p ∷ [])
+abbrev pub refused_reading : Result Facts Refusal → Option Row
+refused_reading (Ok f) = none
+refused_reading (Err r) = refusal (reason_number r.reason) (r.returned ∷ [])
 
 -- a compilation: rows 1 to 7, 9 and 10 with the place, 11 with the size needed
-abbrev pub refused_compiling : Compiled → Option Refusal
-refused_compiling (Code n) = none
-refused_compiling (Uncompiled n r) = refusal n (r ∷ [])
+abbrev pub refused_compiling : Result ℕ Refusal → Option Row
+refused_compiling (Ok n) = none
+refused_compiling (Err r) = refusal (reason_number r.reason) (r.returned ∷ [])

@@ -9,14 +9,14 @@ use Rattle.model.specs.Syntax.{Program}
 use Rattle.model.specs.Accept.{memory_words}
 use Rattle.model.specs.Layout.{base}
 use Rattle.model.specs.Code.{Compilation, compiled, refused, compile}
+use Rattle.model.specs.Answers.{reason_number}
 use Rattle.model.specs.Run.{After, start, run}
 use Rattle.model.specs.Outside.{take}
 use Rattle.model.specs.declared.Machine.{Machine}
 use Rattle.model.specs.declared.Outcome.TheVariants.{Ended, Waiting, Spent, Fault}
-use Rattle.model.specs.declared.RunAnswer.{RunAnswer}
-use Rattle.model.specs.declared.RunAnswer.TheVariants.{Ran, EarlierClock, Short}
-use Rattle.model.specs.declared.TakeAnswer.{TakeAnswer}
-use Rattle.model.specs.declared.TakeAnswer.TheVariants.{Taken, Nothing, Short as TakeShort, Fault as TakeFault, NoChannel}
+use Rattle.model.specs.Answers.{RunAnswer, TakeAnswer}
+use Rattle.std.specs.Prelude.{Err, None, Ok, Some}
+use Rattle.model.specs.declared.TakeRefusal.TheVariants.{Short as TakeShort, Fault as TakeFault, NoChannel}
 
 -- a text's bytes
 unfoldable pub ascii : String → List ℕ
@@ -74,11 +74,11 @@ pub record Takes : Type 0 where
 
 -- the line of a take, if it had a sender
 abbrev pub took_one : ℕ → TakeAnswer → List ℕ
-took_one k (Taken v) = out_line k v
-took_one k Nothing = []
-took_one k (TakeShort n) = []
-took_one k (TakeFault f) = []
-took_one k NoChannel = []
+took_one k (Ok (Some v)) = out_line k v
+took_one k (Ok None) = []
+took_one k (Err (TakeShort n)) = []
+took_one k (Err (TakeFault f)) = []
+took_one k (Err NoChannel) = []
 
 -- one take, and the ones after it
 abbrev pub and_takes : ℕ → After TakeAnswer → (Machine → List ℕ → Takes) → Takes
@@ -113,14 +113,13 @@ on_takes t total more =
 abbrev pub on_run : After RunAnswer → (outputs total : ℕ) → (ℕ → Machine → List ℕ → List ℕ) → List ℕ
 on_run r outs total more =
     elim r.answer [
-      | Ran o ↦ elim o [
+      | Ok o ↦ elim o [
         | Ended n ↦ line "ended " (total + n)
         | Waiting n ↦ on_takes (takes outs 0 r.machine r.memory) (total + n) (more (total + n))
         | Spent n ↦ line "spent " (total + n)
         | Fault n k ↦ line "fault " (total + n)
       ]
-      | EarlierClock ↦ []
-      | Short n ↦ []
+      | Err e ↦ []
     ]
 
 -- runs and takes, at most so many rounds of them, after `total` instructions. A round with takes wakes a process, so the next round
@@ -141,7 +140,7 @@ of_start p bytes =
 -- an accepted table is started, a refused one prints its refusal
 abbrev pub of_compilation : Compilation → List ℕ
 of_compilation (compiled p bytes) = of_start p bytes
-of_compilation (refused n r) = refused_line n r
+of_compilation (refused why r) = refused_line (reason_number why) r
 
 -- the bench program's output for a table
 unfoldable pub bench : List ℕ → List ℕ

@@ -1,5 +1,6 @@
 -- The code bytes of a table, and what it is for code to realise the scheme (01, "Workspace and code"; demand 2).
-use Rattle.std.specs.Prelude.{ℕ, suc, ◌+◌, ◌^◌, ◌≤◌, ◌<◌, ◌≡◌, cond, ◌&&◌, List, [], ◌∷◌, ◌++◌, length, take, drop, leb}
+use Rattle.std.specs.Prelude.{ℕ, suc, ◌+◌, ◌^◌, ◌≤◌, ◌<◌, ◌≡◌, cond, ◌&&◌, List, [], ◌∷◌, ◌++◌, length, take, drop, leb, Result}
+use Rattle.std.specs.Prelude.{Ok, Err}
 use Rattle.std.proofs.Math.Option.{some}
 use Rattle.std.proofs.Math.ListN.{get_elem?}
 use Rattle.std.proofs.Math.Seq.{slice}
@@ -11,8 +12,10 @@ use Rattle.model.specs.Accept.{accept, memory_words}
 use Rattle.model.specs.Instruction.{Function, function_code, Instruction, plain, distance}
 use Rattle.model.specs.Prefix.{with_prefixes, fewest, distance_prefixes, decode}
 use Rattle.model.specs.Scheme.{scheme}
-use Rattle.model.specs.declared.Compiled.{Compiled}
-use Rattle.model.specs.declared.Compiled.TheVariants.{Code, Refused}
+use Rattle.model.specs.Answers.{reason_number, refused_for}
+use Rattle.model.specs.declared.Reason.{Reason}
+use Rattle.model.specs.declared.Reason.TheVariants.{TooLarge, Short}
+use Rattle.model.specs.declared.Refusal.{Refusal}
 
 -- code distances take exactly four bytes, other operands the shortest prefixes
 unfoldable pub prefixes_of : Instruction → ℕ
@@ -66,48 +69,48 @@ pub record Realises (code : List ℕ) (xs : List Instruction) (off : ℕ → ℕ
       → decode 0 (slice (off i) (off (suc i)) code)
       ≡ some (record { function = function_code (function_in x); operand = operand_in off x; rest = [] })
 
--- what compiling a table for a code buffer of some length gives: the program and its code, or a refusal's number and what it returns
+-- what compiling a table for a code buffer of some length gives: the program and its code, or why it is refused, and what is returned
 pub data Compilation : Type 0 where
   compiled : Program → (code : List ℕ) → Compilation
-  refused : (number returned : ℕ) → Compilation
+  refused : Reason → (returned : ℕ) → Compilation
 
 -- over 4,096 words with outside channels, or over 16,384 code bytes: 10 at place 0; then the buffer too short: 11 with the size needed
 unfoldable pub fitting : (room : ℕ) → Program → List ℕ → Compilation
 fitting room p code =
     cond (leb (memory_words p) word_limit && leb (length code) code_limit)
-    (cond (leb (length code) room) (compiled p code) (refused 11 (length code)))
-    (refused 10 0)
+    (cond (leb (length code) room) (compiled p code) (refused Short (length code)))
+    (refused TooLarge 0)
 
 -- 10 and 11 are tested only where the reader's refusals pass
 abbrev pub of_read : (room : ℕ) → Read → Compilation
 of_read room (program p) = fitting room p (code_of p)
-of_read room (unread n at) = refused n at
+of_read room (unread why at) = refused why at
 
 -- compiling a table into a lent code buffer with room for so many bytes: refusals 1 to 7 and 9 to 11, lowest first after reading
 unfoldable pub compile : (table : List ℕ) (room : ℕ) → Compilation
 compile table room = of_read room (accept table)
 
--- the entry's answer: the code's length, or 01's number and what it returns
-abbrev pub compiled_answer : Compilation → Compiled
-compiled_answer (compiled p code) = Code (length code)
-compiled_answer (refused n r) = Refused n r
+-- the entry's answer: the code's length, or the refusal
+abbrev pub compiled_answer : Compilation → Result ℕ Refusal
+compiled_answer (compiled p code) = Ok (length code)
+compiled_answer (refused why r) = Err (refused_for why r)
 
 -- the lent code buffer afterwards: the code in front and the rest as it was; on any refusal all of it as it was
 abbrev pub buffer_after : Compilation → (buffer : List ℕ) → List ℕ
 buffer_after (compiled p code) buffer = code ++ drop (length code) buffer
-buffer_after (refused n r) buffer = buffer
+buffer_after (refused why r) buffer = buffer
 
 -- what the entry gives back: the filled front of the lent code buffer; on a refusal the whole buffer, as it was
 abbrev pub given_back : Compilation → (buffer : List ℕ) → List ℕ
 given_back (compiled p code) buffer = code
-given_back (refused n r) buffer = buffer
+given_back (refused why r) buffer = buffer
 
 -- 01's number of a refusal, 0 for none
 abbrev pub number_of : Compilation → ℕ
 number_of (compiled p code) = 0
-number_of (refused n r) = n
+number_of (refused why r) = reason_number why
 
 -- the code's length, or what the refusal returns
 abbrev pub returned_of : Compilation → ℕ
 returned_of (compiled p code) = length code
-returned_of (refused n r) = r
+returned_of (refused why r) = r

@@ -14,9 +14,8 @@ use Rattle.model.specs.Occam.{Frame, in_seq, in_var, in_while, Process, finished
 use Rattle.model.specs.Occam.{Step, Event, Outside, initial, Stuck}
 use Rattle.model.specs.History.{Note, waits_for, guards_for, passes, Call, Moment, quietly, history}
 use Rattle.model.specs.declared.Machine.{Machine}
-use Rattle.model.specs.declared.Kept.TheVariants.{Nothing}
-use Rattle.model.specs.declared.StartAnswer.{StartAnswer}
-use Rattle.model.specs.declared.StartAnswer.TheVariants.{Started}
+use Rattle.std.specs.Prelude.{None, Ok}
+use Rattle.model.specs.Answers.{StartAnswer}
 
 -- one move of an Occam run: a step, or an offer, a take or the clock's move, with its communications and the state that it leaves
 pub data Move : Type 0 where
@@ -92,7 +91,7 @@ module _ (p : Program) where
   -- unable to go on though not ended exactly if the machine waits
   pub record Agrees (m : Moment) (st : State) : Type 0 where
     pub variables : (x : Site) → Live st.process x → st.store x ≡ get_or m.memory (word_of p x) 0
-    pub no-fault : m.machine.fault ≡ Nothing
+    pub no-fault : m.machine.fault ≡ None
     pub ends : ended m.machine ≡ true → st.process ≡ finished
     pub waits-stuck : waits m.machine ≡ true → Stuck st
     pub stuck-waits : Stuck st → waits m.machine ≡ true
@@ -190,5 +189,5 @@ Demand3 table =
     (room slice : ℕ) (memory : List ℕ) (p : Program) (code : List ℕ) (s : After StartAnswer)
     → compile table room ≡ compiled p code
     → start code memory (base p) p.inputs p.outputs slice ≡ s
-    → s.answer ≡ Started
+    → s.answer ≡ Ok tt
     → Faithful p code s.machine s.memory

@@ -11,7 +11,6 @@ use Rattle.model.specs.Syntax.{output, VAR, CHAN, SEQ, PAR, IF, WHILE, ALT, TIME
 use Rattle.model.specs.Syntax.{input_guard, skip_guard, time_guard, Guards, no_guard, guard}
 use Rattle.model.specs.declared.kinds.Operator.TheVariants.{Plus as PLUS, Minus as MINUS, Times as TIMES, Gt as GT, And as AND}
 use Rattle.model.specs.declared.kinds.Operator.TheVariants.{Xor as XOR}
-use Rattle.model.specs.Reader.{refused}
 use Rattle.model.specs.Counts.{registers, temporaries, processes, need}
 use Rattle.model.specs.Limits.{table_limit, code_limit, word_limit, depth_limit, register_limit, channel_limit, name_limit, part_limit}
 use Rattle.model.specs.Limits.{branch_limit, slice_limit}
@@ -21,7 +20,8 @@ use Rattle.model.specs.Instruction.{enbt, dist, operations, Instruction, plain, 
 use Rattle.model.specs.Prefix.{with_prefixes, fewest, distance_prefixes, decode}
 use Rattle.model.specs.Scheme.{expr_code, code_enable, code_disable}
 use Rattle.model.specs.Code.{Compilation, compiled, refused as uncompiled, compile, number_of, returned_of}
-use Rattle.model.specs.Answers.{Refusal, refusal, refused_reading}
+use Rattle.model.specs.Refusals.{read_refusal}
+use Rattle.model.specs.Answers.{Row, refusal, refused_reading}
 use Rattle.model.specs.Machine.{resume_word, link_word, state_word, time_link_word, time_word}
 use Rattle.model.specs.Alternative.{enabling, waiting, ready, none_selected}
 use Rattle.model.specs.Timer.{time_set, time_not_set}
@@ -55,7 +55,7 @@ Compiles table bytes = code_in (compile table 16384) ≡ some bytes
 
 -- a table is refused with a number, at a place
 abbrev Refused : (table : List ℕ) → (number place : ℕ) → Type 0
-Refused table n p = accept table ≡ refused n p
+Refused table n p = read_refusal (accept table) ≡ refusal n (p ∷ [])
 
 -- so many SEQ of one part around the rest of a table
 unfoldable pub in_seqs : ℕ → List ℕ → List ℕ
@@ -154,7 +154,7 @@ abbrev pars : (branches inner : ℕ) → (rest : List ℕ) → List ℕ
 pars n k rest = 0x00 ∷ 0x00 ∷ 0x08 ∷ n ∷ copies k (0x08 ∷ 0x10 ∷ copies 16 (0x00 ∷ [])) ⧺ rest
 
 -- the refusal of a table at reading, if it gets one
-abbrev read_as : (table : List ℕ) → Option Refusal
+abbrev read_as : (table : List ℕ) → Option Row
 read_as t = refused_reading (answer_of (accept t))
 
 -- the number and what is returned with it, at compiling for a buffer of six bytes

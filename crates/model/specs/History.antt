@@ -6,20 +6,16 @@ use Rattle.std.proofs.Math.ListN as L
 use Rattle.model.specs.Word.{low}
 use Rattle.model.specs.Instruction.{function_code, operation_code, opr, tin, enbt, altend}
 use Rattle.model.specs.Prefix.{gathered}
+use Rattle.model.specs.Answers.{KeptFault, OfferAnswer, TakeAnswer}
 use Rattle.model.specs.Machine.{Talk, World, Result, done, faults}
 use Rattle.model.specs.Run.{After, world_of, short_memory, byte, ended, waits, beginning, earlier_clock, run}
 use Rattle.model.specs.Outside.{offer, take}
 use Rattle.model.specs.Occam.{Event, offers, takes, ticks}
 use Rattle.model.specs.declared.Cpu.{Cpu}
 use Rattle.model.specs.declared.Machine.{Machine}
-use Rattle.model.specs.declared.Kept.{Kept}
-use Rattle.model.specs.declared.Kept.TheVariants.{Nothing as NoFault, Fault as KeptFault}
-use Rattle.model.specs.declared.OfferAnswer.{OfferAnswer}
-use Rattle.model.specs.declared.OfferAnswer.TheVariants.{Offered, Short as OfferShort, Fault as OfferFault}
-use Rattle.model.specs.declared.OfferAnswer.TheVariants.{NoChannel as OfferNoChannel, Held}
-use Rattle.model.specs.declared.TakeAnswer.{TakeAnswer}
-use Rattle.model.specs.declared.TakeAnswer.TheVariants.{Taken, Nothing, Short as TakeShort, Fault as TakeFault}
-use Rattle.model.specs.declared.TakeAnswer.TheVariants.{NoChannel as TakeNoChannel}
+use Rattle.std.specs.Prelude.{Err, None, Ok, Some}
+use Rattle.model.specs.declared.OfferRefusal.TheVariants.{Short as OfferShort, Fault as OfferFault, NoChannel as OfferNoChannel, Held}
+use Rattle.model.specs.declared.TakeRefusal.TheVariants.{Short as TakeShort, Fault as TakeFault, NoChannel as TakeNoChannel}
 
 -- a call, with how many bytes of the code and words of the memory it lends. A run may be lent more code than the start had, with
 -- anything behind (01: "Later runs use as much code as the start had"). An offer's value is a word, and so is a run's clock
@@ -92,25 +88,25 @@ begun (done u t) c budget m code memory rest =
     ∷ bytes budget code rest (world_of t.machine t.memory)
 
 -- a kept fault
-abbrev pub unless_kept : Kept → (kept goes : List Moment) → List Moment
-unless_kept NoFault l k = k
-unless_kept (KeptFault f) l k = l
+abbrev pub unless_kept : KeptFault → (kept goes : List Moment) → List Moment
+unless_kept None l k = k
+unless_kept (Some f) l k = l
 
 -- an offer as the Occam run has it, with its answer. 01: what 11 or 13 refuses stays out; so does 12, which demand 3 rules out
 abbrev pub offer_event : (k value : ℕ) → OfferAnswer → List Event
-offer_event k v Offered = offers k v Offered ∷ []
-offer_event k v Held = offers k v Held ∷ []
-offer_event k v (OfferShort n) = []
-offer_event k v (OfferFault f) = []
-offer_event k v OfferNoChannel = []
+offer_event k v (Ok u) = offers k v (Ok u) ∷ []
+offer_event k v (Err Held) = offers k v (Err Held) ∷ []
+offer_event k v (Err (OfferShort n)) = []
+offer_event k v (Err (OfferFault f)) = []
+offer_event k v (Err OfferNoChannel) = []
 
 -- a take, likewise
 abbrev pub take_event : (k : ℕ) → TakeAnswer → List Event
-take_event k (Taken v) = takes k (Taken v) ∷ []
-take_event k Nothing = takes k Nothing ∷ []
-take_event k (TakeShort n) = []
-take_event k (TakeFault f) = []
-take_event k TakeNoChannel = []
+take_event k (Ok (Some v)) = takes k (Ok (Some v)) ∷ []
+take_event k (Ok None) = takes k (Ok None) ∷ []
+take_event k (Err (TakeShort n)) = []
+take_event k (Err (TakeFault f)) = []
+take_event k (Err TakeNoChannel) = []
 
 -- a run's moments before its answer
 unfoldable pub during : Machine → (code memory rest : List ℕ) → (budget clock : ℕ) → List Moment

@@ -2,7 +2,7 @@
 -- (proofs/Laws/Runs.antt); 4 and 5 tie the history to the run (proofs/Laws/Recorded.antt); 6 is 01's waiting (proofs/Laws/Settled.antt); 7
 -- is of prefixes (proofs/Coding/Shortest.antt); 8 is of the bench program's text (proofs/Laws/Reported.antt); 9 is of the timer queue
 -- (proofs/Laws/Walks.antt).
-use Rattle.std.specs.Prelude.{ℕ, zero, suc, ◌+◌, ◌^◌, ◌≤◌, ◌<◌, ◌≡◌, Bool, true, false, length, get_or, drop}
+use Rattle.std.specs.Prelude.{ℕ, zero, suc, ◌+◌, ◌^◌, ◌≤◌, ◌<◌, ◌≡◌, Bool, true, false, length, get_or, drop, Err, None, Ok}
 use Prim.Native.String.{String}
 use mathlib.Core.List.{List, [], ◌∷◌, ◌++◌, Memᴰ}
 use Rattle.std.proofs.Math.Option.{none, some}
@@ -16,18 +16,17 @@ use Rattle.model.specs.Prefix.{with_prefixes, fewest, decode}
 use Rattle.model.specs.Code.{Compilation, compiled, refused, compile}
 use Rattle.model.specs.Machine.{Talk, World, Result, done, faults, Act, ◌>>◌, return, memory_size}
 use Rattle.model.specs.Timer.{along, walk}
-use Rattle.model.specs.Answers.{instructions_of}
+use Rattle.model.specs.Answers.{reason_number, instructions_of, RunAnswer}
 use Rattle.model.specs.Run.{byte, waits, beginning, keep, After, world_of, start, run}
 use Rattle.model.specs.Outside.{offer, take}
 use Rattle.model.specs.Bench.{line, code_line, refused_line, out_line, bench_budget, bench}
 use Rattle.model.specs.History.{Call, call_run, Moment, quietly, call, history}
 use Rattle.model.specs.declared.Machine.{Machine}
 use Rattle.model.specs.declared.FaultKind.{FaultKind}
-use Rattle.model.specs.declared.Kept.TheVariants.{Nothing}
+use Rattle.model.specs.declared.Reason.{Reason}
+use Rattle.model.specs.declared.RunRefusal.TheVariants.{EarlierClock, Short as RunShort}
 use Rattle.model.specs.declared.Outcome.{Outcome}
 use Rattle.model.specs.declared.Outcome.TheVariants.{Ended, Waiting, Spent, Fault as RunFault}
-use Rattle.model.specs.declared.RunAnswer.{RunAnswer}
-use Rattle.model.specs.declared.RunAnswer.TheVariants.{Ran, EarlierClock, Short as RunShort}
 
 -- an outcome that also counts the n instructions before it
 abbrev pub counted : ℕ → Outcome → Outcome
@@ -38,19 +37,19 @@ counted n (RunFault k e) = RunFault (n + k) e
 
 -- an answer, likewise
 abbrev pub later : ℕ → RunAnswer → RunAnswer
-later n (Ran o) = Ran (counted n o)
-later n EarlierClock = EarlierClock
-later n (RunShort k) = RunShort k
+later n (Ok o) = Ok (counted n o)
+later n (Err EarlierClock) = Err EarlierClock
+later n (Err (RunShort k)) = Err (RunShort k)
 
 -- f with its answer, and then g: only a spent run goes on; its count and its communications come before those of g
 abbrev followed : RunAnswer → (f g : After RunAnswer) → After RunAnswer
-followed (Ran (Spent n)) f g =
+followed (Ok (Spent n)) f g =
     record { answer = later n g.answer; machine = g.machine; memory = g.memory; talk = f.talk ++ g.talk }
-followed (Ran (Ended n)) f g = f
-followed (Ran (Waiting n)) f g = f
-followed (Ran (RunFault n k)) f g = f
-followed EarlierClock f g = f
-followed (RunShort k) f g = f
+followed (Ok (Ended n)) f g = f
+followed (Ok (Waiting n)) f g = f
+followed (Ok (RunFault n k)) f g = f
+followed (Err EarlierClock) f g = f
+followed (Err (RunShort k)) f g = f
 
 -- a run f, and then g unless f ended, waits, faults or was refused
 abbrev pub and_then : (f g : After RunAnswer) → After RunAnswer
@@ -110,9 +109,9 @@ world_after f = record { machine = f.machine; memory = f.memory; talk = f.talk }
 
 -- law 3: the count that a run answers is the steps that it took, where no fault was kept before
 abbrev pub CountsSteps : Type 0
-CountsSteps = (m : Machine) (code memory : List ℕ) (budget clock : ℕ) (o : Outcome) → m.fault ≡ Nothing
+CountsSteps = (m : Machine) (code memory : List ℕ) (budget clock : ℕ) (o : Outcome) → m.fault ≡ None
     → let f = run m code memory budget clock in
-    f.answer ≡ Ran o → Began code budget clock (world_of m memory) (world_after f) o
+    f.answer ≡ Ok o → Began code budget clock (world_of m memory) (world_after f) o
 
 -- the moments after a byte executed
 abbrev pub after_bytes : List Moment → List Moment
@@ -136,18 +135,18 @@ last_of before (a ∷ l) = last_of a l
 
 -- the instructions that an answer counts; a run that was refused executed none
 abbrev pub executed_in : RunAnswer → ℕ
-executed_in (Ran o) = instructions_of o
-executed_in EarlierClock = 0
-executed_in (RunShort k) = 0
+executed_in (Ok o) = instructions_of o
+executed_in (Err EarlierClock) = 0
+executed_in (Err (RunShort k)) = 0
 
 -- the machine that a run leaves is its last byte's; a fault that it came to is kept
 abbrev pub leaving : RunAnswer → Machine → Machine
-leaving (Ran (RunFault n k)) m = (keep k (world_of m [])).machine
-leaving (Ran (Ended n)) m = m
-leaving (Ran (Waiting n)) m = m
-leaving (Ran (Spent n)) m = m
-leaving EarlierClock m = m
-leaving (RunShort k) m = m
+leaving (Ok (RunFault n k)) m = (keep k (world_of m [])).machine
+leaving (Ok (Ended n)) m = m
+leaving (Ok (Waiting n)) m = m
+leaving (Ok (Spent n)) m = m
+leaving (Err EarlierClock) m = m
+leaving (Err (RunShort k)) m = m
 
 -- a run is found in the history as it was: as many moments after bytes as instructions, its communications at these moments and at no
 -- other, one behind the other, and at the last of them, or at the beginning's where there is none, the machine and memory that it leaves.
@@ -227,7 +226,7 @@ standing_name fault = "fault "
 -- the texts that the bench program may print for a table that compiles to this: its refusal's line; or its code's length, its words and
 -- its code, then lines of outputs, and at the end a line that says how the machine stood, with at most as many instructions as the budget
 pub data Report : Compilation → List ℕ → Type 0 where
-  one-refusal : (number returned : ℕ) → Report (refused number returned) (refused_line number returned)
+  one-refusal : (why : Reason) (returned : ℕ) → Report (refused why returned) (refused_line (reason_number why) returned)
   full : (p : Program) (code : List ℕ) (outs : List Out) (stood : Standing) (instructions : ℕ) → instructions ≤ bench_budget
       → Report (compiled p code)
       (line "bytes " (length code) ++ line "words " (memory_words p) ++ code_line code ++ out_lines outs

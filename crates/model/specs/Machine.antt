@@ -1,11 +1,11 @@
 -- The machine's state, its memory and its queue (01, "The machine"; the guide's definitions, with words numbered and one priority).
 use Rattle.std.specs.Prelude.{ℕ, ◌+◌, ◌-◌, Bool, true, false, cond, ◌&&◌, List, [], ◌∷◌, ◌++◌, get_or, set, ltb, leb, eqb}
 use Rattle.model.specs.Word.{less}
+use Rattle.model.specs.Answers.{KeptFault}
 use Rattle.model.specs.declared.Cpu.{Cpu}
 use Rattle.model.specs.declared.Setup.{Setup}
 use Rattle.model.specs.declared.Timer.{Timer}
 use Rattle.model.specs.declared.Machine.{Machine}
-use Rattle.model.specs.declared.Kept.{Kept}
 use Rattle.model.specs.declared.FaultKind.{FaultKind}
 use Rattle.model.specs.declared.FaultKind.TheVariants.{Word, Place}
 
@@ -51,7 +51,7 @@ abbrev pub fault : {A : Type 0} → FaultKind → Act A
 fault k s = faults k
 
 -- a machine with the parts that calls change replaced
-abbrev pub machine_with : Cpu → List ℕ → List Bool → Kept → Machine → Machine
+abbrev pub machine_with : Cpu → List ℕ → List Bool → KeptFault → Machine → Machine
 machine_with r offers held fault m =
     record { cpu = r; setup = m.setup; timer = m.timer; offers = offers; held = held; fault = fault }
 

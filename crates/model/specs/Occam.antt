@@ -1,5 +1,5 @@
 -- Occam's own rules (01, "Occam's steps"). They know sites and no words: channels and variables are not laid out here.
-use Rattle.std.specs.Prelude.{ℕ, zero, suc, ◌+◌, ◌*◌, ◌≡◌, Bool, true, false, cond, not, List, [], ◌∷◌, eqb}
+use Rattle.std.specs.Prelude.{ℕ, zero, suc, ◌+◌, ◌*◌, ◌≡◌, Bool, true, false, cond, not, List, [], ◌∷◌, eqb, Err, None, Ok, Some}
 use Rattle.std.proofs.Math.Option.{Option, none, some}
 use Rattle.std.specs.Int.Bits.{bit_and, bit_or, bit_xor}
 use Rattle.std.specs.Int.Signed.{lt_z}
@@ -12,10 +12,8 @@ use Rattle.model.specs.declared.kinds.Operator.TheVariants.{Plus as PLUS, Minus 
 use Rattle.model.specs.declared.kinds.Operator.TheVariants.{And as AND, Or as OR, Xor as XOR}
 use Rattle.model.specs.Reader.{names}
 use Rattle.model.specs.Usage.{same, is_in}
-use Rattle.model.specs.declared.OfferAnswer.{OfferAnswer}
-use Rattle.model.specs.declared.OfferAnswer.TheVariants.{Offered, Held}
-use Rattle.model.specs.declared.TakeAnswer.{TakeAnswer}
-use Rattle.model.specs.declared.TakeAnswer.TheVariants.{Taken, Nothing}
+use Rattle.model.specs.Answers.{OfferAnswer, TakeAnswer}
+use Rattle.model.specs.declared.OfferRefusal.TheVariants.{Held}
 
 -- PLUS, MINUS and TIMES keep the low 32 bits. GT compares signed words; GT and EQ give 1 or 0. AND, OR, XOR work bit by bit
 unfoldable pub operate : Operator → ℕ → ℕ → ℕ
@@ -331,12 +329,12 @@ module _ (st : State) where
   -- sender, else answers none. The clock moves, but not to a word that the last one given is after (02, order 4)
   pub data Outside : Event → List Communication → State → Type 0 where
     offered : {k v : ℕ} → st.offers k ≡ none
-        → Outside (offers k v Offered) []
+        → Outside (offers k v (Ok tt)) []
         (record { process = st.process; store = st.store; offers = with_offer st k (some v); clock = st.clock })
-    held : {k v u : ℕ} → st.offers k ≡ some u → Outside (offers k v Held) [] st
+    held : {k v u : ℕ} → st.offers k ≡ some u → Outside (offers k v (Err Held)) [] st
     taken : {k v : ℕ} (path : List ℕ) {f : List Frame} → look path st.process ≡ some (at_output (output_of k) v f)
-        → Outside (takes k (Taken v)) (over-channel (output_of k) v) (replaced st path (resume f) st.store)
-    nobody : {k : ℕ} → (Sender st (output_of k) → ⊥) → Outside (takes k Nothing) [] st
+        → Outside (takes k (Ok (Some v))) (over-channel (output_of k) v) (replaced st path (resume f) st.store)
+    nobody : {k : ℕ} → (Sender st (output_of k) → ⊥) → Outside (takes k (Ok None)) [] st
     ticked : {c : ℕ} → ((t : ℕ) → st.clock ≡ some t → after t c ≡ false)
         → Outside (ticks c) [] (record { process = st.process; store = st.store; offers = st.offers; clock = some c })
 

@@ -8,6 +8,8 @@ use Rattle.model.specs.Limits.{table_limit, depth_limit, channel_limit, name_lim
 use Rattle.model.specs.Syntax.{Site, input_of, output_of, declared, Expr, constant, variable, NOT, binary, Stmt, SKIP, STOP, assign}
 use Rattle.model.specs.Syntax.{input, output, VAR, CHAN, SEQ, PAR, IF, WHILE, ALT, TIME, WAIT, no_stmt, stmt, Pairs, no_pair, pair}
 use Rattle.model.specs.Syntax.{Guard, input_guard, skip_guard, time_guard, Guards, no_guard, guard, Program}
+use Rattle.model.specs.declared.Reason.{Reason}
+use Rattle.model.specs.declared.Reason.TheVariants.{TableSize, BadNumber, OutOfRange, TooDeep, BadName, BytesBehind}
 use Rattle.model.specs.declared.kinds.Operator.{Operator}
 use Rattle.model.specs.declared.kinds.Operator.TheVariants.{Plus as PLUS, Minus as MINUS, Times as TIMES, Gt as GT, Eq as EQ}
 use Rattle.model.specs.declared.kinds.Operator.TheVariants.{And as AND, Or as OR, Xor as XOR}
@@ -19,10 +21,10 @@ use Rattle.model.specs.declared.kinds.StmtKind.TheVariants.{Time, Wait}
 use Rattle.model.specs.declared.kinds.GuardKind.{GuardKind}
 use Rattle.model.specs.declared.kinds.GuardKind.TheVariants.{Input as InputGuard, Skip as SkipGuard, Time as TimeGuard}
 
--- what was read, the place of the next byte and the bytes from there on; or a refusal's number and place
+-- what was read, the place of the next byte and the bytes from there on; or why it is refused, and at which place
 pub data Parsed (A : Type 0) : Type 0 where
   parsed : A → ℕ → List ℕ → Parsed A
-  fails : (number place : ℕ) → Parsed A
+  fails : Reason → (place : ℕ) → Parsed A
 
 -- a part of a table is read from a place, over the bytes from there on
 abbrev pub Reader : Type 0 → Type 0
@@ -31,7 +33,7 @@ Reader A = ℕ → List ℕ → Parsed A
 -- what is read after a part; a refusal ends the reading
 abbrev pub onward : {A B : Type 0} → Parsed A → (A → Reader B) → Parsed B
 onward (parsed a at bytes) f = f a at bytes
-onward (fails n p) f = fails n p
+onward (fails why p) f = fails why p
 
 -- one part, then another from the byte after it: reading goes left to right
 abbrev pub ◌>>=◌ : {A B : Type 0} → Reader A → (A → Reader B) → Reader B
@@ -41,9 +43,9 @@ abbrev pub ◌>>=◌ : {A B : Type 0} → Reader A → (A → Reader B) → Read
 abbrev pub pure : {A : Type 0} → A → Reader A
 pure a at bytes = parsed a at bytes
 
--- a refusal with its number and the place that it returns
-abbrev pub refuse : {A : Type 0} → (number place : ℕ) → Reader A
-refuse n p at bytes = fails n p
+-- a refusal with the place that it returns
+abbrev pub refuse : {A : Type 0} → Reason → (place : ℕ) → Reader A
+refuse why p at bytes = fails why p
 
 -- the place of the next byte
 abbrev pub here : Reader ℕ
@@ -51,7 +53,7 @@ here at bytes = parsed at at bytes
 
 -- refusal 2: a number cut short, too long or too large
 abbrev number_or2 : Option Number → Reader ℕ
-number_or2 none at bytes = fails 2 at
+number_or2 none at bytes = fails BadNumber at
 number_or2 (some n) at bytes = parsed n.value (at + n.size) (drop n.size bytes)
 
 -- a number; 2 at its first byte, or at the table's length if none is left
@@ -60,7 +62,7 @@ read_number at bytes = number_or2 (number bytes) at bytes
 
 -- a number that stands for one of the things listed, from 0; else 3 at its byte
 abbrev one_of3 : {A : Type 0} → Option A → ℕ → Reader A
-one_of3 none at = refuse 3 at
+one_of3 none at = refuse OutOfRange at
 one_of3 (some a) at = pure a
 
 -- refusal 3: an unknown kind or operator
@@ -75,7 +77,7 @@ unfoldable pub read_count : (lo hi : ℕ) → Reader ℕ
 read_count lo hi = do
   at ← here
   n ← read_number
-  cond (leb lo n && leb n hi) (pure n) (refuse 3 at)
+  cond (leb lo n && leb n hi) (pure n) (refuse OutOfRange at)
 
 -- the names in scope, outermost first: the number of a name is its index here
 pub record Scope : Type 0 where
@@ -84,8 +86,8 @@ pub record Scope : Type 0 where
 
 -- a name's site if it may stand there; else 5 at the name's byte
 abbrev name_or5 : (Site → Bool) → Option Site → ℕ → Reader Site
-name_or5 fits none at = refuse 5 at
-name_or5 fits (some s) at = cond (fits s) (pure s) (refuse 5 at)
+name_or5 fits none at = refuse BadName at
+name_or5 fits (some s) at = cond (fits s) (pure s) (refuse BadName at)
 
 -- a variable's or channel's number; refusal 5: a name not in scope, or an outside channel used the wrong way
 unfoldable pub read_name : (Site → Bool) → List Site → Reader Site
@@ -153,7 +155,7 @@ unfoldable pub too_deep : {A : Type 0} → Reader A
 too_deep = do
   at ← here
   n ← read_number
-  refuse 4 at
+  refuse TooDeep at
 
 -- what follows an expression's kind, with a reader of the expressions inside it
 unfoldable pub expr_of : Scope → Reader Expr → ExprKind → Reader Expr
@@ -254,17 +256,19 @@ read_program = do
   s ← read_stmt depth_limit (record { variables = []; channels = numbered input_of ins ++ numbered output_of outs })
   pure (record { inputs = ins; outputs = outs; body = s })
 
--- a program, or a refusal's number and place
+-- a program, or why the table is refused, and at which place
 pub data Read : Type 0 where
   program : Program → Read
-  refused : (number place : ℕ) → Read
+  refused : Reason → (place : ℕ) → Read
 
 -- refusal 6 at the first byte after the program
 abbrev pub whole : Parsed Program → Read
 whole (parsed p at []) = program p
-whole (parsed p at (b ∷ bytes)) = refused 6 at
-whole (fails n at) = refused n at
+whole (parsed p at (b ∷ bytes)) = refused BytesBehind at
+whole (fails why at) = refused why at
 
 -- reading a table. Refusal 1 comes first: a table of 0 or over 16,384 bytes, at place 0
 unfoldable pub read_table : List ℕ → Read
-read_table table = let r = whole (read_program 0 table) in cond (leb 1 (length table) && leb (length table) table_limit) r (refused 1 0)
+read_table table =
+    let r = whole (read_program 0 table) in
+    cond (leb 1 (length table) && leb (length table) table_limit) r (refused TableSize 0)

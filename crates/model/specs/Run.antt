@@ -1,11 +1,12 @@
 -- One byte, a start, and a run with a budget and a clock (01, "The machine", "When a call is turned down"; 02, order 4).
 use Rattle.std.specs.Prelude.{ℕ, zero, suc, ◌+◌, ◌/◌, min, Bool, true, false, cond, not, ◌&&◌, List, [], ◌++◌, length, get_or, drop}
-use Rattle.std.specs.Prelude.{replicate, ltb, leb, eqb}
+use Rattle.std.specs.Prelude.{replicate, ltb, leb, eqb, Err, None, Ok, Some}
 use Rattle.std.proofs.Math.Option.{Option, none, some}
 use Rattle.model.specs.Word.{low, after, not_process}
 use Rattle.model.specs.Limits.{code_limit, word_limit, channel_limit, slice_limit}
 use Rattle.model.specs.Instruction.{Function, pfix_code, nfix_code, function_of}
 use Rattle.model.specs.Prefix.{gathered, pfixed, nfixed}
+use Rattle.model.specs.Answers.{KeptFault, RunAnswer, StartAnswer}
 use Rattle.model.specs.Machine.{machine_with, Talk, World, Result, done, faults, Act, ◌>>=◌, ◌>>◌, return, fault, registers}
 use Rattle.model.specs.Machine.{set_registers, setup, set_clock, goto, gathering, counting, test_place, release, memory_size}
 use Rattle.model.specs.Timer.{wake_sleepers}
@@ -14,16 +15,12 @@ use Rattle.model.specs.declared.Cpu.{Cpu}
 use Rattle.model.specs.declared.Setup.{Setup}
 use Rattle.model.specs.declared.Timer.{Timer}
 use Rattle.model.specs.declared.Machine.{Machine}
-use Rattle.model.specs.declared.Kept.{Kept}
-use Rattle.model.specs.declared.Kept.TheVariants.{Nothing, Fault as KeptFault}
+use Rattle.model.specs.declared.RunRefusal.TheVariants.{EarlierClock, Short as RunShort}
+use Rattle.model.specs.declared.StartRefusal.TheVariants.{BadSlice, BadCount, TooLarge, Short as StartShort}
 use Rattle.model.specs.declared.FaultKind.{FaultKind}
 use Rattle.model.specs.declared.FaultKind.TheVariants.{Function as BadFunction, Place}
 use Rattle.model.specs.declared.Outcome.{Outcome}
 use Rattle.model.specs.declared.Outcome.TheVariants.{Ended, Waiting, Spent, Fault as RunFault}
-use Rattle.model.specs.declared.RunAnswer.{RunAnswer}
-use Rattle.model.specs.declared.RunAnswer.TheVariants.{Ran, EarlierClock, Short as RunShort}
-use Rattle.model.specs.declared.StartAnswer.{StartAnswer}
-use Rattle.model.specs.declared.StartAnswer.TheVariants.{Started, BadSlice, BadCount, TooLarge, Short as StartShort}
 
 -- the byte at the process's place; later runs use as much code as the start had. A run tests its end first, so no byte is asked
 -- for at the code's end
@@ -96,7 +93,7 @@ pub record Finish : Type 0 where
 abbrev pub keep : FaultKind → World → World
 keep k s =
     let m = s.machine in
-    record { machine = machine_with m.cpu m.offers m.held (KeptFault k) m; memory = s.memory; talk = s.talk }
+    record { machine = machine_with m.cpu m.offers m.held (Some k) m; memory = s.memory; talk = s.talk }
 
 -- a byte that would fault is not begun and not counted; those before it stand
 abbrev onward : Result (Unit {0}) → World → ℕ → (World → Finish) → Finish
@@ -134,12 +131,12 @@ world_of m memory = record { machine = m; memory = memory; talk = [] }
 
 -- a run's answer and what it left
 abbrev pub finished : Finish → After RunAnswer
-finished f = record { answer = Ran f.outcome; machine = f.world.machine; memory = f.world.memory; talk = f.world.talk }
+finished f = record { answer = Ok f.outcome; machine = f.world.machine; memory = f.world.memory; talk = f.world.talk }
 
 -- a kept fault is answered again, with 0 instructions
-abbrev pub kept_or_run : Kept → Machine → List ℕ → Finish → After RunAnswer
-kept_or_run (KeptFault k) m memory f = unchanged (Ran (RunFault 0 k)) m memory
-kept_or_run Nothing m memory f = finished f
+abbrev pub kept_or_run : KeptFault → Machine → List ℕ → Finish → After RunAnswer
+kept_or_run (Some k) m memory f = unchanged (Ok (RunFault 0 k)) m memory
+kept_or_run None m memory f = finished f
 
 -- a run's beginning, and then its bytes. "A fault in this comes before the run's first byte, budget 0 or not, and leaves all else as
 -- before the run"
@@ -154,9 +151,9 @@ earlier_clock m c = m.timer.given && after m.timer.clock c
 unfoldable pub run : Machine → (code memory : List ℕ) → (budget clock : ℕ) → After RunAnswer
 run m code memory budget c =
     let ran = kept_or_run m.fault m memory (begun_run budget code c (world_of m memory)) in
-    cond (earlier_clock m c) (unchanged EarlierClock m memory)
-    (cond (ltb (length code) m.setup.code) (unchanged (RunShort m.setup.code) m memory)
-    (cond (short_memory m memory) (unchanged (RunShort (memory_size m.setup)) m memory) ran))
+    cond (earlier_clock m c) (unchanged (Err EarlierClock) m memory)
+    (cond (ltb (length code) m.setup.code) (unchanged (Err (RunShort m.setup.code)) m memory)
+    (cond (short_memory m memory) (unchanged (Err (RunShort (memory_size m.setup))) m memory) ran))
 
 -- eight offer values, none of them held
 abbrev pub no_offers : List ℕ
@@ -190,7 +187,7 @@ no_timer = record { clock = 0; given = false; front = not_process }
 -- a machine that was started: the process at W has the processor
 unfoldable pub fresh : Setup → Machine
 fresh u =
-    record { cpu = registers_at u.base true; setup = u; timer = no_timer; offers = no_offers; held = none_held; fault = Nothing }
+    record { cpu = registers_at u.base true; setup = u; timer = no_timer; offers = no_offers; held = none_held; fault = None }
 
 -- no code, no memory, no channels
 abbrev pub no_setup : Setup
@@ -198,7 +195,7 @@ no_setup = record { code = 0; base = 0; inputs = 0; outputs = 0; slice = 0 }
 
 -- the machine with nothing in it, which a refused start gives back
 unfoldable pub blank : Machine
-blank = record { cpu = registers_at 0 false; setup = no_setup; timer = no_timer; offers = no_offers; held = none_held; fault = Nothing }
+blank = record { cpu = registers_at 0 false; setup = no_setup; timer = no_timer; offers = no_offers; held = none_held; fault = None }
 
 -- 01: outside channels start as NotProcess, every other needed word as 0; later words stay
 unfoldable pub cleared : Setup → List ℕ → List ℕ
@@ -212,8 +209,8 @@ start code memory w i o q =
     (cond (leb i channel_limit && leb o channel_limit)
     (cond (leb (w + i + o) word_limit && leb (length code) code_limit)
     (cond (leb (w + i + o) (length memory))
-    (record { answer = Started; machine = fresh u; memory = cleared u memory; talk = [] })
-    (unchanged (StartShort (w + i + o)) blank memory))
-    (unchanged TooLarge blank memory))
-    (unchanged BadCount blank memory))
-    (unchanged BadSlice blank memory)
+    (record { answer = Ok tt; machine = fresh u; memory = cleared u memory; talk = [] })
+    (unchanged (Err (StartShort (w + i + o))) blank memory))
+    (unchanged (Err TooLarge) blank memory))
+    (unchanged (Err BadCount) blank memory))
+    (unchanged (Err BadSlice) blank memory)

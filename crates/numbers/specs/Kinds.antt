@@ -1,6 +1,6 @@
 -- 01's kinds and operators by their numbers, and how statements of a kind are laid out ("The program table"). The numbers are those of the
 -- model's lists.
-use Rattle.std.specs.Prelude.{ℕ, ◌-◌, cond, List, length, get_or, ltb}
+use Rattle.std.specs.Prelude.{ℕ, ◌-◌, cond, List, length, get_or, ltb, Result, Ok}
 use Rattle.model.specs.Limits.{part_limit, branch_limit}
 use Rattle.model.specs.Reader.{stmt_kinds, expr_kinds, guard_kinds, operators}
 use Rattle.model.specs.declared.kinds.ExprKind.{ExprKind}
@@ -13,8 +13,8 @@ use Rattle.model.specs.declared.kinds.GuardKind.TheVariants.{Input as InputGuard
 use Rattle.model.specs.declared.kinds.Operator.{Operator}
 use Rattle.model.specs.declared.kinds.Operator.TheVariants.{Plus as PLUS}
 use Rattle.numbers.specs.Items.{between_at, value_at}
-use Rattle.numbers.specs.declared.Item.{Item}
-use Rattle.numbers.specs.declared.Item.TheVariants.{Item as Found}
+use Rattle.numbers.specs.declared.Misread.{Misread}
+use Rattle.numbers.specs.declared.Number.{Number}
 use Rattle.numbers.specs.declared.Value.{Value}
 use Rattle.numbers.specs.declared.kinds.Simple.{Simple}
 use Rattle.numbers.specs.declared.kinds.Simple.TheVariants.{Skip as Idle, Stop as Stopping, Assign as Assigning, Input as Inputting}
@@ -108,9 +108,9 @@ by_count (UpTo m) u f = u
 by_count (Fixed n) u f = f
 
 -- the count of parts, where one is read, and the place after it
-unfoldable pub count_at : Count → List ℕ → (at : ℕ) → Item
+unfoldable pub count_at : Count → List ℕ → (at : ℕ) → Result Number Misread
 count_at (UpTo m) s at = between_at 0 m s at
-count_at (Fixed n) s at = Found n at
+count_at (Fixed n) s at = Ok (record { value = n; next = at })
 
 -- the same in a table that was read before; one that is too large stands where no statement begins, and counts 0
 unfoldable pub count_in : Count → List ℕ → (at : ℕ) → Value

@@ -1,8 +1,9 @@
 // The kinds and operators of document 01's table by their numbers, and how statements of a kind are laid out ("The program table"); 02,
 // order 4: TIME, WAIT and time guards.
-ghost use Rattle.std.specs.Prelude.{◌≡◌};
+ghost use Rattle.std.specs.Prelude.{◌≡◌, get_or};
 ghost use Rattle.numbers.specs.Kinds.{stmt_kind, expr_kind, guard_kind, operator_of, shape_of, count_at, count_in};
 
+use crate::{Misread, Number, Value};
 use model::kinds::{ExprKind, GuardKind, Operator, StmtKind};
 
 // In the order of their numbers, from 0.
@@ -96,52 +97,43 @@ pub enum Shape {
     Parts(Head, Count),
 }
 
+// What stands at a number of a list; `other` for a number past its end.
+fn listed<K: Copy>(list: &[K], number: u64, other: K) -> K
+    ensures { result ≡ get_or list.now number other }
+{
+    list.get(number as usize).copied().unwrap_or(other)
+}
+
 // The kind of a statement; SKIP for a number that has none.
+#[tactic(auto, unfolding(crate::specs::Kinds::stmt_kind))]
 pub fn stmt_kind(number: u64) -> StmtKind
     ensures { result ≡ stmt_kind number }
 {
-    let kinds = STATEMENTS;
-    if number <= LAST_STATEMENT {
-        let at = number as usize;
-        return kinds[at];
-    }
-    StmtKind::Skip
+    listed(&STATEMENTS, number, StmtKind::Skip)
 }
 
 // The kind of an expression; an operator's for a number that has none.
+#[tactic(auto, unfolding(crate::specs::Kinds::expr_kind))]
 pub fn expr_kind(number: u64) -> ExprKind
     ensures { result ≡ expr_kind number }
 {
-    let kinds = EXPRESSIONS;
-    if number <= LAST_EXPRESSION {
-        let at = number as usize;
-        return kinds[at];
-    }
-    ExprKind::Binary
+    listed(&EXPRESSIONS, number, ExprKind::Binary)
 }
 
 // The kind of a guard; a SKIP guard for a number that has none.
+#[tactic(auto, unfolding(crate::specs::Kinds::guard_kind))]
 pub fn guard_kind(number: u64) -> GuardKind
     ensures { result ≡ guard_kind number }
 {
-    let kinds = GUARDS;
-    if number <= LAST_GUARD {
-        let at = number as usize;
-        return kinds[at];
-    }
-    GuardKind::Skip
+    listed(&GUARDS, number, GuardKind::Skip)
 }
 
 // An operator; PLUS for a number that has none.
+#[tactic(auto, unfolding(crate::specs::Kinds::operator_of))]
 pub fn operator_of(number: u64) -> Operator
     ensures { result ≡ operator_of number }
 {
-    let all = OPERATORS;
-    if number <= LAST_OPERATOR {
-        let at = number as usize;
-        return all[at];
-    }
-    Operator::Plus
+    listed(&OPERATORS, number, Operator::Plus)
 }
 
 // What is behind a kind.
@@ -167,30 +159,33 @@ pub fn shape_of(kind: StmtKind) -> Shape
 }
 
 // The count of parts, where one is read, and the place after it.
-pub fn read_count(table: &[u8], at: usize, count: Count) -> crate::Item
+#[tactic(auto, unfolding(crate::specs::Kinds::count_at))]
+pub fn read_count(table: &[u8], at: usize, count: Count) -> Result<Number, Misread>
     ensures { result ≡ count_at count table.now at }
 {
     match count {
         Count::UpTo(most) => crate::read_between(table, at, 0, most),
-        Count::Fixed(n) => crate::Item::Item(n as u64, at),
+        Count::Fixed(n) => Ok(Number {
+            next: at,
+            value: u64::from(n),
+        }),
     }
 }
 
 // The same in a table that was read before; 0 for one that is too large, which stands where no statement begins.
-pub fn count_at(table: &[u8], at: usize, count: Count) -> crate::Value
+#[tactic(auto, unfolding(crate::specs::Kinds::count_in))]
+pub fn count_at(table: &[u8], at: usize, count: Count) -> Value
     ensures { result ≡ count_in count table.now at }
 {
     match count {
         Count::UpTo(most) => {
             let number = crate::value_at(table, at);
-            if most < number.value as u64 {
-                return crate::Value {
-                    value: 0,
-                    next: number.next,
-                };
+            if most < u64::from(number.value) {
+                Value { value: 0, ..number }
+            } else {
+                number
             }
-            number
         }
-        Count::Fixed(n) => crate::Value { value: n, next: at },
+        Count::Fixed(n) => Value { value: n, next: at },
     }
 }

@@ -3,9 +3,11 @@ ghost use Rattle.std.specs.Prelude.{◌≡◌};
 ghost use Rattle.plan.specs.Entries.{entry as entry_of, next_in, registers_in, stored_in, plan_at, put_at, sides_held, sides_entry};
 ghost use Rattle.plan.specs.Entries.{entered, expr_entered, sides_entered, inner_entered};
 
+use crate::Plan;
 use model::kinds::ExprKind;
 
 // An entry: the place after an expression, its registers and its stored values.
+#[tactic(auto, unfolding(crate::specs::Entries::entry))]
 fn entry(next: usize, registers: u32, stored: u32) -> u32
     ensures { result ≡ entry_of next registers stored }
 {
@@ -37,13 +39,15 @@ pub fn stored_in(entry: u32) -> u32
 }
 
 // What a plan has at a place; 0 past its end.
-pub fn entry_at(plan: &[u32; 16384], at: usize) -> u32
+#[tactic(auto, unfolding(crate::specs::Entries::plan_at))]
+pub fn entry_at(plan: &Plan, at: usize) -> u32
     ensures { result ≡ plan_at plan.now at }
 {
     if at < model::limits::TABLE {
-        return plan[at];
+        plan[at]
+    } else {
+        0
     }
-    0
 }
 
 // The values that two sides hold together, by their entries.
@@ -63,7 +67,8 @@ fn sides_entry(left: u32, right: u32) -> u32
 }
 
 // A plan with the entry of one place more.
-pub fn put_entry(plan: &mut [u32; 16384], at: usize, entry: u32)
+#[tactic(auto, unfolding(crate::specs::Entries::put_at))]
+pub fn put_entry(plan: &mut Plan, at: usize, entry: u32)
     ensures { plan.new ≡ put_at at entry plan.old }
 {
     if at < model::limits::TABLE {
@@ -73,7 +78,7 @@ pub fn put_entry(plan: &mut [u32; 16384], at: usize, entry: u32)
 
 // What follows an operator's kind: operator, left, right.
 #[cycle(measure_expr_measure_sides)]
-fn measure_sides(table: &[u8], plan: &mut [u32; 16384], at: usize, depth: u64) -> u32
+fn measure_sides(table: &[u8], plan: &mut Plan, at: usize, depth: u64) -> u32
     ensures { entered result plan.new ≡ sides_entered (inner_entered depth table.now) table.now at
         plan.old }
 {
@@ -85,7 +90,7 @@ fn measure_sides(table: &[u8], plan: &mut [u32; 16384], at: usize, depth: u64) -
 
 // An expression, and those in it; the depth left falls at each call.
 #[cycle(measure_expr_measure_sides)]
-pub fn measure_expr(table: &[u8], plan: &mut [u32; 16384], at: usize, depth: u64) -> u32
+pub fn measure_expr(table: &[u8], plan: &mut Plan, at: usize, depth: u64) -> u32
     ensures { entered result plan.new ≡ expr_entered depth table.now at plan.old }
 {
     if depth == 0 {
@@ -94,8 +99,7 @@ pub fn measure_expr(table: &[u8], plan: &mut [u32; 16384], at: usize, depth: u64
     let number = numbers::value_at(table, at);
     let next = number.next;
     let own = match numbers::kinds::expr_kind(number.value as u64) {
-        ExprKind::Constant => entry(numbers::skip(table, next), 1, 0),
-        ExprKind::Variable => entry(numbers::skip(table, next), 1, 0),
+        ExprKind::Constant | ExprKind::Variable => entry(numbers::skip(table, next), 1, 0),
         ExprKind::Not => measure_expr(table, plan, next, depth - 1),
         ExprKind::Binary => measure_sides(table, plan, next, depth - 1),
     };

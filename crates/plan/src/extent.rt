@@ -4,6 +4,7 @@ ghost use Rattle.plan.specs.Extents.{extent_entry, extent_in, measured, whole_me
 ghost use Rattle.plan.specs.Extents.{head_measured, joined as needed, parts_measured, inside_measured, stmt_measured};
 ghost use Rattle.plan.specs.Extents.{inner_measured};
 
+use crate::{Plan, expr};
 use counts::Role;
 use model::kinds::{GuardKind, StmtKind};
 use numbers::kinds::{Head, Shape, Simple};
@@ -25,10 +26,10 @@ fn extent_entry(extent: Extent) -> u32
 }
 
 // What a plan tells of the statement at a place.
-pub fn extent_in(plan: &[u32; 16384], at: usize) -> Extent
+pub fn extent_in(plan: &Plan, at: usize) -> Extent
     ensures { result ≡ extent_in plan.now at }
 {
-    let entry = crate::expr::entry_at(plan, at);
+    let entry = expr::entry_at(plan, at);
     Extent {
         next: (entry / 65536) as usize,
         need: entry % 65536,
@@ -36,32 +37,23 @@ pub fn extent_in(plan: &[u32; 16384], at: usize) -> Extent
 }
 
 // An expression that stands in no other.
-fn measure_whole(table: &[u8], plan: &mut [u32; 16384], at: usize, role: Role, depth: u64) -> Extent
+fn measure_whole(table: &[u8], plan: &mut Plan, at: usize, role: Role, depth: u64) -> Extent
     ensures { measured result plan.new ≡ whole_measured role depth table.now at plan.old }
 {
-    let entry = crate::expr::measure_expr(table, plan, at, depth);
+    let entry = expr::measure_expr(table, plan, at, depth);
     Extent {
-        next: crate::expr::next_in(entry),
-        need: counts::ask(role, crate::expr::stored_in(entry)),
+        next: expr::next_in(entry),
+        need: counts::ask(role, expr::stored_in(entry)),
     }
 }
 
 // What follows the kind of a statement without statements inside.
-fn measure_simple(
-    table: &[u8],
-    plan: &mut [u32; 16384],
-    at: usize,
-    simple: Simple,
-    depth: u64,
-) -> Extent
+#[tactic(auto, unfolding(crate::specs::Extents::simple_measured))]
+fn measure_simple(table: &[u8], plan: &mut Plan, at: usize, simple: Simple, depth: u64) -> Extent
     ensures { measured result plan.new ≡ simple_measured simple depth table.now at plan.old }
 {
     match simple {
-        Simple::Skip => Extent {
-            next: at,
-            need: counts::IDLE_WORDS,
-        },
-        Simple::Stop => Extent {
+        Simple::Skip | Simple::Stop => Extent {
             next: at,
             need: counts::IDLE_WORDS,
         },
@@ -80,20 +72,21 @@ fn measure_simple(
 }
 
 // The condition and the time of a time guard (document 02, order 4): the right and the left side of an operator that is not there.
-fn measure_both(table: &[u8], plan: &mut [u32; 16384], at: usize, depth: u64) -> Extent
+fn measure_both(table: &[u8], plan: &mut Plan, at: usize, depth: u64) -> Extent
     ensures { measured result plan.new ≡ both_measured depth table.now at plan.old }
 {
-    let condition = crate::expr::measure_expr(table, plan, at, depth);
-    let time = crate::expr::measure_expr(table, plan, crate::expr::next_in(condition), depth);
-    let stored = crate::expr::sides_held(time, condition);
+    let condition = expr::measure_expr(table, plan, at, depth);
+    let time = expr::measure_expr(table, plan, expr::next_in(condition), depth);
+    let stored = expr::sides_held(time, condition);
     Extent {
-        next: crate::expr::next_in(time),
+        next: expr::next_in(time),
         need: counts::ask(Role::Time, stored),
     }
 }
 
 // A guard: its condition, and its channel and its variable if it waits for input, its time if it is a time guard.
-fn measure_guard(table: &[u8], plan: &mut [u32; 16384], at: usize, depth: u64) -> Extent
+#[tactic(auto, unfolding(crate::specs::Extents::guard_measured))]
+fn measure_guard(table: &[u8], plan: &mut Plan, at: usize, depth: u64) -> Extent
     ensures { measured result plan.new ≡ guard_measured depth table.now at plan.old }
 {
     let number = numbers::value_at(table, at);
@@ -111,7 +104,8 @@ fn measure_guard(table: &[u8], plan: &mut [u32; 16384], at: usize, depth: u64) -
 }
 
 // What stands before the statement of a part.
-fn measure_head(table: &[u8], plan: &mut [u32; 16384], at: usize, head: Head, depth: u64) -> Extent
+#[tactic(auto, unfolding(crate::specs::Extents::head_measured))]
+fn measure_head(table: &[u8], plan: &mut Plan, at: usize, head: Head, depth: u64) -> Extent
     ensures { measured result plan.new ≡ head_measured head depth table.now at plan.old }
 {
     match head {
@@ -135,7 +129,7 @@ fn joined(beside: bool, before: u32, part: u32) -> u32
 #[cycle(measure_inside_measure_parts_measure_stmt)]
 fn measure_parts(
     table: &[u8],
-    plan: &mut [u32; 16384],
+    plan: &mut Plan,
     first: Extent,
     head: Head,
     beside: bool,
@@ -146,8 +140,7 @@ fn measure_parts(
         table.now (measured first plan.old) }
 {
     let mut so_far = first;
-    let mut left = count;
-    while 0 < left {
+    for _ in 0..count {
         let before = measure_head(table, &mut *plan, so_far.next, head, depth);
         let part = measure_stmt(table, &mut *plan, before.next, depth);
         let least = counts::larger(so_far.need, before.need);
@@ -155,20 +148,13 @@ fn measure_parts(
             next: part.next,
             need: joined(beside, least, part.need),
         };
-        left -= 1;
     }
     so_far
 }
 
 // What follows a kind; the statements inside have `depth` left.
 #[cycle(measure_inside_measure_parts_measure_stmt)]
-fn measure_inside(
-    table: &[u8],
-    plan: &mut [u32; 16384],
-    at: usize,
-    kind: StmtKind,
-    depth: u64,
-) -> Extent
+fn measure_inside(table: &[u8], plan: &mut Plan, at: usize, kind: StmtKind, depth: u64) -> Extent
     ensures { measured result plan.new ≡ inside_measured kind (inner_measured depth table.now) depth table.now at
         plan.old }
 {
@@ -203,7 +189,7 @@ fn measure_inside(
 
 // A statement, and all in it; the depth left falls at each call.
 #[cycle(measure_inside_measure_parts_measure_stmt)]
-pub fn measure_stmt(table: &[u8], plan: &mut [u32; 16384], at: usize, depth: u64) -> Extent
+pub fn measure_stmt(table: &[u8], plan: &mut Plan, at: usize, depth: u64) -> Extent
     ensures { measured result plan.new ≡ stmt_measured depth table.now at plan.old }
 {
     if depth == 0 {
@@ -215,6 +201,6 @@ pub fn measure_stmt(table: &[u8], plan: &mut [u32; 16384], at: usize, depth: u64
     let number = numbers::value_at(table, at);
     let kind = numbers::kinds::stmt_kind(number.value as u64);
     let own = measure_inside(table, plan, number.next, kind, depth - 1);
-    crate::expr::put_entry(plan, at, extent_entry(own));
+    expr::put_entry(plan, at, extent_entry(own));
     own
 }

@@ -11,8 +11,12 @@ mod extent;
 pub use expr::{entry_at, next_in, registers_in, sides_held, stored_in};
 pub use extent::{Extent, extent_in};
 
+// An entry for each place of the longest table. It stays packed into 32 bits: an enum of the two kinds takes 48, which is 32 KB more of the
+// stack than a compilation may take.
+pub type Plan = [u32; model::limits::TABLE];
+
 // The plan of a table that was read: each expression and each statement is measured once.
-pub fn make_plan(table: &[u8], plan: &mut [u32; 16384])
+pub fn make_plan(table: &[u8], plan: &mut Plan)
     ensures { plan.new ≡ table_plan table.now plan.old }
 {
     let at = numbers::skip(table, numbers::skip(table, 0));

@@ -3,10 +3,14 @@ use Prim.Native.Nat.{ℕ, zero, suc, ◌+◌, ◌≤◌}
 use mathlib.Core.Path.{◌≡◌, refl, fun_ext, ap, sym, ◌∙◌}
 use mathlib.Core.Bool.{Bool, true, false, cond}
 use mathlib.Core.List.{List, [], ◌∷◌}
+use borrow.Author.Tests.{ltb-true}
+use Rattle.std.proofs.lemmas.List.{set-append_left}
+use Rattle.std.specs.Prelude.{◌++◌}
 use lib.ListN.{length, get_or, set}
 use native.Mathlib.Omega.{arith}
 use lib.Seq.{set-set, set-get_or}
 use lib.Dec.{ltb, leb-zero}
+use Rattle.std.specs.Prelude.{Ok, Err, Result as Answer, IsErrAnd, is_err}
 use Rattle.model.specs.Machine.{World, Act, Result, done, faults, next, ◌>>◌, return, set_registers, running, queueing, space_of}
 use Rattle.model.specs.Machine.{memory_size}
 use Rattle.model.specs.Machine.{poke, test_place, link_word, resume, take_front, release, enqueue, join}
@@ -17,50 +21,69 @@ use Rattle.model.specs.declared.Cpu.{Cpu}
 use Rattle.model.specs.declared.Setup.{Setup}
 use Rattle.model.specs.declared.FaultKind.{FaultKind}
 use Rattle.model.specs.declared.FaultKind.TheVariants.{Word}
-use Rattle.processor.specs.Seen.{Rest, world, Changes, looked, written, undone}
+use Rattle.processor.specs.Seen.{Rest, whole, world, Changes, looked, written, undone, Step, Peeked}
 use Rattle.processor.specs.Pieces.{landing, land_at, poke_release, yield_slice}
-use Rattle.processor.specs.declared.memory.Step.{Step}
-use Rattle.processor.specs.declared.memory.Step.TheVariants.{Done, Fault}
-use Rattle.processor.specs.declared.memory.Peeked.{Peeked}
-use Rattle.processor.specs.declared.memory.Peeked.TheVariants.{Value, Fault as Refused}
+
+-- what a `?` hands on is the fault itself
+pub fault-passed : {A : Type 0} {k : FaultKind} (r : Answer A FaultKind) → IsErrAnd r (λ e. e ≡ k) → r ≡ Err k
+fault-passed (Ok x) e = absurd e
+fault-passed (Err j) e = ap Err e
 
 -- a word that was looked at is inside the memory
-pub value-inside : (t : Bool) (v old : ℕ) (k : FaultKind) → cond t (Value v) (Refused k) ≡ Value old → (t ≡ true) × (v ≡ old)
+pub value-inside : (t : Bool) (v old : ℕ) (k : FaultKind) → cond t (Ok v) (Err k) ≡ Ok old → (t ≡ true) × (v ≡ old)
 value-inside true v old k e = (refl, cc)
 value-inside false v old k e = (cc, cc)
 
 -- a fault comes of a word outside
-pub fault-outside : (t : Bool) (v : ℕ) (j k : FaultKind) → cond t (Value v) (Refused j) ≡ Refused k → (t ≡ false) × (j ≡ k)
+pub fault-outside : (t : Bool) (v : ℕ) (j k : FaultKind) → cond t (Ok v) (Err j) ≡ Err k → (t ≡ false) × (j ≡ k)
 fault-outside true v j k e = (cc, cc)
 fault-outside false v j k e = (refl, cc)
+
+-- after a fault a word gets back what it held
+pub gives-back : (s : Step) (a old : ℕ) (l : List ℕ) → is_err s ≡ true → set l a old ≡ undone s a old l
+gives-back (Ok r) a old l e = cc
+gives-back (Err k) a old l e = refl
+
+-- else nothing is written
+pub gives-none : (s : Step) (a old : ℕ) (l : List ℕ) → is_err s ≡ false → l ≡ undone s a old l
+gives-none (Ok r) a old l e = refl
+gives-none (Err k) a old l e = cc
+
+-- a word of the machine's is written in the whole memory
+pub set-whole : (l b : List ℕ) (a v : ℕ) → ltb a (length l) ≡ true → set (l ++ b) a v ≡ set l a v ++ b
+set-whole l b a v t = set-append_left l b a v (ltb-true _ _ t)
 
 -- the memory is as it was where a word gets back what it held
 back : (l m : List ℕ) (a v old : ℕ) → get_or l a 0 ≡ old → m ≡ set l a v → set m a old ≡ l
 back l m a v old e k = rw (k, set-set, ← e, set-get_or)
 
-module _ {φ ψ : Rest → Rest} {u : Setup} {size : ℕ} (a v : ℕ) {l : List ℕ} {p : Peeked} (act : Act (Unit {0})) {r : Cpu}
-    (h : memory_size u ≡ size) where
+module _ {φ ψ : Rest → Rest} {u : Setup} (a v : ℕ) {l : List ℕ} {p : Peeked} (act : Act (Unit {0})) {r : Cpu}
+    (h : memory_size u ≡ length l) where
   -- a word is written, then an action, and on its fault the word gets back what it held
   pub undid :
-      {old : ℕ} {m n o : List ℕ} {t : Step} (s : Step) → (p ≡ looked size a l) × (m ≡ written p a v l) → p ≡ Value old
+      {old : ℕ} {m n o : List ℕ} {t : Step} (s : Step) → (p ≡ looked a l) × (m ≡ written p a v l) → p ≡ Ok old
       → Changes φ ψ u act r m s n → (t ≡ s) × (o ≡ undone s a old n) → Changes φ ψ u (do poke a v; act) r l t o
   unfolding poke
-  undid {old} {m} (Done q) (e, w) g d (t, i) =
-      let b = value-inside (ltb a size) (get_or l a 0) old (Word a) (sym e ∙ g) in
+  undid {old} {m} (Ok q) (e, w) g d (t, i) =
+      let b = value-inside (ltb a (length l)) (get_or l a 0) old (Word a) (sym e ∙ g) in
       let k : m ≡ set l a v = rw g at w in
-      rw (t, i) (record { said = λ x. rw (h, b.0, ← k) (d.said x); keeps = tt })
-  undid {old} {m} {n} (Fault f) (e, w) g d (t, i) =
-      let b = value-inside (ltb a size) (get_or l a 0) old (Word a) (sym e ∙ g) in
+      rw (t, i) (record { said = λ x. rw (h, b.0, set-whole l (φ x).behind a v b.0, ← k) (d.said x); keeps = tt })
+  undid {old} {m} {n} (Err f) (e, w) g d (t, i) =
+      let b = value-inside (ltb a (length l)) (get_or l a 0) old (Word a) (sym e ∙ g) in
       let k : m ≡ set l a v = rw g at w in
-      rw (t, i) (record { said = λ x. rw (h, b.0, ← k) (d.said x); keeps = back l n a v old b.1 (d.keeps ∙ k) })
+      rw (t, i)
+      (record {
+        said = λ x. rw (h, b.0, set-whole l (φ x).behind a v b.0, ← k) (d.said x);
+        keeps = back l n a v old b.1 (d.keeps ∙ k);
+      })
 
   -- the word is outside
   pub refused :
-      {k : FaultKind} {m : List ℕ} → (p ≡ looked size a l) × (m ≡ written p a v l) → p ≡ Refused k
-      → Changes φ ψ u (do poke a v; act) r l (Fault k) m
+      {k : FaultKind} {m : List ℕ} → (p ≡ looked a l) × (m ≡ written p a v l) → p ≡ Err k
+      → Changes φ ψ u (do poke a v; act) r l (Err k) m
   unfolding poke
   refused {k} (e, w) g =
-      let b = fault-outside (ltb a size) (get_or l a 0) (Word a) k (sym e ∙ g) in
+      let b = fault-outside (ltb a (length l)) (get_or l a 0) (Word a) k (sym e ∙ g) in
       record { said = λ x. rw (h, b.0, b.1); keeps = rw g at w }
 
 -- an action that comes to another, perhaps with other registers
@@ -72,24 +95,24 @@ like d e = record { said = λ x. e x ∙ d.said x; keeps = d.keeps }
 -- an action that ends the answer
 pub ends :
     {φ ψ : Rest → Rest} {u : Setup} {act : Act (Unit {0})} {r q : Cpu} {l m : List ℕ}
-    → ((x : Rest) → act (world (φ x) u r l) ≡ done tt (world (ψ x) u q m)) → Changes φ ψ u act r l (Done q) m
+    → ((x : Rest) → act (world (φ x) u r l) ≡ done tt (world (ψ x) u q m)) → Changes φ ψ u act r l (Ok q) m
 ends e = record { said = e; keeps = tt }
 
 -- an action that faults
 pub faulty :
     {φ ψ : Rest → Rest} {u : Setup} {act : Act (Unit {0})} {r : Cpu} {l : List ℕ} {k : FaultKind}
-    → ((x : Rest) → act (world (φ x) u r l) ≡ faults k) → Changes φ ψ u act r l (Fault k) l
+    → ((x : Rest) → act (world (φ x) u r l) ≡ faults k) → Changes φ ψ u act r l (Err k) l
 faulty e = record { said = e; keeps = refl }
 
 -- writing a word looks at no registers
 poked :
     (t : Bool) (x : Rest) (u : Setup) (q r : Cpu) (l : List ℕ) (k : FaultKind)
-    → next (cond t (done (tt {0}) (world x u q l)) (faults k)) (λ n. set_registers r) ≡ cond t (done (tt {0}) (world x u r l)) (faults k)
+    → next (cond t (done (tt {0}) (whole x u q l)) (faults k)) (λ n. set_registers r) ≡ cond t (done (tt {0}) (whole x u r l)) (faults k)
 poked true x u q r l k = refl
 poked false x u q r l k = refl
 
 pub poke-registers :
-    (x : Rest) (u : Setup) (q r : Cpu) (l : List ℕ) (a v : ℕ) → (do poke a v; set_registers r) (world x u q l) ≡ poke a v (world x u r l)
+    (x : Rest) (u : Setup) (q r : Cpu) (l : List ℕ) (a v : ℕ) → (do poke a v; set_registers r) (whole x u q l) ≡ poke a v (whole x u r l)
 unfolding poke
 poke-registers x u q r l a v = poked (ltb a (memory_size u)) x u q r (set l a v) (Word a)
 
@@ -107,62 +130,62 @@ pub nothing-after : (q : Result (Unit {0})) → next q (λ n. return tt) ≡ q
 nothing-after (done n s) = refl
 nothing-after (faults k) = refl
 
--- at a world, an action that is picked
-at : (x : Rest) (u : Setup) (r : Cpu) (l : List ℕ) {f g : Act (Unit {0})} → f ≡ g → f (world x u r l) ≡ g (world x u r l)
-at x u r l e = ap (λ f. f (world x u r l)) e
+-- at a whole, an action that is picked
+at : (x : Rest) (u : Setup) (r : Cpu) (l : List ℕ) {f g : Act (Unit {0})} → f ≡ g → f (whole x u r l) ≡ g (whole x u r l)
+at x u r l e = ap (λ f. f (whole x u r l)) e
 
 module _ (x : Rest) (u : Setup) (r : Cpu) (l : List ℕ) where
   -- the processor takes the front of the queue
-  pub release-takes : r.queued ≡ true → release (world x u r l) ≡ take_front (world x u r l)
+  pub release-takes : r.queued ≡ true → release (whole x u r l) ≡ take_front (whole x u r l)
   unfolding release
   release-takes e = at x u r l (pick_true r.queued _ _ e)
 
   -- none is queued
-  pub release-frees : r.queued ≡ false → release (world x u r l) ≡ done tt (world x u (running false r) l)
+  pub release-frees : r.queued ≡ false → release (whole x u r l) ≡ done tt (whole x u (running false r) l)
   unfolding release
   release-frees e = at x u r l (pick-false r.queued _ _ e)
 
   -- a process joins the queue of a busy processor
-  pub join-queues : (w : ℕ) → r.running ≡ true → join w (world x u r l) ≡ enqueue w r (world x u r l)
+  pub join-queues : (w : ℕ) → r.running ≡ true → join w (whole x u r l) ≡ enqueue w r (whole x u r l)
   unfolding join
   join-queues w t = at x u r l (pick_true r.running _ _ t)
 
   -- behind others that are queued
   pub enqueue-behind :
-      (w : ℕ) → r.queued ≡ true → enqueue w r (world x u r l) ≡ poke (link_word r.back) w (world x u (queueing r.front w true r) l)
+      (w : ℕ) → r.queued ≡ true → enqueue w r (whole x u r l) ≡ poke (link_word r.back) w (whole x u (queueing r.front w true r) l)
   unfolding space_of
   enqueue-behind w q =
       at x u r l (pick_true r.queued _ _ q) ∙ poke-registers x u r (queueing r.front w true r) l (link_word r.back) w
 
   -- or as the only one
-  pub enqueue-first : (w : ℕ) → r.queued ≡ false → enqueue w r (world x u r l) ≡ done tt (world x u (queueing w w true r) l)
+  pub enqueue-first : (w : ℕ) → r.queued ≡ false → enqueue w r (whole x u r l) ≡ done tt (whole x u (queueing w w true r) l)
   enqueue-first w q = at x u r l (pick-false r.queued _ _ q)
 
   pub join-behind :
       (w : ℕ) → r.running ≡ true → r.queued ≡ true
-      → join w (world x u r l) ≡ poke (link_word r.back) w (world x u (queueing r.front w true r) l)
+      → join w (whole x u r l) ≡ poke (link_word r.back) w (whole x u (queueing r.front w true r) l)
   join-behind w t q = join-queues w t ∙ enqueue-behind w q
 
   pub join_first :
-      (w : ℕ) → r.running ≡ true → r.queued ≡ false → join w (world x u r l) ≡ done tt (world x u (queueing w w true r) l)
+      (w : ℕ) → r.running ≡ true → r.queued ≡ false → join w (whole x u r l) ≡ done tt (whole x u (queueing w w true r) l)
   join_first w t q = join-queues w t ∙ enqueue-first w q
 
   -- a free processor takes a process at once
   pub join_free :
-      (w : ℕ) → r.running ≡ false → join w (world x u r l) ≡ resume w (world x u (queueing w w false r) l)
+      (w : ℕ) → r.running ≡ false → join w (whole x u r l) ≡ resume w (whole x u (queueing w w false r) l)
   unfolding join
   join_free w t = at x u r l (pick-false r.running _ _ t)
 
   -- an action from outside while a process has the processor
-  pub wakes-running : (act : Act (Unit {0})) → r.running ≡ true → waking act (world x u r l) ≡ act (world x u r l)
+  pub wakes-running : (act : Act (Unit {0})) → r.running ≡ true → waking act (whole x u r l) ≡ act (whole x u r l)
   unfolding waking
   wakes-running act t =
-      ap (λ (f : Act (Unit {0})). next (act (world x u r l)) (λ n. f)) (pick_true r.running _ _ t) ∙ nothing-after _
+      ap (λ (f : Act (Unit {0})). next (act (whole x u r l)) (λ n. f)) (pick_true r.running _ _ t) ∙ nothing-after _
 
   -- and while none has
-  pub wakes-free : (act : Act (Unit {0})) → r.running ≡ false → waking act (world x u r l) ≡ landing act (world x u r l)
+  pub wakes-free : (act : Act (Unit {0})) → r.running ≡ false → waking act (whole x u r l) ≡ landing act (whole x u r l)
   unfolding waking
-  wakes-free act t = ap (λ (f : Act (Unit {0})). next (act (world x u r l)) (λ n. f)) (pick-false r.running _ _ t)
+  wakes-free act t = ap (λ (f : Act (Unit {0})). next (act (whole x u r l)) (λ n. f)) (pick-false r.running _ _ t)
 
 -- actions one after the other, put together from the right
 pub next-next :
@@ -182,7 +205,7 @@ poke-release a v s = simp next-next (ap (λ (f : Act (Unit {0})). (do poke a v; 
 -- the slice is over
 pub jump-yields :
     (x : Rest) (u : Setup) (r : Cpu) (l : List ℕ) (n : ℕ) → ltb r.count u.slice ≡ false
-    → landing (jump n) (world x u r l) ≡ yield_slice (low (r.place + n)) (world x u r l)
+    → landing (jump n) (whole x u r l) ≡ yield_slice (low (r.place + n)) (whole x u r l)
 unfolding jump
 jump-yields x u r l n e =
     rw e (simp next-next)

@@ -1,4 +1,6 @@
 // The processor: the machine's words, its registers, processes, the queue, and held offers (document 01, "The machine").
+// That a process runs, and that its place is in the code, stay clauses: what a function answers may not run, so registers of another type
+// would be made and left again at each call.
 #![tactic(auto)]
 
 mod memory;
@@ -9,7 +11,7 @@ mod registers;
 mod wait;
 
 pub use memory::{
-    Peeked, Step, peek, poke, resume_word, state_word, swap, time_link_word, time_word, undo,
+    Step, peek, poke, resume_word, state_word, swap, time_link_word, time_word, undo,
 };
 pub use offer::held_at;
 pub use outside::{notify_wake, wake};

@@ -1,23 +1,12 @@
-// Words of the machine's memory. `size` is how many there are; the lent memory has at least as many.
-ghost use Rattle.std.specs.Prelude.{◌≡◌, ◌≤◌, length};
+// Words of the machine's memory: the slice is exactly these.
+ghost use Rattle.std.specs.Prelude.{◌≡◌};
 ghost use Rattle.model.specs.Machine.{peek as peek_of, poke as poke_of, resume_word, link_word, state_word, time_link_word, time_word};
 ghost use Rattle.processor.specs.Seen.{Works, Finds, looked, written, undone};
 
 use word::less;
 
 // What a byte came to: the registers after it, or the fault that kept it from beginning.
-#[derive(Clone, Copy)]
-pub enum Step {
-    Done(model::Cpu),
-    Fault(model::FaultKind),
-}
-
-// A word, or the fault.
-#[derive(Clone, Copy)]
-pub enum Peeked {
-    Value(u32),
-    Fault(model::FaultKind),
-}
+pub type Step = Result<model::Cpu, model::FaultKind>;
 
 // The words below a process's workspace pointer W: W - 1, where it goes on.
 pub fn resume_word(w: u32) -> u32
@@ -55,54 +44,48 @@ pub fn time_word(w: u32) -> u32
 }
 
 // A word inside the machine's memory, or the fault with its address.
-pub fn peek(memory: &[u32], size: u64, a: u32) -> Peeked
-    requires { size ≤ length memory.now }
-    ensures { Finds size (peek_of a) memory.now result }
+pub fn peek(memory: &[u32], a: u32) -> Result<u32, model::FaultKind>
+    ensures { Finds (peek_of a) memory.now result }
 {
-    if (a as u64) < size {
-        return Peeked::Value(memory[a as usize]);
+    if (a as usize) < memory.len() {
+        return Ok(memory[a as usize]);
     }
-    Peeked::Fault(model::FaultKind::Word(a))
+    Err(model::FaultKind::Word(a))
 }
 
 // A word is written, and what it held is answered.
-pub fn swap(memory: &mut [u32], size: u64, a: u32, v: u32) -> Peeked
-    requires { size ≤ length memory.old }
-    ensures held { result ≡ looked size a memory.old }
+pub fn swap(memory: &mut [u32], a: u32, v: u32) -> Result<u32, model::FaultKind>
+    ensures held { result ≡ looked a memory.old }
     ensures holds { memory.new ≡ written result a v memory.old }
 {
-    if (a as u64) < size {
+    if (a as usize) < memory.len() {
         let old = memory[a as usize];
         memory[a as usize] = v;
-        return Peeked::Value(old);
+        return Ok(old);
     }
-    Peeked::Fault(model::FaultKind::Word(a))
+    Err(model::FaultKind::Word(a))
 }
 
 // A word is written, and the registers are as given.
-pub fn poke(memory: &mut [u32], size: u64, cpu: model::Cpu, a: u32, v: u32) -> Step
-    requires { size ≤ length memory.old }
-    ensures { Works size (poke_of a v) cpu memory.old result memory.new }
+pub fn poke(memory: &mut [u32], cpu: model::Cpu, a: u32, v: u32) -> Step
+    ensures { Works (poke_of a v) cpu memory.old result memory.new }
 {
-    if (a as u64) < size {
+    if (a as usize) < memory.len() {
         memory[a as usize] = v;
-        return Step::Done(cpu);
+        return Ok(cpu);
     }
-    Step::Fault(model::FaultKind::Word(a))
+    Err(model::FaultKind::Word(a))
 }
 
-// A word gets back what it held where a fault came: a byte that faults changes nothing.
+// A word gets back what it held where a fault came: a byte that faults changes nothing. `swap` and `undo` stay around a rest in three
+// lines, and functions of one word around those of the next: of one function over a closure the caller's proof did not get what the closure
+// does, but by clauses of its own at each of the 17 calls, which is longer.
 pub fn undo(memory: &mut [u32], a: u32, old: u32, step: Step) -> Step
     ensures same { result ≡ step }
     ensures back { memory.new ≡ undone step a old memory.old }
 {
-    match step {
-        Step::Done(r) => Step::Done(r),
-        Step::Fault(k) => {
-            if (a as usize) < memory.len() {
-                memory[a as usize] = old;
-            }
-            Step::Fault(k)
-        }
+    if step.is_err() && (a as usize) < memory.len() {
+        memory[a as usize] = old;
     }
+    step
 }

@@ -11,6 +11,7 @@
 #![tactic(auto)]
 
 use lines::{print, write};
+use show::Standing;
 use std::io::Stdout;
 
 // The instructions after which a program is left.
@@ -21,10 +22,10 @@ const WORDS: usize = model::limits::MEMORY + 4;
 
 const KEPT: u32 = 7;
 
-// How a program stood at last: the kind of the answer, the instructions, and the sum over its memory.
-#[derive(Clone, Copy)]
+// How a program stood at last, the instructions, and the sum over its memory.
+#[derive(Clone, Copy, PartialEq, Eq)]
 struct Finish {
-    kind: u64,
+    standing: Standing,
     total: u64,
     sum: u64,
 }
@@ -37,14 +38,7 @@ fn wrong(out: Stdout, what: &[u8]) {
 
 // Whether all words are as they were lent.
 fn is_kept(words: &[u32]) -> bool {
-    let mut i = 0;
-    while i < words.len() {
-        if words[i] != KEPT {
-            return false;
-        }
-        i += 1;
-    }
-    true
+    words.iter().all(|&word: &u32| word == KEPT)
 }
 
 // The next run's budget: as many instructions as there were, and one; all that are left at the end.
@@ -61,10 +55,11 @@ fn budget(total: u64) -> u64 {
 // Runs of 1, 2, 4, 8 and so on instructions until one is not spent.
 fn run_by_steps(machine: model::Machine, code: &[u8], memory: &mut [u32]) -> show::Course {
     let mut course = show::begin(machine);
-    let mut turns: u64 = 17;
-    while turns > 0 && course.kind == 0 {
+    for _ in 0..17 {
+        if course.standing != Standing::Spent {
+            break;
+        }
         course = show::go_on(course, code, memory, budget(course.total));
-        turns -= 1;
     }
     course
 }
@@ -92,11 +87,11 @@ fn run_to_end(
 ) -> Finish {
     let course = run_in_a_way(machine, code, memory, by_steps);
     let again = show::go_on(course, code, memory, budget(course.total));
-    if again.total != course.total || again.kind != course.kind {
+    if again.total != course.total || again.standing != course.standing {
         wrong(out, b"run after the last");
     }
     Finish {
-        kind: course.kind,
+        standing: course.standing,
         total: course.total,
         sum: show::sum(memory),
     }
@@ -111,13 +106,10 @@ fn start(
     by_steps: bool,
 ) -> Finish {
     let begun = show::start_program(code, memory, facts, model::limits::BENCH_SLICE);
-    let machine = begun.machine;
-    let answer = begun.answer;
-    match answer {
-        model::StartAnswer::Started => {}
-        _ => wrong(out, b"start"),
+    if begun.answer.is_err() {
+        wrong(out, b"start");
     }
-    run_to_end(out, machine, code, memory, by_steps)
+    run_to_end(out, begun.machine, code, memory, by_steps)
 }
 
 // Runs a program in one of the two ways, with more words lent than it needs.
@@ -142,10 +134,10 @@ fn answer_code(out: Stdout, code: &[u8], facts: model::Facts) {
     let steps = execute(out, code, facts, true);
     let single = execute(out, code, facts, false);
     write(out, b" ");
-    show::print_kind(out, steps.kind);
+    lines::show(out, &steps.standing);
     print(out, b" ", steps.total);
     lines::print_word(out, b" sum ", steps.sum);
-    if steps.kind != single.kind || steps.total != single.total || steps.sum != single.sum {
+    if steps != single {
         wrong(out, b"single run");
     }
 }
@@ -154,20 +146,20 @@ fn answer_code(out: Stdout, code: &[u8], facts: model::Facts) {
 fn answer_accepted(out: Stdout, table: &[u8], facts: model::Facts) {
     let mut buffer = [0; model::limits::CODE];
     match compiler::compile_into(table, &mut buffer) {
-        model::Compiled::Code(length) => {
+        Ok(length) => {
             if length <= model::limits::CODE {
-                answer_code(out, &buffer[0..length], facts);
+                answer_code(out, &buffer[..length], facts);
             }
         }
-        model::Compiled::Refused(number, place) => lines::print_refusal(out, number, place),
+        Err(refusal) => lines::show(out, &refusal),
     }
 }
 
 // Answers a table.
 fn answer(out: Stdout, table: &[u8]) {
     match table::read(table) {
-        model::Reading::Accepted(facts) => answer_accepted(out, table, facts),
-        model::Reading::Refused(number, place) => lines::print_refusal(out, number, place),
+        Ok(facts) => answer_accepted(out, table, facts),
+        Err(refusal) => lines::show(out, &refusal),
     }
     write(out, b"\n");
 }
@@ -177,7 +169,7 @@ fn answer_line(out: Stdout, numbers: &[u64]) {
     let mut table = [0; lines::NUMBERS];
     let end = lines::to_bytes(numbers, &mut table);
     if end > 0 {
-        answer(out, &table[0..end]);
+        answer(out, &table[..end]);
     }
 }
 

@@ -2,32 +2,15 @@
 // place. speed/tables.py makes tables for it.
 #![tactic(auto)]
 
-// Reads the table ten times.
-fn read_ten(table: &[u8]) -> model::Reading {
-    table::read(table);
-    table::read(table);
-    table::read(table);
-    table::read(table);
-    table::read(table);
-    table::read(table);
-    table::read(table);
-    table::read(table);
-    table::read(table);
-    table::read(table)
-}
+use model::{Facts, Refusal};
 
 // Reads the table a hundred times.
-fn read_hundred(table: &[u8]) -> model::Reading {
-    read_ten(table);
-    read_ten(table);
-    read_ten(table);
-    read_ten(table);
-    read_ten(table);
-    read_ten(table);
-    read_ten(table);
-    read_ten(table);
-    read_ten(table);
-    read_ten(table)
+fn read_hundred(table: &[u8]) -> Result<Facts, Refusal> {
+    let mut answer = table::read(table);
+    for _ in 1..100 {
+        answer = table::read(table);
+    }
+    answer
 }
 
 // Reads into room for the longest table and one byte more, so that a longer input is refused and not cut off.
@@ -36,8 +19,8 @@ fn main(rt: HostRuntime) {
     let mut table = [0; model::limits::TABLE + 1];
     let n = lines::read_full(rt.stdin(), &mut table);
     match read_hundred(&table[..n]) {
-        model::Reading::Accepted(facts) => lines::print(out, b"words ", facts.words as u64),
-        model::Reading::Refused(number, place) => lines::print_refusal(out, number, place),
+        Ok(facts) => lines::print(out, b"words ", facts.words as u64),
+        Err(refusal) => lines::show(out, &refusal),
     }
     lines::write(out, b"\n");
 }

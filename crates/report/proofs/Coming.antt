@@ -14,10 +14,10 @@ use Rattle.model.specs.Outside.{take as take_from}
 use Rattle.model.specs.Bench.{ascii, hex, took_one, and_takes, takes, bench_budget, bench_clock, on_takes, on_run, rounds}
 use Rattle.model.specs.declared.Machine.{Machine}
 use Rattle.model.specs.declared.Outcome.TheVariants.{Ended, Waiting, Spent, Fault}
-use Rattle.model.specs.declared.RunAnswer.{RunAnswer}
-use Rattle.model.specs.declared.RunAnswer.TheVariants.{Ran, EarlierClock, Short}
-use Rattle.model.specs.declared.TakeAnswer.{TakeAnswer}
-use Rattle.model.specs.declared.TakeAnswer.TheVariants.{Taken, Nothing, Short as TakeShort, Fault as TakeFault, NoChannel}
+use Rattle.model.specs.Answers.{RunAnswer, TakeAnswer}
+use Rattle.std.specs.Prelude.{Err, None, Ok, Some}
+use Rattle.model.specs.declared.RunRefusal.TheVariants.{EarlierClock, Short}
+use Rattle.model.specs.declared.TakeRefusal.TheVariants.{Short as TakeShort, Fault as TakeFault, NoChannel}
 use Rattle.model.proofs.Cases.{by_bool, of-cond, never}
 use Rattle.model.proofs.Laws.Runs.{run-keeps-beyond, take-keeps-beyond}
 use Rattle.report.specs.Texts.{Turned, at, ran_turn, took_turn, turn_of, next_of, rounds_of, text_from, text_of, round_turns, turns_left}
@@ -71,12 +71,12 @@ module _ (prog : List ℕ) (r : Report) (l : List ℕ) where
       → let t = ran_turn r g.machine g.memory a in
       on_run g r.outputs r.total (λ n m2 l2. rounds f prog r.outputs n m2 l2) ≡ t.text ++ text_from prog t.report t.memory
   unfolding text_from
-  front-ran h g (Ran (Ended n)) e = rw e (sym (append-nil _))
-  front-ran {f} h g (Ran (Waiting n)) e = let z : suc f - 1 ≡ f = omega arith in rw (e, h, z, sub-zero)
-  front-ran h g (Ran (Spent n)) e = rw e (sym (append-nil _))
-  front-ran h g (Ran (Fault n k)) e = rw e (sym (append-nil _))
-  front-ran h g EarlierClock e = rw e
-  front-ran h g (Short n) e = rw e
+  front-ran h g (Ok (Ended n)) e = rw e (sym (append-nil _))
+  front-ran {f} h g (Ok (Waiting n)) e = let z : suc f - 1 ≡ f = omega arith in rw (e, h, z, sub-zero)
+  front-ran h g (Ok (Spent n)) e = rw e (sym (append-nil _))
+  front-ran h g (Ok (Fault n k)) e = rw e (sym (append-nil _))
+  front-ran h g (Err EarlierClock) e = rw e
+  front-ran h g (Err (Short n)) e = rw e
 
   -- what a take stands for
   front-took :
@@ -86,16 +86,16 @@ module _ (prog : List ℕ) (r : Report) (l : List ℕ) where
       cond any (b.lines ++ rounds_of prog r b.machine b.memory) (on_takes b r.total (rounds_of prog r))
       ≡ t.text ++ text_from prog t.report t.memory
   unfolding text_from ascii
-  front-took k true g (Taken v) n e h = rw (e, h) (append_assoc (took_one k (Taken v)) _ _)
-  front-took k true g Nothing n e h = rw (e, h)
-  front-took k true g (TakeShort j) n e h = rw (e, h)
-  front-took k true g (TakeFault f) n e h = rw (e, h)
-  front-took k true g NoChannel n e h = rw (e, h)
-  front-took k false g (Taken v) n e h = rw (e, h) (append_assoc (took_one k (Taken v)) _ _)
-  front-took k false g Nothing n e h = rw (e, h)
-  front-took k false g (TakeShort j) n e h = rw (e, h)
-  front-took k false g (TakeFault f) n e h = rw (e, h)
-  front-took k false g NoChannel n e h = rw (e, h)
+  front-took k true g (Ok (Some v)) n e h = rw (e, h) (append_assoc (took_one k (Ok (Some v))) _ _)
+  front-took k true g (Ok None) n e h = rw (e, h)
+  front-took k true g (Err (TakeShort j)) n e h = rw (e, h)
+  front-took k true g (Err (TakeFault f)) n e h = rw (e, h)
+  front-took k true g (Err NoChannel) n e h = rw (e, h)
+  front-took k false g (Ok (Some v)) n e h = rw (e, h) (append_assoc (took_one k (Ok (Some v))) _ _)
+  front-took k false g (Ok None) n e h = rw (e, h)
+  front-took k false g (Err (TakeShort j)) n e h = rw (e, h)
+  front-took k false g (Err (TakeFault f)) n e h = rw (e, h)
+  front-took k false g (Err NoChannel) n e h = rw (e, h)
 
   front-past : (k : ℕ) (any : Bool) → r.stage ≡ Taking k any → r.outputs ≤ k → Front prog r l (turn_of prog r l)
   unfolding text_from turn_of takes
@@ -152,12 +152,12 @@ Kept r l t = (t.report.size ≡ r.size) × (t.report.words ≡ r.words) × (leng
 
 module _ (r : Report) (l : List ℕ) (m : Machine) (k : List ℕ) (e : length k ≡ length l) where
   ran-kept : (a : RunAnswer) → Kept r l (ran_turn r m k a)
-  ran-kept (Ran (Ended n)) = (refl, refl, e)
-  ran-kept (Ran (Waiting n)) = (refl, refl, e)
-  ran-kept (Ran (Spent n)) = (refl, refl, e)
-  ran-kept (Ran (Fault n f)) = (refl, refl, e)
-  ran-kept EarlierClock = (refl, refl, e)
-  ran-kept (Short n) = (refl, refl, e)
+  ran-kept (Ok (Ended n)) = (refl, refl, e)
+  ran-kept (Ok (Waiting n)) = (refl, refl, e)
+  ran-kept (Ok (Spent n)) = (refl, refl, e)
+  ran-kept (Ok (Fault n f)) = (refl, refl, e)
+  ran-kept (Err EarlierClock) = (refl, refl, e)
+  ran-kept (Err (Short n)) = (refl, refl, e)
 
 module _ (prog : List ℕ) (r : Report) (l : List ℕ) where
   turn-kept : (s : Stage) → r.stage ≡ s → Kept r l (turn_of prog r l)
@@ -207,12 +207,12 @@ Fewer r t = t.more ≡ true → turns_left t.report < turns_left r
 
 module _ (r : Report) (e : r.stage ≡ Running) (f : ℕ) (h : r.left ≡ suc f) (m : Machine) (k : List ℕ) where
   ran-fewer : (a : RunAnswer) → Fewer r (ran_turn r m k a)
-  ran-fewer (Ran (Ended n)) i = rw e (omega arith)
-  ran-fewer (Ran (Waiting n)) i = rw (e, round-less r.outputs f h) (omega arith)
-  ran-fewer (Ran (Spent n)) i = rw e (omega arith)
-  ran-fewer (Ran (Fault n j)) i = rw e (omega arith)
-  ran-fewer EarlierClock i = rw e (omega arith)
-  ran-fewer (Short n) i = rw e (omega arith)
+  ran-fewer (Ok (Ended n)) i = rw e (omega arith)
+  ran-fewer (Ok (Waiting n)) i = rw (e, round-less r.outputs f h) (omega arith)
+  ran-fewer (Ok (Spent n)) i = rw e (omega arith)
+  ran-fewer (Ok (Fault n j)) i = rw e (omega arith)
+  ran-fewer (Err EarlierClock) i = rw e (omega arith)
+  ran-fewer (Err (Short n)) i = rw e (omega arith)
 
 module _ (prog : List ℕ) (r : Report) (l : List ℕ) (long : length prog ≡ r.size) where
   running-fewer : (n : ℕ) → r.left ≡ n → r.stage ≡ Running → Fewer r (turn_of prog r l)
@@ -250,12 +250,12 @@ shorter code r l =
 
 -- every run's turn says that there may be more
 ran-more : (r : Report) (m : Machine) (k : List ℕ) (a : RunAnswer) → (ran_turn r m k a).more ≡ true
-ran-more r m k (Ran (Ended n)) = refl
-ran-more r m k (Ran (Waiting n)) = refl
-ran-more r m k (Ran (Spent n)) = refl
-ran-more r m k (Ran (Fault n j)) = refl
-ran-more r m k EarlierClock = refl
-ran-more r m k (Short n) = refl
+ran-more r m k (Ok (Ended n)) = refl
+ran-more r m k (Ok (Waiting n)) = refl
+ran-more r m k (Ok (Spent n)) = refl
+ran-more r m k (Ok (Fault n j)) = refl
+ran-more r m k (Err EarlierClock) = refl
+ran-more r m k (Err (Short n)) = refl
 
 module _ (prog : List ℕ) (r : Report) (l : List ℕ) where
   turn_last : (s : Stage) → r.stage ≡ s → (turn_of prog r l).more ≡ false → text_from prog r l ≡ []

@@ -14,8 +14,10 @@ use Rattle.model.specs.Code.{Compilation, compiled, refused, compile, compiled_a
 use Rattle.model.specs.Run.{start}
 use Rattle.model.specs.Bench.{bench_slice, bench}
 use Rattle.model.specs.declared.Facts.{Facts}
-use Rattle.model.specs.declared.Reading.TheVariants.{Accepted}
-use Rattle.model.specs.declared.Compiled.TheVariants.{Code, Refused}
+use Rattle.std.specs.Prelude.{Ok, Err}
+use Rattle.model.specs.Answers.{refused_for}
+use Rattle.model.specs.declared.Refusal.{Refusal}
+use Rattle.model.specs.declared.Reason.TheVariants.{Short}
 use Rattle.model.proofs.Cases.{never}
 use Rattle.model.proofs.Tables.Accepts.{accept-reads, compile-accepts}
 use Rattle.model.proofs.Tables.Readers.{read-well}
@@ -76,8 +78,8 @@ module _ (table code l : List ℕ) (h : code_limit ≤ length code) (k : word_li
 
 -- an accepted table that was compiled fits the memory
 pub facts-fit :
-    (table : List ℕ) (f : Facts) {n : ℕ} (x : Compilation) → compile table code_limit ≡ x → compiled_answer x ≡ Code n
-    → answer_of (accept table) ≡ Accepted f → (f.inputs + f.outputs ≤ f.words) × (f.words ≤ word_limit)
+    (table : List ℕ) (f : Facts) {n : ℕ} (x : Compilation) → compile table code_limit ≡ x → compiled_answer x ≡ Ok n
+    → answer_of (accept table) ≡ Ok f → (f.inputs + f.outputs ≤ f.words) × (f.words ≤ word_limit)
 facts-fit table f (refused k r) e c q = never (cc)
 facts-fit table f (compiled p bytes) e c q =
     let a = compile-accepts table code_limit p bytes e in
@@ -93,7 +95,7 @@ module _ (table code l : List ℕ) (h : code_limit ≤ length code) (k : word_li
   open-goes = rw (le-ltb _ _ h, le-ltb _ _ k)
 
   coded :
-      {c : List ℕ} {n : ℕ} {r : Report} {m : List ℕ} (x : Compilation) → compile table code_limit ≡ x → compiled_answer x ≡ Code n
+      {c : List ℕ} {n : ℕ} {r : Report} {m : List ℕ} (x : Compilation) → compile table code_limit ≡ x → compiled_answer x ≡ Ok n
       → c ≡ filled x code → Begins (loaded (accept table) (take n c) l) r m
       → Opens (opened_by x code l) r c m
   coded (refused j r) e q d b = never (cc)
@@ -105,42 +107,42 @@ module _ (table code l : List ℕ) (h : code_limit ≤ length code) (k : word_li
       record { report = g.report; code = d; memory = g.memory }
 
   not-coded :
-      {c : List ℕ} {n p : ℕ} (x : Compilation) → compiled_answer x ≡ Refused n p → c ≡ filled x code
-      → Opens (opened_by x code l) (refusing n p) c l
+      {c : List ℕ} {e : Refusal} (x : Compilation) → compiled_answer x ≡ Err e → c ≡ filled x code
+      → Opens (opened_by x code l) (refusing e) c l
   not-coded (compiled j bytes) q d = never (cc)
-  not-coded {n = n} {p = p} (refused j r) q d =
-      let a : j ≡ n = cc in
-      let b : r ≡ p = cc in
-      record { report = rw (a, b); code = d ∙ take-append-drop code_limit code; memory = refl }
+  not-coded {e = e} (refused j r) q d =
+      let a : refused_for j r ≡ e = cc in
+      record { report = rw (← a); code = d ∙ take-append-drop code_limit code; memory = refl }
 
   -- a compiled table is started
   pub opens-coded :
-      {c : List ℕ} {n : ℕ} {r : Report} {m : List ℕ} → compiled_answer (compile table code_limit) ≡ Code n
+      {c : List ℕ} {n : ℕ} {r : Report} {m : List ℕ} → compiled_answer (compile table code_limit) ≡ Ok n
       → c ≡ filled (compile table code_limit) code → Begins (loaded (accept table) (take n c) l) r m
       → Opens (open_of table code l) r c m
   opens-coded q d b = rw open-goes (coded (compile table code_limit) refl q d b)
 
   -- or refused
   pub opens-refused :
-      {c : List ℕ} {n p : ℕ} → compiled_answer (compile table code_limit) ≡ Refused n p
-      → c ≡ filled (compile table code_limit) code → Opens (open_of table code l) (refusing n p) c l
+      {c : List ℕ} {e : Refusal} → compiled_answer (compile table code_limit) ≡ Err e
+      → c ≡ filled (compile table code_limit) code → Opens (open_of table code l) (refusing e) c l
   opens-refused q d = rw open-goes (not-coded (compile table code_limit) q d)
 
 -- the code buffer is too short
-pub open-short : (table code l : List ℕ) → length code < code_limit → Opens (open_of table code l) (refusing 11 code_limit) code l
+pub open-short : (table code l : List ℕ) → length code < code_limit
+    → Opens (open_of table code l) (refusing (refused_for Short code_limit)) code l
 unfolding open_of
 open-short table code l h = rw (lt-ltb _ _ h) (record { report = refl; code = refl; memory = refl })
 
 -- the memory is too short
 pub open-small :
     (table code l : List ℕ) → code_limit ≤ length code → length l < word_limit
-    → Opens (open_of table code l) (refusing 11 word_limit) code l
+    → Opens (open_of table code l) (refusing (refused_for Short word_limit)) code l
 unfolding open_of
 open-small table code l h k = rw (le-ltb _ _ h, lt-ltb _ _ k) (record { report = refl; code = refl; memory = refl })
 
 -- the code is inside its buffer
 pub size_fits :
-    {n : ℕ} {c : List ℕ} (l k : List ℕ) (x : Compilation) → compiled_answer x ≡ Code n → c ≡ buffer_after x l ++ k → n ≤ length c
+    {n : ℕ} {c : List ℕ} (l k : List ℕ) (x : Compilation) → compiled_answer x ≡ Ok n → c ≡ buffer_after x l ++ k → n ≤ length c
 size_fits l k (refused j r) q d = never (cc)
 size_fits {n} l k (compiled p bytes) q d =
     let z : length bytes ≡ n = cc in

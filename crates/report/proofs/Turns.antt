@@ -8,20 +8,16 @@ use mathlib.Core.List.{List, [], ◌∷◌, ◌++◌}
 use lib.ListN.{length, take, drop, get_or}
 use lib.Dec.{ltb}
 use borrow.Author.Tests.{ltb-false, lt-ltb, le-ltb, eq-eqb, ne_eqb}
-use Rattle.model.specs.Answers.{instructions_of}
+use Rattle.model.specs.Answers.{instructions_of, KeptFault, RunAnswer, TakeAnswer}
 use Rattle.model.specs.Run.{short_memory, earlier_clock, run}
 use Rattle.model.specs.Laws.{Took, Began, begun, not-begun}
 use Rattle.model.specs.Outside.{take as take_from}
 use Rattle.model.specs.Bench.{ascii, hex, newline, line, refused_line, took_one, bench_budget, bench_clock}
 use Rattle.model.specs.Machine.{World}
 use Rattle.model.specs.declared.Machine.{Machine}
-use Rattle.model.specs.declared.Kept.{Kept}
-use Rattle.model.specs.declared.Kept.TheVariants.{Nothing, Fault as KeptFault}
+use Rattle.std.specs.Prelude.{None, Ok, Some}
 use Rattle.model.specs.declared.Outcome.{Outcome}
 use Rattle.model.specs.declared.Outcome.TheVariants.{Ended, Waiting, Spent, Fault}
-use Rattle.model.specs.declared.RunAnswer.{RunAnswer}
-use Rattle.model.specs.declared.RunAnswer.TheVariants.{Ran}
-use Rattle.model.specs.declared.TakeAnswer.{TakeAnswer}
 use Rattle.model.proofs.Cases.{by_bool, never}
 use Rattle.model.proofs.Laws.Runs.{run-counts}
 use Rattle.report.specs.Texts.{text_in, Turned, at, taking, says, ran_turn, gave, took_turn, turn_of, next_of, text_of, turns_left, Gives}
@@ -121,11 +117,11 @@ began-within : (code : List ℕ) (b c : ℕ) (s t : World) (o : Outcome) → Beg
 began-within code b c s t o (begun u e h) = took-within code b u t o h
 began-within code b c s t o (not-begun k e h) = omega arith
 
-module _ (m : Machine) (code l : List ℕ) (b c : ℕ) (o : Outcome) (e : (run m code l b c).answer ≡ Ran o) where
-  kept-within : (k : Kept) → m.fault ≡ k → instructions_of o ≤ b
+module _ (m : Machine) (code l : List ℕ) (b c : ℕ) (o : Outcome) (e : (run m code l b c).answer ≡ Ok o) where
+  kept-within : (k : KeptFault) → m.fault ≡ k → instructions_of o ≤ b
   unfolding run
-  kept-within Nothing f = began-within code b c _ _ o (run-counts m code l b c o f e)
-  kept-within (KeptFault k) f =
+  kept-within None f = began-within code b c _ _ o (run-counts m code l b c o f e)
+  kept-within (Some k) f =
       by_bool (earlier_clock m c) (λ w. never (cc (rw w at e)))
       (λ w. by_bool (ltb (length code) m.setup.code) (λ s. never (cc (rw (w, s) at e)))
       (λ s. by_bool (short_memory m l) (λ t. never (cc (rw (w, s, t) at e)))

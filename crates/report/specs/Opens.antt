@@ -1,5 +1,5 @@
 -- The beginning of the bench program's text: the table is compiled and started, or refused.
-use Rattle.std.specs.Prelude.{ℕ, ◌+◌, ◌-◌, ◌≡◌, cond, List, ◌++◌, length, take, drop, ltb}
+use Rattle.std.specs.Prelude.{ℕ, ◌+◌, ◌-◌, ◌≡◌, cond, List, ◌++◌, length, take, drop, ltb, Result, Ok, Err}
 use Rattle.model.specs.Limits.{code_limit, word_limit}
 use Rattle.model.specs.Reader.{Read, program}
 use Rattle.model.specs.Accept.{answer_of}
@@ -7,14 +7,16 @@ use Rattle.model.specs.Code.{Compilation, compiled, refused, compile, buffer_aft
 use Rattle.model.specs.Run.{start, blank}
 use Rattle.model.specs.Bench.{bench_budget, bench_slice}
 use Rattle.model.specs.declared.Facts.{Facts}
-use Rattle.model.specs.declared.Reading.{Reading}
-use Rattle.model.specs.declared.Reading.TheVariants.{Accepted, Refused as NotRead}
+use Rattle.model.specs.Answers.{refused_for, reason_number}
+use Rattle.model.specs.declared.Refusal.{Refusal}
+use Rattle.model.specs.declared.Reason.TheVariants.{Short}
 use Rattle.report.specs.declared.stage.Stage.TheVariants.{Bytes, Refused}
 use Rattle.report.specs.declared.stage.Report.{Report}
 
 -- a report of a refusal
-abbrev pub refusing : (number place : ℕ) → Report
-refusing n p = record { machine = blank; stage = Refused n p; total = 0; left = 0; outputs = 0; size = 0; words = 0 }
+abbrev pub refusing : Refusal → Report
+refusing e =
+    record { machine = blank; stage = Refused (reason_number e.reason) e.returned; total = 0; left = 0; outputs = 0; size = 0; words = 0 }
 
 -- a report, and the memory after it was begun
 pub record Begun : Type 0 where
@@ -39,9 +41,9 @@ begun_by f bytes l =
     }
 
 -- by what reading answered
-abbrev pub begun_on : Reading → (bytes memory : List ℕ) → Begun
-begun_on (Accepted f) bytes l = begun_by f bytes l
-begun_on (NotRead n p) bytes l = record { report = refusing n p; memory = l }
+abbrev pub begun_on : Result Facts Refusal → (bytes memory : List ℕ) → Begun
+begun_on (Ok f) bytes l = begun_by f bytes l
+begun_on (Err e) bytes l = record { report = refusing e; memory = l }
 
 abbrev pub loaded : Read → (bytes memory : List ℕ) → Begun
 loaded r bytes l = begun_on (answer_of r) bytes l
@@ -66,13 +68,13 @@ abbrev pub opened_by : Compilation → (code memory : List ℕ) → Opened
 opened_by (compiled p bytes) code l =
     let b = loaded (program p) bytes l in
     record { report = b.report; code = filled (compiled p bytes) code; memory = b.memory }
-opened_by (refused n r) code l = record { report = refusing n r; code = code; memory = l }
+opened_by (refused why r) code l = record { report = refusing (refused_for why r); code = code; memory = l }
 
 -- the compiler's buffer is as long as the longest code; shorter buffers get 11, code tested before memory
 unfoldable pub open_of : (table code memory : List ℕ) → Opened
 open_of table code l =
-    cond (ltb (length code) code_limit) (record { report = refusing 11 code_limit; code = code; memory = l })
-    (cond (ltb (length l) word_limit) (record { report = refusing 11 word_limit; code = code; memory = l })
+    cond (ltb (length code) code_limit) (record { report = refusing (refused_for Short code_limit); code = code; memory = l })
+    (cond (ltb (length l) word_limit) (record { report = refusing (refused_for Short word_limit); code = code; memory = l })
     (opened_by (compile table code_limit) code l))
 
 -- a report and both buffers are as defined

@@ -1,6 +1,6 @@
 -- The bench program's text by its pieces: what each turn gives, and what is still to come.
 use Rattle.std.specs.Prelude.{ℕ, suc, ◌+◌, ◌-◌, ◌*◌, ◌≡◌, Bool, true, false, cond, ◌||◌, List, [], ◌∷◌, ◌++◌, length, take, drop, get_or}
-use Rattle.std.specs.Prelude.{ltb, eqb}
+use Rattle.std.specs.Prelude.{ltb, eqb, Err, None, Ok, Some}
 use Rattle.model.specs.Run.{run}
 use Rattle.model.specs.Outside.{take as take_from}
 use Rattle.model.specs.Word.{signed}
@@ -10,10 +10,7 @@ use Rattle.model.specs.Bench.{on_takes, rounds}
 use Rattle.model.specs.declared.Machine.{Machine}
 use Rattle.model.specs.declared.Outcome.{Outcome}
 use Rattle.model.specs.declared.Outcome.TheVariants.{Ended, Waiting, Spent, Fault}
-use Rattle.model.specs.declared.RunAnswer.{RunAnswer}
-use Rattle.model.specs.declared.RunAnswer.TheVariants.{Ran, EarlierClock, Short}
-use Rattle.model.specs.declared.TakeAnswer.{TakeAnswer}
-use Rattle.model.specs.declared.TakeAnswer.TheVariants.{Taken, Nothing, Short as TakeShort, Fault as TakeFault, NoChannel}
+use Rattle.model.specs.Answers.{RunAnswer, TakeAnswer}
 use Rattle.report.specs.declared.piece.Piece.{Piece}
 use Rattle.report.specs.declared.stage.Stage.{Stage}
 use Rattle.report.specs.declared.stage.Stage.TheVariants.{Bytes, Words, Head, Code, Running, Taking, Refused, Done}
@@ -91,17 +88,14 @@ stood_turn r m l (Spent n) = says (after m n Done r) (line "spent " (r.total + n
 stood_turn r m l (Fault n k) = says (after m n Done r) (line "fault " (r.total + n)) l
 
 abbrev pub ran_turn : Report → Machine → (memory : List ℕ) → RunAnswer → Turned
-ran_turn r m l (Ran o) = stood_turn r m l o
-ran_turn r m l EarlierClock = says (after m 0 Done r) [] l
-ran_turn r m l (Short n) = says (after m 0 Done r) [] l
+ran_turn r m l (Ok o) = stood_turn r m l o
+ran_turn r m l (Err e) = says (after m 0 Done r) [] l
 
 -- whether a take gave a value, or one before it did
 abbrev pub gave : Bool → TakeAnswer → Bool
-gave any (Taken v) = true
-gave any Nothing = any
-gave any (TakeShort n) = any
-gave any (TakeFault f) = any
-gave any NoChannel = any
+gave any (Ok (Some v)) = true
+gave any (Ok None) = any
+gave any (Err e) = any
 
 -- a take: its line, if it had a sender
 abbrev pub took_turn : Report → ℕ → Bool → Machine → (memory : List ℕ) → TakeAnswer → Turned

@@ -1,26 +1,25 @@
 // The text's beginning: a table is compiled and started.
-ghost use Rattle.std.specs.Prelude.{◌≡◌, ◌+◌, ◌≤◌, length, take};
+ghost use Rattle.std.specs.Prelude.{◌≡◌, ◌+◌, ◌≤◌, length, take, Ok};
 ghost use Rattle.model.specs.Limits.{code_limit, word_limit};
 ghost use Rattle.model.specs.Accept.{accept};
 ghost use Rattle.model.specs.Code.{compile, compiled_answer};
 ghost use Rattle.model.specs.Bench.{bench};
-ghost use Rattle.model.specs.declared.Compiled.TheVariants.{Code};
 ghost use Rattle.report.specs.Texts.{text_of};
 ghost use Rattle.report.specs.Opens.{refusing as refusing_for, Begins, begun_by, loaded, Opens, open_of};
 
 use crate::stage::{Report, Stage};
+use model::{Reason, Refusal};
 
 // Two rounds more than there are instructions, as in the definition (specs/Bench.antt `bench`).
 const ROUNDS: u32 = model::limits::BENCH_BUDGET as u32 + 2;
 
 // A report of a refusal.
-fn refusing(number: u32, place: usize) -> Report
-    ensures { result ≡ refusing_for number place }
+fn refusing(refusal: Refusal) -> Report
+    ensures { result ≡ refusing_for refusal }
 {
-    let machine = machine::blank();
     Report {
-        machine: machine,
-        stage: Stage::Refused(number, place),
+        machine: machine::blank(),
+        stage: Stage::Refused(refusal.reason.number(), refusal.returned),
         total: 0,
         left: 0,
         outputs: 0,
@@ -44,27 +43,26 @@ fn begin(facts: model::Facts, code: &[u8], memory: &mut [u32]) -> Report
         facts.outputs,
         model::limits::BENCH_SLICE,
     );
-    let machine = begun.machine;
     Report {
-        machine: machine,
+        machine: begun.machine,
         stage: Stage::Bytes,
         total: 0,
         left: ROUNDS,
         outputs: facts.outputs,
         size: code.len(),
-        words: words,
+        words,
     }
 }
 
 // A compiled table is started.
 fn load(table: &[u8], code: &[u8], size: usize, memory: &mut [u32]) -> Report
     requires size_in_bounds { (size ≤ length code.now) × (word_limit ≤ length memory.old) }
-    requires code_limit_value { compiled_answer (compile table.now code_limit) ≡ Code size }
+    requires code_limit_value { compiled_answer (compile table.now code_limit) ≡ Ok size }
     ensures { Begins (loaded (accept table.now) (take size code.now) memory.old) result memory.new }
 {
     match table::read(table) {
-        model::Reading::Accepted(facts) => begin(facts, &code[..size], memory),
-        model::Reading::Refused(number, place) => refusing(number, place),
+        Ok(facts) => begin(facts, &code[..size], memory),
+        Err(unread) => refusing(unread),
     }
 }
 
@@ -76,13 +74,13 @@ pub fn open(table: &[u8], code: &mut [u8], memory: &mut [u32]) -> Report
         → text_of code.new result memory.new ≡ bench table.now }
 {
     if code.len() < model::limits::CODE {
-        return refusing(11, model::limits::CODE);
+        return refusing(Reason::Short.at(model::limits::CODE));
     }
     if memory.len() < model::limits::MEMORY {
-        return refusing(11, model::limits::MEMORY);
+        return refusing(Reason::Short.at(model::limits::MEMORY));
     }
     match compiler::compile_into(table, &mut code[..model::limits::CODE]) {
-        model::Compiled::Code(size) => load(table, &*code, size, memory),
-        model::Compiled::Refused(number, place) => refusing(number, place),
+        Ok(size) => load(table, &*code, size, memory),
+        Err(refusal) => refusing(refusal),
     }
 }

@@ -3,7 +3,7 @@ ghost use Rattle.std.specs.Prelude.{◌≡◌};
 ghost use Rattle.report.specs.Texts.{at as standing};
 
 // What comes next: a line of the head, a byte of the code, a run, a take from an output (and whether one before it in the round gave a
-// value), a refusal, or nothing.
+// value), a refusal, or nothing. A refusal stays a number and a place: `next` takes a report with any.
 #[derive(Clone, Copy)]
 pub enum Stage {
     Bytes,
@@ -28,18 +28,11 @@ pub struct Report {
     pub words: usize,
 }
 
-// The same at another stage.
-pub fn at(report: Report, stage: Stage) -> Report
-    ensures { result ≡ standing stage report }
-{
-    let machine = report.machine;
-    Report {
-        machine: machine,
-        stage: stage,
-        total: report.total,
-        left: report.left,
-        outputs: report.outputs,
-        size: report.size,
-        words: report.words,
+impl Report {
+    // The same at another stage.
+    pub(crate) fn at(self, stage: Stage) -> Report
+        ensures { result ≡ standing stage self }
+    {
+        Report { stage, ..self }
     }
 }

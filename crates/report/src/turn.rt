@@ -6,10 +6,12 @@ ghost use Rattle.report.specs.declared.stage.Stage.TheVariants.{Running, Taking,
 ghost use Rattle.report.specs.Texts.{text_in, at as standing, after, taking, Gives, says, stood_turn, turn_of, next_of, text_of};
 ghost use Rattle.report.specs.Texts.{turns_left, gave};
 
-use crate::piece::{Piece, code_byte, line, nothing, out_line, push, push_text, refused_line};
-use crate::stage::{Report, Stage, at};
+use crate::piece::Piece;
+use crate::stage::{Report, Stage};
+use model::{Outcome, TakeAnswer};
 
-// A piece of the text, the report after it, and whether there may be more.
+// A piece of the text, the report after it, and whether there may be more. Stays a flag: `next` promises the report after the last turn too
+// (clause `turn`), which an Option would not hand out.
 #[derive(Clone, Copy)]
 pub struct Turn {
     pub report: Report,
@@ -22,8 +24,8 @@ fn say(report: Report, stage: Stage, piece: Piece) -> Turn
     ensures { (l : List ℕ) → Gives (says (standing stage report) (text_in piece) l) result l }
 {
     Turn {
-        report: at(report, stage),
-        piece: piece,
+        report: report.at(stage),
+        piece,
         more: true,
     }
 }
@@ -34,13 +36,11 @@ fn after_run(report: Report, machine: model::Machine, n: u64, stage: Stage) -> R
     ensures { result ≡ after machine n stage report }
 {
     Report {
-        machine: machine,
-        stage: stage,
+        machine,
+        stage,
         total: report.total + n,
         left: report.left - 1,
-        outputs: report.outputs,
-        size: report.size,
-        words: report.words,
+        ..report
     }
 }
 
@@ -52,25 +52,25 @@ fn finish(report: Report, machine: model::Machine, n: u64, name: &[u8]) -> Turn
 {
     Turn {
         report: after_run(report, machine, n, Stage::Done),
-        piece: line(name, report.total + n),
+        piece: Piece::line(name, report.total + n),
         more: true,
     }
 }
 
 // How a run stood: the last line, or the takes come.
-fn stand(report: Report, machine: model::Machine, outcome: model::Outcome) -> Turn
+fn stand(report: Report, machine: model::Machine, outcome: Outcome) -> Turn
     requires { (report.total + instructions_of outcome < 18446744073709551616) × (1 ≤ report.left) }
     ensures { (l : List ℕ) → Gives (stood_turn report machine l outcome) result l }
 {
     match outcome {
-        model::Outcome::Ended(n) => finish(report, machine, n, b"ended "),
-        model::Outcome::Waiting(n) => Turn {
+        Outcome::Ended(n) => finish(report, machine, n, b"ended "),
+        Outcome::Waiting(n) => Turn {
             report: after_run(report, machine, n, Stage::Taking(0, false)),
-            piece: nothing(),
+            piece: Piece::nothing(),
             more: true,
         },
-        model::Outcome::Spent(n) => finish(report, machine, n, b"spent "),
-        model::Outcome::Fault(n, k) => finish(report, machine, n, b"fault "),
+        Outcome::Spent(n) => finish(report, machine, n, b"spent "),
+        Outcome::Fault(n, _) => finish(report, machine, n, b"fault "),
     }
 }
 
@@ -91,7 +91,7 @@ fn not_run(report: Report, machine: model::Machine) -> Turn
 {
     Turn {
         report: after_run(report, machine, 0, Stage::Done),
-        piece: nothing(),
+        piece: Piece::nothing(),
         more: true,
     }
 }
@@ -102,22 +102,18 @@ fn run_turn(report: Report, code: &[u8], memory: &mut [u32]) -> Turn
     ensures { Gives (turn_of code.now report memory.old) result memory.new }
 {
     if report.left == 0 {
-        return say(report, Stage::Done, nothing());
+        return say(report, Stage::Done, Piece::nothing());
     }
-    let before = report.machine;
     let ran = machine::run(
-        before,
+        report.machine,
         code,
         memory,
         budget(report.total),
         model::limits::BENCH_CLOCK,
     );
-    let machine = ran.machine;
-    let answer = ran.answer;
-    match answer {
-        model::RunAnswer::Ran(outcome) => stand(report, machine, outcome),
-        model::RunAnswer::EarlierClock => not_run(report, machine),
-        model::RunAnswer::Short(n) => not_run(report, machine),
+    match ran.answer {
+        Ok(outcome) => stand(report, ran.machine, outcome),
+        Err(_) => not_run(report, ran.machine),
     }
 }
 
@@ -126,40 +122,27 @@ fn after_take(report: Report, machine: model::Machine, stage: Stage) -> Report
     ensures { result ≡ taking machine stage report }
 {
     Report {
-        machine: machine,
-        stage: stage,
-        total: report.total,
-        left: report.left,
-        outputs: report.outputs,
-        size: report.size,
-        words: report.words,
+        machine,
+        stage,
+        ..report
     }
 }
 
 // A take's line, if it gave a value.
-fn take_piece(k: u32, answer: model::TakeAnswer) -> Piece
+fn take_piece(k: u32, answer: TakeAnswer) -> Piece
     ensures { text_in result ≡ took_one k answer }
 {
     match answer {
-        model::TakeAnswer::Taken(v) => out_line(k, v),
-        model::TakeAnswer::Nothing => nothing(),
-        model::TakeAnswer::Short(n) => nothing(),
-        model::TakeAnswer::Fault(f) => nothing(),
-        model::TakeAnswer::NoChannel => nothing(),
+        Ok(Some(v)) => Piece::out_line(k, v),
+        Ok(None) | Err(_) => Piece::nothing(),
     }
 }
 
 // Whether a take gave a value, or one before it did.
-fn gives(any: bool, answer: model::TakeAnswer) -> bool
+fn gives(any: bool, answer: TakeAnswer) -> bool
     ensures { result ≡ gave any answer }
 {
-    match answer {
-        model::TakeAnswer::Taken(v) => true,
-        model::TakeAnswer::Nothing => any,
-        model::TakeAnswer::Short(n) => any,
-        model::TakeAnswer::Fault(f) => any,
-        model::TakeAnswer::NoChannel => any,
-    }
+    matches!(answer, Ok(Some(_))) || any
 }
 
 // A take from an output; behind the last one a run comes, or, where none gave a value, the end.
@@ -168,21 +151,18 @@ fn take_turn(report: Report, memory: &mut [u32], k: u32, any: bool) -> Turn
     ensures { (prog : List ℕ) → Gives (turn_of prog report memory.old) result memory.new }
 {
     if k < report.outputs {
-        let before = report.machine;
-        let took = machine::take(before, memory, k);
-        let machine = took.machine;
-        let answer = took.answer;
-        let stage = Stage::Taking(k + 1, gives(any, answer));
+        let took = machine::take(report.machine, memory, k);
+        let stage = Stage::Taking(k + 1, gives(any, took.answer));
         return Turn {
-            report: after_take(report, machine, stage),
-            piece: take_piece(k, answer),
+            report: after_take(report, took.machine, stage),
+            piece: take_piece(k, took.answer),
             more: true,
         };
     }
     if any {
-        return say(report, Stage::Running, nothing());
+        return say(report, Stage::Running, Piece::nothing());
     }
-    say(report, Stage::Done, line(b"waiting ", report.total))
+    say(report, Stage::Done, Piece::line(b"waiting ", report.total))
 }
 
 // A byte of the code, or the end of its line.
@@ -191,27 +171,34 @@ fn code_turn(report: Report, code: &[u8], i: usize) -> Turn
     ensures { (l : List ℕ) → Gives (turn_of code.now report l) result l }
 {
     if i < code.len() {
-        return say(report, Stage::Code(i + 1), code_byte(code[i]));
+        return say(report, Stage::Code(i + 1), Piece::code_byte(code[i]));
     }
-    say(report, Stage::Running, push(nothing(), 10))
+    say(report, Stage::Running, Piece::nothing().push(10))
 }
 
 // A turn over the code and the machine's memory.
 fn advance(report: Report, code: &[u8], memory: &mut [u32]) -> Turn
     ensures { Gives (turn_of code.now report memory.old) result memory.new }
 {
-    let stage = report.stage;
-    match stage {
-        Stage::Bytes => say(report, Stage::Words, line(b"bytes ", code.len() as u64)),
-        Stage::Words => say(report, Stage::Head, line(b"words ", report.words as u64)),
-        Stage::Head => say(report, Stage::Code(0), push_text(nothing(), b"code")),
+    match report.stage {
+        Stage::Bytes => say(
+            report,
+            Stage::Words,
+            Piece::line(b"bytes ", code.len() as u64),
+        ),
+        Stage::Words => say(
+            report,
+            Stage::Head,
+            Piece::line(b"words ", report.words as u64),
+        ),
+        Stage::Head => say(report, Stage::Code(0), Piece::nothing().push_text(b"code")),
         Stage::Code(i) => code_turn(report, code, i),
         Stage::Running => run_turn(report, code, memory),
         Stage::Taking(k, any) => take_turn(report, memory, k, any),
-        Stage::Refused(n, p) => say(report, Stage::Done, refused_line(n, p)),
+        Stage::Refused(n, p) => say(report, Stage::Done, Piece::refused_line(n, p)),
         Stage::Done => Turn {
-            report: report,
-            piece: nothing(),
+            report,
+            piece: Piece::nothing(),
             more: false,
         },
     }
@@ -230,8 +217,8 @@ pub fn next(report: Report, code: &[u8], memory: &mut [u32]) -> Turn
     let words = report.words;
     if code.len() < size || memory.len() < words {
         return Turn {
-            report: report,
-            piece: nothing(),
+            report,
+            piece: Piece::nothing(),
             more: false,
         };
     }

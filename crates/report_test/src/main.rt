@@ -11,7 +11,7 @@ fn answer_line(out: Stdout, numbers: &[u64]) {
     let mut table = [0; lines::NUMBERS];
     let end = lines::to_bytes(numbers, &mut table);
     if end > 0 {
-        console::print_report(out, &table[0..end]);
+        let _written = console::print_report(out, &table[..end]);
     }
 }
 

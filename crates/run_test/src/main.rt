@@ -11,6 +11,7 @@
 // as input=value, the kept fault, and as address=value the words lent that are no longer what they were. Numbers are hexadecimal.
 #![tactic(auto)]
 
+use model::FaultKind;
 use std::io::Stdout;
 
 // The numbers that say a machine. Behind them come the budget, the clock, the words lent and the code bytes lent.
@@ -61,41 +62,31 @@ fn timer(numbers: &[u64]) -> model::Timer {
 
 // The offers of a case.
 fn offers(numbers: &[u64]) -> [u32; 8] {
-    [
-        lines::word(numbers, 0),
-        lines::word(numbers, 1),
-        lines::word(numbers, 2),
-        lines::word(numbers, 3),
-        lines::word(numbers, 4),
-        lines::word(numbers, 5),
-        lines::word(numbers, 6),
-        lines::word(numbers, 7),
-    ]
+    let mut values = [0; 8];
+    for i in 0..8 {
+        values[i] = lines::word(numbers, i);
+    }
+    values
 }
 
 // Which offers are held.
 fn held(numbers: &[u64]) -> [bool; 8] {
-    [
-        lines::flag(numbers, 0),
-        lines::flag(numbers, 1),
-        lines::flag(numbers, 2),
-        lines::flag(numbers, 3),
-        lines::flag(numbers, 4),
-        lines::flag(numbers, 5),
-        lines::flag(numbers, 6),
-        lines::flag(numbers, 7),
-    ]
+    let mut flags = [false; 8];
+    for i in 0..8 {
+        flags[i] = lines::flag(numbers, i);
+    }
+    flags
 }
 
-// The fault that a case keeps.
-fn kept(kind: u64, number: u32) -> model::Kept {
+// The fault that a case keeps. Stays a number until here: it is the number in the input, and nothing else reads it.
+fn kept(kind: u64, number: u32) -> Option<FaultKind> {
     match kind {
-        1 => model::Kept::Fault(model::FaultKind::Function(number)),
-        2 => model::Kept::Fault(model::FaultKind::Operation(number)),
-        3 => model::Kept::Fault(model::FaultKind::Count(number)),
-        4 => model::Kept::Fault(model::FaultKind::Word(number)),
-        5 => model::Kept::Fault(model::FaultKind::Place(number)),
-        _ => model::Kept::Nothing,
+        1 => Some(FaultKind::Function(number)),
+        2 => Some(FaultKind::Operation(number)),
+        3 => Some(FaultKind::Count(number)),
+        4 => Some(FaultKind::Word(number)),
+        5 => Some(FaultKind::Place(number)),
+        _ => None,
     }
 }
 
@@ -114,24 +105,14 @@ fn machine(numbers: &[u64]) -> model::Machine {
 // A word that a case names.
 fn store(words: &mut [u32], address: u64, value: u32) {
     if address < words.len() as u64 {
-        let i = address as usize;
-        words[i] = value;
+        words[address as usize] = value;
     }
 }
 
-// A word that a case names, if the number at a place is its value: addresses and values come in turn.
-fn store_pair(numbers: &[u64], words: &mut [u32], i: usize) {
-    if i % 2 == 1 {
-        store(words, lines::at(numbers, i - 1), lines::word(numbers, i));
-    }
-}
-
-// The words that a case names.
+// The words that a case names: addresses and values come in turn.
 fn load_words(numbers: &[u64], words: &mut [u32]) {
-    let mut i = 0;
-    while i < numbers.len() {
-        store_pair(numbers, words, i);
-        i += 1;
+    for pair in numbers.chunks_exact(2) {
+        store(words, lines::at(pair, 0), lines::word(pair, 1));
     }
 }
 
@@ -141,19 +122,12 @@ fn load(named: &[u64], words: &mut [u32]) {
     load_words(named, words);
 }
 
-// Writes a word, if it is no longer what it was.
-fn print_change(out: Stdout, i: usize, before: u32, after: u32) {
-    if before != after {
-        show::print_value(out, i, after);
-    }
-}
-
 // Writes the words that are no longer what they were.
 fn print_changes(out: Stdout, before: &[u32], after: &[u32]) {
-    let mut i = 0;
-    while i < before.len() && i < after.len() {
-        print_change(out, i, before[i], after[i]);
-        i += 1;
+    for (i, (old, new)) in before.iter().zip(after.iter()).enumerate() {
+        if old != new {
+            show::print_value(out, i, *new);
+        }
     }
 }
 
@@ -199,16 +173,16 @@ fn lend(out: Stdout, numbers: &[u64], codes: &[u64], named: &[u64], words: usize
     load_and_run(
         out,
         numbers,
-        &code[0..end],
+        &code[..end],
         named,
-        &mut before[0..words],
-        &mut memory[0..words],
+        &mut before[..words],
+        &mut memory[..words],
     );
 }
 
 // Answers a line's case, if it has one: finds its code's bytes and the words that it names.
 fn answer(out: Stdout, numbers: &[u64]) {
-    if numbers.len() == 0 {
+    if numbers.is_empty() {
         return;
     }
     let words = lines::at(numbers, MACHINE + 2) as usize;

@@ -1,5 +1,5 @@
 // Calls of a machine over lent code and lent memory, each of which writes its answer and gives the machine after it.
-use crate::answers::{print_offer, print_run, print_take};
+use crate::answers::Hex;
 use std::io::Stdout;
 
 // A run.
@@ -12,10 +12,8 @@ pub fn run(
     clock: u32,
 ) -> model::Machine {
     let ran = machine::run(machine, code, memory, budget, clock);
-    let left = ran.machine;
-    let answer = ran.answer;
-    print_run(out, answer);
-    left
+    lines::show(out, &Hex(ran.answer));
+    ran.machine
 }
 
 // An offer.
@@ -27,17 +25,13 @@ pub fn offer(
     value: u32,
 ) -> model::Machine {
     let offered = machine::offer(machine, memory, k, value);
-    let left = offered.machine;
-    let answer = offered.answer;
-    print_offer(out, answer);
-    left
+    lines::show(out, &Hex(offered.answer));
+    offered.machine
 }
 
 // A take.
 pub fn take(out: Stdout, machine: model::Machine, memory: &mut [u32], k: u32) -> model::Machine {
     let taken = machine::take(machine, memory, k);
-    let left = taken.machine;
-    let answer = taken.answer;
-    print_take(out, answer);
-    left
+    lines::show(out, &Hex(taken.answer));
+    taken.machine
 }

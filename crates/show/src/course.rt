@@ -1,11 +1,11 @@
 // Programs in runs of which only the end counts.
-use crate::answers::run_standing;
+use crate::answers::Standing;
 
-// How far a program has come: its machine, the kind of the last run's answer, and the instructions of all runs.
+// How far a program has come: its machine, how the last run stood, and the instructions of all runs.
 #[derive(Clone, Copy)]
 pub struct Course {
     pub machine: model::Machine,
-    pub kind: u64,
+    pub standing: Standing,
     pub total: u64,
 }
 
@@ -24,22 +24,19 @@ pub fn start_program(
 // A program before its first run.
 pub fn begin(machine: model::Machine) -> Course {
     Course {
-        machine: machine,
-        kind: 0,
+        machine,
+        standing: Standing::Spent,
         total: 0,
     }
 }
 
 // A run of some more instructions, under the clock 0.
 pub fn go_on(course: Course, code: &[u8], memory: &mut [u32], budget: u64) -> Course {
-    let before = course.machine;
-    let ran = machine::run(before, code, memory, budget, 0);
-    let machine = ran.machine;
-    let answer = ran.answer;
-    let stands = run_standing(answer);
+    let ran = machine::run(course.machine, code, memory, budget, 0);
+    let (standing, count) = Standing::of(ran.answer);
     Course {
-        machine: machine,
-        kind: stands.kind,
-        total: course.total.wrapping_add(stands.count),
+        machine: ran.machine,
+        standing,
+        total: course.total.wrapping_add(count),
     }
 }

@@ -7,7 +7,7 @@ mod course;
 mod machines;
 mod memory;
 
-pub use answers::{print_kind, print_start};
+pub use answers::{Hex, Standing};
 pub use calls::{offer, run, take};
 pub use course::{Course, begin, go_on, start_program};
 pub use machines::print_machine;

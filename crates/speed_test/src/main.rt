@@ -8,31 +8,18 @@
 use lines::print;
 use std::io::Stdout;
 
-// Writes a word.
-fn print_word(out: Stdout, word: u32) {
-    print(out, b" ", word as u64);
-}
-
 // Writes words.
 fn print_words(out: Stdout, memory: &[u32]) {
-    let mut i = 0;
-    while i < memory.len() {
-        print_word(out, memory[i]);
-        i += 1;
+    for &word in memory {
+        print(out, b" ", word as u64);
     }
 }
 
 // The instructions of a run whose budget was used; 0 for any other answer.
 fn spent(answer: model::RunAnswer) -> u64 {
     match answer {
-        model::RunAnswer::Ran(outcome) => match outcome {
-            model::Outcome::Ended(_) => 0,
-            model::Outcome::Waiting(_) => 0,
-            model::Outcome::Spent(n) => n,
-            model::Outcome::Fault(_, _) => 0,
-        },
-        model::RunAnswer::EarlierClock => 0,
-        model::RunAnswer::Short(_) => 0,
+        Ok(model::Outcome::Spent(n)) => n,
+        _ => 0,
     }
 }
 
@@ -41,9 +28,8 @@ fn measure(out: Stdout, name: &[u8], code: &[u8]) {
     let mut memory = [0; 20];
     let begun = machine::start(code, &mut memory, 20, 0, 0, model::limits::BENCH_SLICE);
     let ran = machine::run(begun.machine, code, &mut memory, 10000000, 0);
-    let answer = ran.answer;
     lines::write(out, name);
-    print(out, b" spent ", spent(answer));
+    print(out, b" spent ", spent(ran.answer));
     print_words(out, &memory);
     lines::write(out, b"\n");
 }

@@ -7,6 +7,7 @@ use mathlib.Core.Bool.{Bool, true, false, cond}
 use mathlib.Core.List.{List, [], ◌∷◌, ◌++◌, append_assoc}
 use lib.ListN.{length, length-append, length-replicate, length-set, set}
 use lib.Seq.{sets}
+use Rattle.assembler.specs.declared.entry.Entry.{Entry}
 use Rattle.model.specs.Limits.{word_limit}
 use Rattle.model.specs.Word.{low, less, minus}
 use Rattle.model.specs.Syntax.{Site, Expr, Stmt, ALT, input_guard, skip_guard, time_guard, Guards, no_guard, guard, timed}
@@ -114,7 +115,7 @@ module _ (word : Site → ℕ) (workspace : ℕ → ℕ) (s plan : List ℕ) whe
       refl
 
   -- a guard's enabling and its disabling begin with G
-  abbrev Begins : (depth : ℕ) → Names → (w i next h : ℕ) (o : List ℕ) → GuardKind → List Instruction → Type 0
+  abbrev Begins : (depth : ℕ) → Names → (w i next h : ℕ) (o : List Entry) → GuardKind → List Instruction → Type 0
   Begins d ns w i n h o kind G =
       Room h G → guard_into d w ns plan s i (at h o) ≡ guarded (guard_of n (h + length G) kind) (sets o h (entries_of G))
 
@@ -123,7 +124,7 @@ module _ (word : Site → ℕ) (workspace : ℕ → ℕ) (s plan : List ℕ) whe
     abbrev waiting : (w : ℕ) → Expr → Site → List Instruction
     waiting w e c = guard_code word w e ++ plain ldlp (local word w c) ∷ operation rev ∷ []
 
-    waiting-fills : {i n m p : ℕ} {e : Expr} {c : Site} (w h : ℕ) (o : List ℕ) → KindAt s guard_kind i InputGuard n
+    waiting-fills : {i n m p : ℕ} {e : Expr} {c : Site} (w h : ℕ) (o : List Entry) → KindAt s guard_kind i InputGuard n
         → (x : ExprAt s sc.variables d n e m) → PlannedExpr s plan x → OneAt s sc.channels m c p
         → Begins d ns w i m h o InputGuard (waiting w e c)
     unfolding guard_into waiting_into function_code operation_code operation_into
@@ -138,14 +139,14 @@ module _ (word : Site → ℕ) (workspace : ℕ → ℕ) (s plan : List ℕ) whe
         )
         refl
 
-    skipping-fills : {i n m : ℕ} {e : Expr} (w h : ℕ) (o : List ℕ) → KindAt s guard_kind i SkipGuard n
+    skipping-fills : {i n m : ℕ} {e : Expr} (w h : ℕ) (o : List Entry) → KindAt s guard_kind i SkipGuard n
         → (x : ExprAt s sc.variables d n e m) → PlannedExpr s plan x → Begins d ns w i m h o SkipGuard (guard_code word w e)
     unfolding guard_into
     skipping-fills w h o k x told r =
         rw (k.value, k.is, whole-coded word s plan alt_words (omega arith) scope.variables w x told h o r) refl
 
     -- 02, order 4: time and condition
-    timing-fills : {i n m p : ℕ} {e t : Expr} (w h : ℕ) (o : List ℕ) → KindAt s guard_kind i TimeGuard n
+    timing-fills : {i n m p : ℕ} {e t : Expr} (w h : ℕ) (o : List Entry) → KindAt s guard_kind i TimeGuard n
         → (x : ExprAt s sc.variables d n e m) → PlannedExpr s plan x → (y : ExprAt s sc.variables d m t p) → PlannedExpr s plan y
         → Begins d ns w i p h o TimeGuard (both_code word w t e)
     unfolding guard_into
@@ -186,18 +187,19 @@ module _ (word : Site → ℕ) (workspace : ℕ → ℕ) (s plan : List ℕ) whe
     disable-times w choice b e t y gs = simp append_assoc
 
     -- the enabling of k guards is E
-    record Enables (w k i h : ℕ) (o : List ℕ) (E : List Instruction) : Type 0 where
+    record Enables (w k i h : ℕ) (o : List Entry) (E : List Instruction) : Type 0 where
       enables : enable_into k d w ns plan s i (at h o) ≡ filled h E o
 
-    none-enabled : {i : ℕ} (w h : ℕ) (o : List ℕ) → Enables w 0 i h o (code_enable word w no_guard)
+    none-enabled : {i : ℕ} (w h : ℕ) (o : List Entry) → Enables w 0 i h o (code_enable word w no_guard)
     unfolding enable_into code_enable
     none-enabled w h o = record { enables = sym (fill_none h o) }
 
     -- a guard that begins with G, and those behind it
-    enable-more : {k i m q : ℕ} (kind : GuardKind) (op : Operation) (w h : ℕ) (o : List ℕ) (G : List Instruction) {E C : List Instruction}
+    enable-more : {k i m q : ℕ} (kind : GuardKind) (op : Operation) (w h : ℕ) (o : List Entry) (G : List Instruction)
+        {E C : List Instruction}
         → C ≡ G ++ operation op ∷ [] ++ E → by_guard kind ENBC ENBS ENBT ≡ operation_code op → Room h C
         → Begins d ns w i m h o kind G → next_guard plan s i ≡ q
-        → ((h : ℕ) (o : List ℕ) → Room h E → Enables w k q h o E) → Enables w (suc k) i h o C
+        → ((h : ℕ) (o : List Entry) → Room h E → Enables w k q h o E) → Enables w (suc k) i h o C
     unfolding enable_into function_code operation_into
     enable-more kind op w h o G {E} {C} c-is op-is r begun place rest =
         let N = operation op ∷ [] in
@@ -215,7 +217,7 @@ module _ (word : Site → ℕ) (workspace : ℕ → ℕ) (s plan : List ℕ) whe
               (fill-then h (G ++ N) E o);
         }
 
-    enable-fills : {k i n : ℕ} {gs : Guards} (w h : ℕ) (o : List ℕ) (a : GuardsAt s d sc k i gs n) → PlannedGuards s plan a
+    enable-fills : {k i n : ℕ} {gs : Guards} (w h : ℕ) (o : List Entry) (a : GuardsAt s d sc k i gs n) → PlannedGuards s plan a
         → guard_need gs ≤ word_limit
         → Room h (code_enable word w gs) → Enables w k i h o (code_enable word w gs)
     unfolding PlannedGuards guard_need operation_code
@@ -236,7 +238,7 @@ module _ (word : Site → ℕ) (workspace : ℕ → ℕ) (s plan : List ℕ) whe
 
   -- one branch with its J, and its disabling, each in its own area
   choice-stores : (a : ℕ) (xs xs2 : List Instruction) (h : ℕ) (ys : List Instruction) (x : Instruction) (ys2 : List Instruction)
-      (o : List ℕ) → a + length xs + length xs2 ≤ h
+      (o : List Entry) → a + length xs + length xs2 ≤ h
       → sets
       (sets
       (sets (sets (sets o a (entries_of xs)) h (entries_of ys)) (h + length ys + 1) (entries_of ys2))
@@ -257,16 +259,16 @@ module _ (word : Site → ℕ) (workspace : ℕ → ℕ) (s plan : List ℕ) whe
   module _ {d : ℕ} {sc : M.Scope} {ns : Names} (w : ℕ) (fits : w ≤ word_limit) (scope : Scoped word (suc d) sc ns)
       (inner : Compiles word workspace s plan d) where
     -- what guards have come to, from the q-th end on: with the Js their disabling is D, in an area of its own, and their branches are B
-    record Chooses (r : Open) (k q n over dis h : ℕ) (e o : List ℕ) (D B : List Instruction) : Type 0 where
+    record Chooses (r : Open) (k q n over dis h : ℕ) (e : List ℕ) (o : List Entry) (D B : List Instruction) : Type 0 where
       next : r.next ≡ n
       here : r.here ≡ h + length B
       kept : Kept q e r.ends
       closes : closed k q r.ends over r.list ≡ sets (sets o h (entries_of B)) dis (entries_of D)
 
-    abbrev chosen_by : (k q choice : ℕ) (e : List ℕ) (i dis h : ℕ) (o : List ℕ) → Open
+    abbrev chosen_by : (k q choice : ℕ) (e : List ℕ) (i dis h : ℕ) (o : List Entry) → Open
     chosen_by k q choice e i dis h o = choices_into k q d (inner_at d plan s) w ns plan s choice e i dis (at h o)
 
-    none-chosen : {i : ℕ} (q choice over dis h : ℕ) (e o : List ℕ)
+    none-chosen : {i : ℕ} (q choice over dis h : ℕ) (e : List ℕ) (o : List Entry)
         → Chooses (chosen_by 0 q choice e i dis h o) 0 q i over dis h e o (code_disable word (w - 1) choice h no_guard)
         (code_branches word w h over no_guard)
     unfolding choices_into code_disable code_branches entries_of
@@ -278,11 +280,12 @@ module _ (word : Site → ℕ) (workspace : ℕ → ℕ) (s plan : List ℕ) whe
     }
 
     -- one guard that begins with G, whose branch is F and the code of y
-    one-chosen : {z n : ℕ} {y : Stmt} (i m : ℕ) (kind : GuardKind) (op : Operation) (choice dis h j : ℕ) (o : List ℕ)
+    one-chosen : {z n : ℕ} {y : Stmt} (i m : ℕ) (kind : GuardKind) (op : Operation) (choice dis h j : ℕ) (o : List Entry)
         (G F : List Instruction)
         → by_guard kind DISC DISS DIST ≡ operation_code op → h + length F ≡ j → Laid workspace w y → need y ≤ word_limit
         → Room dis (G ++ disabling op h choice) → j + size y < 2 ^ 32 → Begins d ns (w - 1) i m dis o kind G
-        → ((o : List ℕ) → branch_input (guard_of m (dis + length G) kind) w ns s (plain_into AJW 1 (at h o)) ≡ written z (emits F (at h o)))
+        → ((o : List Entry) → branch_input (guard_of m (dis + length G) kind) w ns s (plain_into AJW 1 (at h o))
+        ≡ written z (emits F (at h o)))
         → (a : StmtAt s d sc z y n) → PlannedStmt s plan a
         → choice_into d (inner_at d plan s) w ns plan s choice i dis (at h o)
         ≡ record {
@@ -312,15 +315,17 @@ module _ (word : Site → ℕ) (workspace : ℕ → ℕ) (s plan : List ℕ) whe
         (rw index at (ap (λ c. c.list) (fill-then h F B O))))
 
     -- the same, and the guards behind it
-    choice-more : {k n z p : ℕ} {y : Stmt} (i m : ℕ) (kind : GuardKind) (op : Operation) (q choice over dis h j : ℕ) (e o : List ℕ)
+    choice-more : {k n z p : ℕ} {y : Stmt} (i m : ℕ) (kind : GuardKind) (op : Operation) (q choice over dis h j : ℕ) (e : List ℕ)
+        (o : List Entry)
         (G F D R : List Instruction) {C A : List Instruction} → C ≡ G ++ disabling op h choice ++ D
         → A ≡ F ++ code word w j y ++ distance I.j over (j + size y) ∷ R → by_guard kind DISC DISS DIST ≡ operation_code op →
         h + length F ≡ j
         → q < length e → Laid workspace w y → need y ≤ word_limit → Room h A → dis + length C ≤ h
         → Begins d ns (w - 1) i m dis o kind G
-        → ((o : List ℕ) → branch_input (guard_of m (dis + length G) kind) w ns s (plain_into AJW 1 (at h o)) ≡ written z (emits F (at h o)))
+        → ((o : List Entry) → branch_input (guard_of m (dis + length G) kind) w ns s (plain_into AJW 1 (at h o))
+        ≡ written z (emits F (at h o)))
         → (a : StmtAt s d sc z y p) → PlannedStmt s plan a
-        → ((dis : ℕ) (e o : List ℕ) → suc q + k ≤ length e → Room (j + size y + 1) R → dis + length D ≤ j + size y + 1
+        → ((dis : ℕ) (e : List ℕ) (o : List Entry) → suc q + k ≤ length e → Room (j + size y + 1) R → dis + length D ≤ j + size y + 1
         → Chooses (chosen_by k (suc q) choice e p dis (j + size y + 1) o) k (suc q) n over dis (j + size y + 1) e o D R)
         → q + suc k ≤ length e → Chooses (chosen_by (suc k) q choice e i dis h o) (suc k) q n over dis h e o C A
     unfolding choices_into
@@ -348,7 +353,7 @@ module _ (word : Site → ℕ) (workspace : ℕ → ℕ) (s plan : List ℕ) whe
               ∙ rw (more.closes, c-is, a-is) (rw left at (choice-stores dis (G ++ X) D h (F ++ B) J R o (omega arith)));
         })
 
-    choices-fill : {k i n : ℕ} {gs : Guards} (q choice over dis h : ℕ) (e o : List ℕ) (a : GuardsAt s d sc k i gs n)
+    choices-fill : {k i n : ℕ} {gs : Guards} (q choice over dis h : ℕ) (e : List ℕ) (o : List Entry) (a : GuardsAt s d sc k i gs n)
         → PlannedGuards s plan a → LaidGuards workspace w gs → guard_need gs ≤ word_limit → q + k ≤ length e
         → Room h (code_branches word w h over gs) → dis + length (code_disable word (w - 1) choice h gs) ≤ h
         → Chooses (chosen_by k q choice e i dis h o) k q n over dis h e o (code_disable word (w - 1) choice h gs)

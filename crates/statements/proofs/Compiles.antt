@@ -3,6 +3,7 @@ use Prim.Native.Nat.{ℕ, suc, ◌≤◌}
 use native.Mathlib.Omega.{arith}
 use mathlib.Core.Path.{◌≡◌, sym, ap}
 use mathlib.Core.List.{List, [], ◌∷◌}
+use Rattle.assembler.specs.declared.entry.Entry.{Entry}
 use Rattle.model.specs.Limits.{word_limit}
 use Rattle.model.specs.Word.{minus}
 use Rattle.model.specs.Syntax.{Site, Expr, Stmt, SKIP, STOP, assign, input, output, TIME, WAIT}
@@ -38,7 +39,7 @@ pub inner-scope : {word : Site → ℕ} {d : ℕ} {sc : M.Scope} {ns : Names} �
 inner-scope h = record { variables = inner-names h.variables; channels = inner-names h.channels }
 
 -- STOPP: a STOP, and what stands behind an IF's last pair
-pub stopp-fills : (h : ℕ) (o : List ℕ) → Room h (operation I.stopp ∷ []) → operation_into STOPP (at h o) ≡ filled h
+pub stopp-fills : (h : ℕ) (o : List Entry) → Room h (operation I.stopp ∷ []) → operation_into STOPP (at h o) ≡ filled h
     (operation I.stopp ∷ []) o
 unfolding function_code operation_code operation_into
 stopp-fills h o room = emits-at (operation I.stopp ∷ []) h o room
@@ -53,7 +54,7 @@ module _ (word : Site → ℕ) (workspace : ℕ → ℕ) (s plan : List ℕ) whe
 
   -- what is put into the list for a statement at a place of the table is the model's code
   abbrev pub Written : (depth : ℕ) → Names → (w j i n : ℕ) → Stmt → Type 0
-  Written d ns w j i n b = (o : List ℕ) → stmt_into d w ns plan s i (at j o) ≡ written n (filled j (code word w j b) o)
+  Written d ns w j i n b = (o : List Entry) → stmt_into d w ns plan s i (at j o) ≡ written n (filled j (code word w j b) o)
 
   -- so it is for every statement that is spelt with `depth` left
   pub record Compiles (depth : ℕ) : Type 0 where

@@ -8,6 +8,7 @@ use mathlib.Core.List.{List, [], ◌∷◌, ◌++◌, append_assoc}
 use mathlib.Core.Option.{some}
 use lib.ListN.{length, length-append, get_or, get_elem?, get_or-append}
 use lib.Seq.{sets, get_or-append-add}
+use Rattle.assembler.specs.declared.entry.Entry.{Entry}
 use Rattle.model.specs.Limits.{word_limit}
 use Rattle.model.specs.Word.{low, minus}
 use Rattle.model.specs.Syntax.{Site, declared, Stmt, VAR, CHAN}
@@ -72,7 +73,7 @@ initial-fewer : (first : Instruction) (j t : ℕ) → j ≤ t → length (initia
 initial-fewer first j t l = omega (arith, initialise-length first j, initialise-length first t)
 
 initial-fills : (what : Declared) (first : Instruction) → ((c : Code) → first_into what c ≡ emits (first ∷ []) c)
-    → (left j t h : ℕ) (xs : List Instruction) (o : List ℕ) → left + j ≡ t → t < 2 ^ 32 → Room h (xs ++ initialise first t)
+    → (left j t h : ℕ) (xs : List Instruction) (o : List Entry) → left + j ≡ t → t < 2 ^ 32 → Room h (xs ++ initialise first t)
     → initial_into left what j (filled h (xs ++ initialise first j) o) ≡ filled h (xs ++ initialise first t) o
 unfolding initial_into initialise function_code
 initial-fills what first is zero j t h xs o e l m = let q : j ≡ t = omega arith in rw q
@@ -109,7 +110,7 @@ module _ (word : Site → ℕ) (workspace : ℕ → ℕ) (s plan : List ℕ)
         → {m q : ℕ} {b : Stmt} (n : ℕ) → n ≤ 32 → (a : StmtAt s d sc m b q) → PlannedStmt s plan a → Scoped word d sc ns
         → Laid workspace (w - n) b → w ≤ word_limit
         → n + need b ≤ word_limit → let X = declaration first n (code word (w - n) (j + 1 + (n + n)) b) in
-        Room j X → (o : List ℕ)
+        Room j X → (o : List Entry)
         → let r = stmt_into d (w - n) ns plan s m (initial_into n what 0 (plain_into AJW (minus n) (at j o))) in
         written r.next (plain_into AJW n (code_of r)) ≡ written q (filled j X o)
     unfolding function_code initialise

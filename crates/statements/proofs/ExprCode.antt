@@ -8,6 +8,7 @@ use mathlib.Core.Option.{some}
 use lib.ListN.{length, get_or, get_elem?}
 use lib.Seq.{sets}
 use borrow.Author.Tests.{ne_eqb}
+use Rattle.assembler.specs.declared.entry.Entry.{Entry}
 use Rattle.model.specs.Limits.{word_limit, depth_limit}
 use Rattle.model.specs.Word.{low, minus}
 use Rattle.model.specs.Syntax.{Site, Expr}
@@ -40,13 +41,13 @@ pub record Named (word : Site → ℕ) (depth : ℕ) (sites : List Site) (ws : L
 
 -- what puts instructions into the list, for a part of the table that ends before a place
 abbrev Writes : (Code → Wrote) → (next : ℕ) → List Instruction → Type 0
-Writes into n xs = (h : ℕ) (o : List ℕ) → Room h xs → into (at h o) ≡ written n (filled h xs o)
+Writes into n xs = (h : ℕ) (o : List Entry) → Room h xs → into (at h o) ≡ written n (filled h xs o)
 
 -- two sides in each order. Left stands at a place, right at another; g values are held before
 sides-fill : (inner : (held at : ℕ) → Code → Wrote) (ord : Order) (i j p q g tl tr : ℕ) (left : ℕ → List Instruction)
     (right : List Instruction) → g + sides_hold ord tl tr ≤ word_limit
     → ((k : ℕ) → k + tl ≤ word_limit → Writes (inner k i) j (left k)) → (g + tr ≤ word_limit → Writes (inner g p) q right)
-    → (h : ℕ) (o : List ℕ) → Room h (sides_code ord g left right)
+    → (h : ℕ) (o : List Entry) → Room h (sides_code ord g left right)
     → let a = in_order ord g i p in
     let one = inner g a.first (at h o) in
     let two = inner a.held a.second (between_into a.order g (code_of one)) in
@@ -109,7 +110,7 @@ wrapped-fills into n (suc t) more w code few f h o r =
     )
     (ap (written n) (emits-fills (plain ajw m ∷ []) h (A ++ C) o r))
 
-operator-fills : (op : Operator) (h : ℕ) (o : List ℕ) → Room h (operator_code op) →
+operator-fills : (op : Operator) (h : ℕ) (o : List Entry) → Room h (operator_code op) →
     operator_into op (at h o) ≡ filled h (operator_code op) o
 unfolding operator_into operator_code operation_code function_code operation_into
 operator-fills PLUS h o l = emits-at (operator_code PLUS) h o l
@@ -160,7 +161,7 @@ module _ (word : Site → ℕ) (s : List ℕ) where
 
   -- a whole expression, with so many words more below W
   pub whole-coded : (plan : List ℕ) {d i n : ℕ} {vs : List Site} {ws : List ℕ} {e : Expr} (more : ℕ) → more ≤ word_limit
-      → Named word (suc d) vs ws → (w : ℕ) (a : ExprAt s vs d i e n) → PlannedExpr s plan a → (h : ℕ) (o : List ℕ)
+      → Named word (suc d) vs ws → (w : ℕ) (a : ExprAt s vs d i e n) → PlannedExpr s plan a → (h : ℕ) (o : List Entry)
       → let X = wrapped (temporaries e) more w (λ v. expr_code word v 0 e) in
       Room h X → whole_into d w more ws plan s i (at h o) ≡ written n (filled h X o)
   unfolding whole_into
@@ -174,7 +175,7 @@ module _ (word : Site → ℕ) (s : List ℕ) where
   -- a time guard's time and condition, with so many words more below W
   pub both-coded : (plan : List ℕ) {d i m n : ℕ} {vs : List Site} {ws : List ℕ} {e t : Expr} (more : ℕ) → more ≤ word_limit
       → Named word (suc d) vs ws → (w : ℕ) (a : ExprAt s vs d i e m) → PlannedExpr s plan a → (b : ExprAt s vs d m t n)
-      → PlannedExpr s plan b → (h : ℕ) (o : List ℕ)
+      → PlannedExpr s plan b → (h : ℕ) (o : List Entry)
       → let X = wrapped (both_hold t e) more w (λ v. sides_code (order t e) 0 (λ k. expr_code word v k t) (expr_code word v 0 e)) in
       Room h X → both_into d w more ws plan s i (at h o) ≡ written n (filled h X o)
   unfolding both_into sides_into sides_of time_and_condition

@@ -6,6 +6,7 @@ use mathlib.Core.Path.{◌≡◌, refl, sym, ap, ◌∙◌}
 use mathlib.Core.List.{List, [], ◌∷◌, ◌++◌, append_assoc}
 use lib.ListN.{length, length-append, length-replicate, length-set, set}
 use lib.Seq.{sets}
+use Rattle.assembler.specs.declared.entry.Entry.{Entry}
 use Rattle.model.specs.Limits.{word_limit}
 use Rattle.model.specs.Word.{low}
 use Rattle.model.specs.Syntax.{Site, Expr, Stmt, SEQ, IF, WHILE, Stmts, Pairs, no_pair, pair}
@@ -32,7 +33,7 @@ use Rattle.statements.proofs.ExprCode.{whole-coded}
 use Rattle.statements.proofs.Compiles.{Scoped, inner-scope, Placed, Written, Compiles, stopp-fills}
 
 -- a gap in front of what follows it, filled
-joined : (j leave : ℕ) (T : List Instruction) (x : Instruction) (P Z : List Instruction) (o m : List ℕ) → j + length T ≡ leave
+joined : (j leave : ℕ) (T : List Instruction) (x : Instruction) (P Z : List Instruction) (o m : List Entry) → j + length T ≡ leave
     → m ≡ sets (sets o j (entries_of T)) (leave + 1) (entries_of (P ++ Z))
     → sets m leave (entries_of (x ∷ [])) ≡ sets o j (entries_of (T ++ x ∷ P ++ Z))
 joined j leave T x P Z o m long is = rw (is, ← long, gap-fills j T x (P ++ Z) o, append_assoc T (x ∷ P) Z) refl
@@ -42,7 +43,7 @@ module _ (word : Site → ℕ) (workspace : ℕ → ℕ) (s plan : List ℕ) whe
       (scope : Scoped word (suc d) sc ns) (inner : Compiles word workspace s plan d) where
     seq-parts : {k i n : ℕ} {ss : Stmts} (j : ℕ) (a : StmtsAt s d sc k i ss n) → PlannedStmts s plan a → LaidAll workspace w ss
         → most_need ss ≤ word_limit
-        → Room j (code_all word w j ss) → (o : List ℕ)
+        → Room j (code_all word w j ss) → (o : List Entry)
         → seq_into k (inner_at d plan s w ns) i (at j o) ≡ written n (filled j (code_all word w j ss) o)
     unfolding seq_into code_all most_need PlannedStmts
     seq-parts j no_stmt_at told laid few r o = ap (written _) (sym (fill_none j o))
@@ -82,7 +83,7 @@ module _ (word : Site → ℕ) (workspace : ℕ → ℕ) (s plan : List ℕ) whe
         let B = code word w (test + 1) b in
         omega (arith, length-append (whole_code word w e) (T ∷ B), whole_length word w e, code-length word w (test + 1) b)
 
-    pair_code : {i m n : ℕ} {e : Expr} {b : Stmt} (j : ℕ) (o : List ℕ) (c : ExprAt s sc.variables d i e m) → PlannedExpr s plan c
+    pair_code : {i m n : ℕ} {e : Expr} {b : Stmt} (j : ℕ) (o : List Entry) (c : ExprAt s sc.variables d i e m) → PlannedExpr s plan c
         → (a : StmtAt s d sc m b n) → PlannedStmt s plan a → Laid workspace w b → need b ≤ word_limit → leaves j e b + 1 < 2 ^ 32
         → pair_into d w ns.variables (inner_at d plan s w ns) plan s i (at j o) ≡ written n (filled j (tested j e b) o)
     unfolding pair_into function_code
@@ -141,13 +142,13 @@ module _ (word : Site → ℕ) (workspace : ℕ → ℕ) (s plan : List ℕ) whe
         (simp append_assoc)
 
     -- what pairs have come to, from the q-th end on: all but the Js, and with these the pairs' code, whatever follows
-    record Paired (r : Open) (k q n j over : ℕ) (e o : List ℕ) (P : List Instruction) : Type 0 where
+    record Paired (r : Open) (k q n j over : ℕ) (e : List ℕ) (o : List Entry) (P : List Instruction) : Type 0 where
       next : r.next ≡ n
       here : r.here ≡ j + length P
       kept : Kept q e r.ends
       closes : (Z : List Instruction) → closed k q r.ends over (sets r.list r.here (entries_of Z)) ≡ sets o j (entries_of (P ++ Z))
 
-    pairs-fill : {k i n : ℕ} {ps : Pairs} (q j over : ℕ) (e o : List ℕ) (a : PairsAt s d sc k i ps n) → PlannedPairs s plan a
+    pairs-fill : {k i n : ℕ} {ps : Pairs} (q j over : ℕ) (e : List ℕ) (o : List Entry) (a : PairsAt s d sc k i ps n) → PlannedPairs s plan a
         → LaidPairs workspace w ps
         → pair_need ps ≤ word_limit → q + k ≤ length e → Room j (pairs_code j over ps)
         → Paired (pairs_into k q d w ns.variables (inner_at d plan s w ns) plan s e i (at j o)) k q n j over e o (pairs_code j over ps)

@@ -7,6 +7,7 @@ use mathlib.Core.Path.{◌≡◌, refl, sym, ap, subst, ◌∙◌}
 use mathlib.Core.List.{List, [], ◌∷◌, ◌++◌, append_assoc}
 use lib.ListN.{length, length-append}
 use lib.Seq.{sets}
+use Rattle.assembler.specs.declared.entry.Entry.{Entry}
 use Rattle.model.specs.Limits.{word_limit}
 use Rattle.model.specs.Word.{low, minus}
 use Rattle.model.specs.Syntax.{Site, Stmt, PAR, Stmts, stmt}
@@ -37,7 +38,7 @@ module _ (word : Site → ℕ) (workspace : ℕ → ℕ) (s plan : List ℕ) whe
   abbrev start : (d j b : ℕ) → List Instruction
   start d j b = distance ldc b (j + 2) ∷ plain ldlp (minus d) ∷ operation startp ∷ []
 
-  start-fills : (d j b : ℕ) (o : List ℕ) → Room j (start d j b) → start_into d b (at j o) ≡ filled j (start d j b) o
+  start-fills : (d j b : ℕ) (o : List Entry) → Room j (start d j b) → start_into d b (at j o) ≡ filled j (start d j b) o
   unfolding start_into function_code operation_code operation_into
   start-fills d j b o r =
       let user : low (j + 2) ≡ j + 2 = mod-eq_of_lt (omega arith) in
@@ -50,7 +51,7 @@ module _ (word : Site → ℕ) (workspace : ℕ → ℕ) (s plan : List ℕ) whe
     branch m j b = code word (w - m) j b ++ plain ldlp m ∷ operation endp ∷ []
 
     -- the starts and the branches, from the second on
-    branches-fill : {k i n : ℕ} {ss : Stmts} (m st j : ℕ) (o : List ℕ) (a : StmtsAt s d sc k i ss n) → PlannedStmts s plan a
+    branches-fill : {k i n : ℕ} {ss : Stmts} (m st j : ℕ) (o : List Entry) (a : StmtsAt s d sc k i ss n) → PlannedStmts s plan a
         → LaidBranches workspace (w - m) ss
         → m + sum_need ss ≤ word_limit → st + length (code_starts word m st j ss) ≤ j → Room j (code_ends word w m j ss)
         → branches_into k (inner_at d plan s) w ns plan i m st (at j o)
@@ -93,7 +94,7 @@ module _ (word : Site → ℕ) (workspace : ℕ → ℕ) (s plan : List ℕ) whe
 
   module _ {d : ℕ} {sc : M.Scope} {ns : Names} (w : ℕ) (fits : w ≤ word_limit) (scope : Scoped word (suc d) sc ns)
       (inner : Compiles word workspace s plan d) where
-    branches-code : {k i m n : ℕ} {b : Stmt} {ss : Stmts} (j : ℕ) (o : List ℕ) (a : StmtAt s d sc i b m) → PlannedStmt s plan a
+    branches-code : {k i m n : ℕ} {b : Stmt} {ss : Stmts} (j : ℕ) (o : List Entry) (a : StmtAt s d sc i b m) → PlannedStmt s plan a
         → (c : StmtsAt s d sc k m ss n) → PlannedStmts s plan c → how_many ss ≡ k → k ≤ 16
         → LaidBranches workspace (w - 2) (stmt b ss) → 2 + sum_need (stmt b ss) ≤ word_limit
         → Room j (code_par word w j (stmt b ss))

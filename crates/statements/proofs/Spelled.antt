@@ -9,9 +9,13 @@ use mathlib.Core.Option.{some as just}
 use lib.ListN.{length, get_or, drop, get_elem?}
 use lib.Dec.{ltb, leb, eqb}
 use borrow.Author.Tests.{le-ltb, ltb-true, leb-false}
-use Rattle.numbers.specs.Items.{groups_at, grouped, value_at}
-use Rattle.numbers.specs.declared.NumberRead.{NumberRead}
-use Rattle.numbers.specs.declared.NumberRead.TheVariants.{Number, Bad}
+use Rattle.std.specs.Prelude.{Option as Maybe, Some, None, Result}
+use Rattle.std.specs.Option.{option_and_then}
+use Rattle.numbers.specs.Items.{groups_at, grouped, number_at, value_at}
+use Rattle.numbers.specs.declared.Number.{Number}
+use Rattle.model.specs.declared.Reason.{Reason}
+use Rattle.model.specs.declared.Reason.TheVariants.{TooDeep, BadName}
+use Rattle.numbers.specs.declared.Misread.{Misread}
 use Rattle.model.specs.Syntax.{Site, Expr, constant, variable, NOT, binary, Stmt, SKIP, STOP, assign, input, output, VAR, CHAN, SEQ, PAR}
 use Rattle.model.specs.Syntax.{IF, WHILE, ALT, TIME, WAIT, Stmts, no_stmt, stmt, Pairs, no_pair, pair, Guard, input_guard, skip_guard}
 use Rattle.model.specs.Syntax.{Guards}
@@ -41,56 +45,58 @@ pub record NumeralAt (s : List ℕ) (at v n : ℕ) : Type 0 where
   pub inside : n ≤ length s
 
 -- a number is a word, and ends in the table
-record Bounded (s : List ℕ) (x : NumberRead) : Type 0 where
-  bounded : (v n : ℕ) → x ≡ Number v n → (v < 2 ^ 32) × (n ≤ length s)
+record Bounded (s : List ℕ) (x : Maybe Number) : Type 0 where
+  bounded : (m : Number) → x ≡ Some m → (m.value < 2 ^ 32) × (m.next ≤ length s)
 
-grouped-bounded : (s : List ℕ) (b : ℕ) (x : NumberRead) → b < 256 → Bounded s x → Bounded s (grouped b x)
-grouped-bounded s b Bad h r = record { bounded = λ v n e. never (cc) }
-grouped-bounded s b (Number w m) h r =
-    by_bool (eqb w 0) (λ f. rw f (record { bounded = λ v n e. never (cc) }))
-    (λ f. by_bool (ltb w 33554432)
+grouped-bounded : (s : List ℕ) (b : ℕ) (x : Maybe Number) → b < 256 → Bounded s x → Bounded s (option_and_then (grouped b) x)
+grouped-bounded s b None h r = record { bounded = λ m e. never (cc) }
+grouped-bounded s b (Some w) h r =
+    by_bool (eqb w.value 0) (λ f. rw f (record { bounded = λ m e. never (cc) }))
+    (λ f. by_bool (ltb w.value 33554432)
     (λ g. rw (f, g) (record { bounded = is (ltb-true _ _ g) }))
-    (λ g. rw (f, g) (record { bounded = λ v n e. never (cc) })))
+    (λ g. rw (f, g) (record { bounded = λ m e. never (cc) })))
   where
-    is : w < 33554432 → (v n : ℕ) → Number (b - 128 + 128 * w) m ≡ Number v n → (v < 2 ^ 32) × (n ≤ length s)
-    is l v n q =
-        let same : b - 128 + 128 * w ≡ v = cc in
-        let end : m ≡ n = cc in
-        (omega arith, omega (arith, (r.bounded w m refl).1))
+    is : w.value < 33554432 → (m : Number) → Some (record { value = b - 128 + 128 * w.value; next = w.next }) ≡ Some m
+        → (m.value < 2 ^ 32) × (m.next ≤ length s)
+    is l m q =
+        let same : b - 128 + 128 * w.value ≡ m.value = cc in
+        let end : w.next ≡ m.next = cc in
+        (omega arith, omega (arith, (r.bounded w refl).1))
 
 groups-bounded : (k : ℕ) (s : List ℕ) (at : ℕ) → Bytes s → Bounded s (groups_at k s at)
 unfolding groups_at
-groups-bounded zero s at b = record { bounded = λ v n e. never (cc) }
+groups-bounded zero s at b = record { bounded = λ m e. never (cc) }
 groups-bounded (suc k) s at b =
-    by_bool (leb (length s) at) (λ f. rw f (record { bounded = λ v n e. never (cc) }))
+    by_bool (leb (length s) at) (λ f. rw f (record { bounded = λ m e. never (cc) }))
     (λ f. by_bool (ltb (get_or s at 0) 128)
     (λ g. rw (f, g) (record { bounded = is (leb-false _ _ f) }))
     (λ g. rw (f, g) (grouped-bounded s (get_or s at 0) (groups_at k s (at + 1)) (b at) (groups-bounded k s (at + 1) b))))
   where
-    is : at < length s → (v n : ℕ) → Number (get_or s at 0) (at + 1) ≡ Number v n → (v < 2 ^ 32) × (n ≤ length s)
-    is l v n q =
-        let same : get_or s at 0 ≡ v = cc in
-        let end : at + 1 ≡ n = cc in
+    is : at < length s → (m : Number) → Some (record { value = get_or s at 0; next = at + 1 }) ≡ Some m
+        → (m.value < 2 ^ 32) × (m.next ≤ length s)
+    is l m q =
+        let same : get_or s at 0 ≡ m.value = cc in
+        let end : at + 1 ≡ m.next = cc in
         (omega (arith, b at), omega arith)
 
 numeral : {s : List ℕ} {at v n : ℕ} → Bytes s → NumberAt s at v n → NumeralAt s at v n
-unfolding value_at
+unfolding value_at number_at
 numeral {s} {at} {v} {n} b t =
-    let h = (groups-bounded 5 s at b).bounded v n t.number in
+    let h = (groups-bounded 5 s at b).bounded _ t.number in
     record { value = rw (t.number, mod-eq_of_lt h.0); ahead = t.ahead; inside = h.1 }
 
 -- what the model reads from a place on: the bytes after it are those of the table, and a fact on what was read and where it ends
 pub data Gives {A : Type 0} (s : List ℕ) (P : A → ℕ → Type 0) : Parsed A → Type 0 where
   parses : (a : A) (n : ℕ) → P a n → Gives s P (parsed a n (drop n s))
-  stops : (k p : ℕ) → Gives s P (fails k p)
+  stops : (why : Reason) (p : ℕ) → Gives s P (fails why p)
 
 pub and_then : {A B : Type 0} {s : List ℕ} {P : A → ℕ → Type 0} {Q : B → ℕ → Type 0} {r : Parsed A} (k : A → Reader B) → Gives s P r
     → ((a : A) (n : ℕ) → P a n → Gives s Q (k a n (drop n s))) → Gives s Q (onward r k)
 and_then k (parses a n h) f = f a n h
 and_then k (stops j p) f = stops j p
 
-given : {A X : Type 0} {s : List ℕ} {R : A → ℕ → X → Type 0} {g : ℕ → ℕ → X} {P : A → ℕ → Type 0} {x : X} {r : Parsed A}
-    → Same s R g x r → ((a : A) (n : ℕ) (y : X) → R a n y → P a n) → Gives s P r
+given : {A X : Type 0} {s : List ℕ} {R : A → ℕ → Result X Misread → Type 0} {P : A → ℕ → Type 0} {x : Result X Misread} {r : Parsed A}
+    → Same s R x r → ((a : A) (n : ℕ) (y : Result X Misread) → R a n y → P a n) → Gives s P r
 given (gives a n x h) f = parses a n (f a n x h)
 given (turns k p) f = stops k p
 
@@ -204,14 +210,14 @@ module _ (s : List ℕ) (b : Bytes s) where
   unfolding read_name
   name fits sites at =
       and_then _ (word at)
-      (λ k n t. by-option (get_elem? sites k) (λ e. rw e (stops 5 at))
+      (λ k n t. by-option (get_elem? sites k) (λ e. rw e (stops BadName at))
       (λ x e. by_bool (fits x)
       (λ f. rw (e, f) (parses x n (record { index = k; listed = e; there = t })))
-      (λ f. rw (e, f) (stops 5 at))))
+      (λ f. rw (e, f) (stops BadName at))))
 
   deep : {A : Type 0} (P : A → ℕ → Type 0) (at : ℕ) → Gives s P (too_deep at (drop at s))
   unfolding too_deep
-  deep P at = and_then _ (word at) (λ k n t. stops 4 at)
+  deep P at = and_then _ (word at) (λ k n t. stops TooDeep at)
 
   pub expr-spelled : (d : ℕ) (w : Scope) (at : ℕ) → Gives s (ExprAt s w.variables d at) (read_expr d w at (drop at s))
   unfolding read_expr expr_of

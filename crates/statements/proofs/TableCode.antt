@@ -8,6 +8,7 @@ use mathlib.Core.List.{List, ◌++◌}
 use mathlib.Core.Option.{some}
 use lib.ListN.{length, length-append, length-replicate, replicate, get_elem?}
 use lib.Seq.{sets}
+use Rattle.assembler.specs.declared.entry.Entry.{Entry}
 use Rattle.model.specs.Limits.{word_limit, table_limit, depth_limit}
 use Rattle.model.specs.Word.{low}
 use Rattle.model.specs.Syntax.{input_of, output_of, Program}
@@ -17,7 +18,7 @@ use Rattle.model.specs.Accept.{accept, memory_words, answer_of}
 use Rattle.model.specs.Layout.{layout, workspace_of, base, word_of}
 use Rattle.model.specs.Scheme.{scheme}
 use Rattle.model.specs.declared.Facts.{Facts}
-use Rattle.model.specs.declared.Reading.TheVariants.{Accepted}
+use Rattle.std.specs.Prelude.{Ok}
 use Rattle.model.proofs.Cases.{never}
 use Rattle.model.proofs.Tables.WellFormed.{outermost}
 use Rattle.model.proofs.Coding.Layouts.{program-laid}
@@ -96,7 +97,7 @@ outside-named p hi ho hw =
 abbrev pub facts_of : Program → Facts
 facts_of p = record { words = memory_words p; inputs = p.inputs; outputs = p.outputs; processes = processes p.body }
 
-pub facts-are : (r : Read) (f : Facts) (p : Program) → answer_of r ≡ Accepted f → r ≡ program p → f ≡ facts_of p
+pub facts-are : (r : Read) (f : Facts) (p : Program) → answer_of r ≡ Ok f → r ≡ program p → f ≡ facts_of p
 facts-are (program q) f p e is = let same : q ≡ p = cc in let g : facts_of q ≡ f = cc in sym (rw same at g)
 facts-are (refused n at) f p e is = never (cc)
 
@@ -120,7 +121,7 @@ plan-told s p whole q few =
     (plan-of s whole.short (replicate table_limit 0) q.body (omega arith) (length-replicate {A = ℕ} table_limit 0) few)
 
 -- the statement's code
-body-code : (s : List ℕ) (p : Program) → ReadWhole s p → (q : ProgramAt s p (length s)) → base p ≤ word_limit → (o : List ℕ)
+body-code : (s : List ℕ) (p : Program) → ReadWhole s p → (q : ProgramAt s p (length s)) → base p ≤ word_limit → (o : List Entry)
     → stmt_into 32 (base p) (declaring Channels (p.inputs + p.outputs) (base p) no_names) (plan_of s) s q.third (at 0 o)
     ≡ written (length s) (filled 0 (scheme p) o)
 unfolding scheme word_of
@@ -142,7 +143,7 @@ body-code s p whole q few o =
     o
 
 -- the list of an accepted table is the scheme's
-pub table-code : (s : List ℕ) (p : Program) → Bytes s → accept s ≡ program p → memory_words p ≤ word_limit → (o : List ℕ)
+pub table-code : (s : List ℕ) (p : Program) → Bytes s → accept s ≡ program p → memory_words p ≤ word_limit → (o : List Entry)
     → table_into (plan_of s) s (facts_of p) o ≡ at (length (scheme p)) (sets o 0 (entries_of (scheme p)))
 unfolding table_into
 table-code s p b e few o =

@@ -6,6 +6,7 @@ use Rattle.numbers.specs.Items.{value_at}
 use Rattle.numbers.specs.Kinds.{guard_kind, by_guard}
 use Rattle.model.specs.declared.kinds.GuardKind.{GuardKind}
 use Rattle.model.specs.declared.kinds.GuardKind.TheVariants.{Input as InputGuard, Skip as SkipGuard, Time as TimeGuard}
+use Rattle.assembler.specs.declared.entry.Entry.{Entry}
 use Rattle.plan.specs.Entries.{next_of, next_in, plan_at}
 use Rattle.plan.specs.Extents.{extent_in}
 use Rattle.expressions.specs.Emits.{Code, at, plain_into, distance_into, operation_into}
@@ -21,10 +22,10 @@ use Rattle.instruction.specs.Codes.{AJW, ALT, ALTEND, ALTWT, DISC, DISS, DIST, E
 -- a guard's code so far, and the list
 pub record Guarded : Type 0 where
   pub guard : Guard
-  pub list : List ℕ
+  pub list : List Entry
 
 -- the same from what a function answers, and the list
-abbrev pub guarded : Guard → List ℕ → Guarded
+abbrev pub guarded : Guard → List Entry → Guarded
 guarded g l = record { guard = g; list = l }
 
 -- a guard's expressions, put behind one another
@@ -76,7 +77,7 @@ enable_into (suc l) d w ns p s i c =
 
 -- the rest of a guard's disabling. 01: LDC branch, DISC, or LDC branch, DISS; 02, order 4: LDC branch, DIST. `choice` is the index of
 -- ALTEND
-unfoldable pub disable_into : Guard → (branch choice : ℕ) → List ℕ → Code
+unfoldable pub disable_into : Guard → (branch choice : ℕ) → List Entry → Code
 disable_into g b choice l = operation_into (by_guard g.kind DISC DISS DIST) (distance_into LDC b choice (at g.here l))
 
 -- the input that a guard's branch begins with, if it waits for one
@@ -89,10 +90,10 @@ pub record Chosen : Type 0 where
   pub next : ℕ
   pub disable : ℕ
   pub here : ℕ
-  pub list : List ℕ
+  pub list : List Entry
 
 -- the same from what a function answers, and the list
-abbrev pub chosen : Turn → List ℕ → Chosen
+abbrev pub chosen : Turn → List Entry → Chosen
 chosen x l = record { next = x.at; disable = x.disable; here = x.here; list = l }
 
 -- 01, per guard its disabling, and a branch: AJW 1, the input if any, statement
@@ -122,10 +123,10 @@ guards_into n d inner w ns p s choice i dis c =
 pub record Fronted : Type 0 where
   pub disable : ℕ
   pub choice : ℕ
-  pub list : List ℕ
+  pub list : List Entry
 
 -- the same from what a function answers, and the list
-abbrev pub fronted : Front → List ℕ → Fronted
+abbrev pub fronted : Front → List Entry → Fronted
 fronted f l = record { disable = f.disable; choice = f.choice; list = l }
 
 -- 01: AJW -1, ALT, the enabling, ALTWT; 02, order 4: with a time guard TALT and TALTWT. The disabling has the enabling's instructions, with

@@ -2,6 +2,7 @@
 use Rattle.std.specs.Prelude.{ℕ, zero, suc, ◌+◌, ◌-◌, ◌*◌, cond, List, ◌≡◌, get_or, set, replicate, eqb}
 use Rattle.model.specs.Limits.{name_limit, part_limit}
 use Rattle.model.specs.Word.{low, minus}
+use Rattle.assembler.specs.declared.entry.Entry.{Entry}
 use Rattle.plan.specs.Extents.{extent_in}
 use Rattle.expressions.specs.Emits.{Code, at, plain_into, distance_into, operation_into}
 use Rattle.expressions.specs.Names.{Names, Scoped, declaring}
@@ -59,7 +60,7 @@ pair_into d w vs inner p s i c =
 pub record Open : Type 0 where
   pub next : ℕ
   pub here : ℕ
-  pub list : List ℕ
+  pub list : List Entry
   pub ends : List ℕ
 
 -- the same from a place of the table, the code so far, and these indices
@@ -71,7 +72,7 @@ abbrev pub no_ends : List ℕ
 no_ends = replicate part_limit 0
 
 -- the Js at so many of these indices, from the last to the first, to the end
-unfoldable pub close_into : (left : ℕ) → (ends : List ℕ) → (over : ℕ) → List ℕ → List ℕ
+unfoldable pub close_into : (left : ℕ) → (ends : List ℕ) → (over : ℕ) → List Entry → List Entry
 close_into zero e o l = l
 close_into (suc n) e o l = let h = get_or e n 0 in close_into n e o (distance_into J o h (at h l)).list
 
@@ -116,10 +117,10 @@ branches_into (suc n) inner w ns p i d start c =
 -- what a PAR begins with, and the list
 pub record Forked : Type 0 where
   pub fork : Fork
-  pub list : List ℕ
+  pub list : List Entry
 
 -- the same from what a function answers, and the list
-abbrev pub forked : Fork → List ℕ → Forked
+abbrev pub forked : Fork → List Entry → Forked
 forked f l = record { fork = f; list = l }
 
 -- 01: AJW -2; LDC end, which is left for later, LDPI, STL 0; LDC count, STL 1

@@ -8,7 +8,8 @@ use Rattle.model.specs.Reader.{program}
 use Rattle.model.specs.Accept.{accept, memory_words, answer_of}
 use Rattle.model.specs.Scheme.{scheme}
 use Rattle.model.specs.declared.Facts.{Facts}
-use Rattle.model.specs.declared.Reading.TheVariants.{Accepted}
+use Rattle.std.specs.Prelude.{Ok}
+use Rattle.assembler.specs.declared.entry.Entry.{Entry}
 use Rattle.assembler.specs.Entries.{entries_of}
 use Rattle.plan.specs.Extents.{plan_of}
 use Rattle.plan.specs.Entries.{next_of}
@@ -23,18 +24,18 @@ abbrev pub no_names : Names
 no_names = record { variables = []; channels = [] }
 
 -- the list, and its length. 01: W = the need; outside channel k is word W + k
-unfoldable pub table_into : (plan s : List ℕ) → Facts → (list : List ℕ) → Code
+unfoldable pub table_into : (plan s : List ℕ) → Facts → (list : List Entry) → Code
 table_into p s f l =
     let outside = low (f.inputs + f.outputs) in
     let w = f.words - outside in
     code_of (stmt_into depth_limit w (declaring Channels outside w no_names) p s (next_of s (next_of s 0)) (at 0 l))
 
 -- for every accepted table whose program has at most 4,096 words, with its facts: the list is the scheme's, and its length
-abbrev pub Lists : (table : List ℕ) → Facts → (before after : List ℕ) → (count : ℕ) → Type 0
+abbrev pub Lists : (table : List ℕ) → Facts → (before after : List Entry) → (count : ℕ) → Type 0
 Lists s f before after n =
-    (p : Program) → accept s ≡ program p → answer_of (accept s) ≡ Accepted f → memory_words p ≤ word_limit
+    (p : Program) → accept s ≡ program p → answer_of (accept s) ≡ Ok f → memory_words p ≤ word_limit
     → (n ≡ length (scheme p)) × (after ≡ sets before 0 (entries_of (scheme p)))
 
 -- so it is with the plan of the table
-abbrev pub Generates : (table plan : List ℕ) → Facts → (before after : List ℕ) → (count : ℕ) → Type 0
+abbrev pub Generates : (table plan : List ℕ) → Facts → (before after : List Entry) → (count : ℕ) → Type 0
 Generates s p f before after n = p ≡ plan_of s → Lists s f before after n

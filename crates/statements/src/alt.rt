@@ -6,7 +6,9 @@ ghost use Rattle.expressions.specs.Names.{WithNames};
 ghost use Rattle.statements.specs.Alts.{guarded, waiting_into, guard_into, is_timed, statement_of, next_guard, timed_in};
 ghost use Rattle.statements.specs.Alts.{enable_into, disable_into, fronted, front_into};
 
-use expressions::{Cursor, Scope};
+use assembler::Entry;
+use expressions::{Cursor, Scope, Words};
+use instruction::codes;
 use model::kinds::GuardKind;
 
 // The words of an ALT below its workspace; what its guards store stands below them.
@@ -30,11 +32,11 @@ pub struct Front {
 // The condition of a guard that waits, LDLP channel, REV.
 fn gen_waiting(
     table: &[u8],
-    plan: &[u32; 16384],
+    plan: &plan::Plan,
     cursor: Cursor,
     scope: Scope,
-    words: &[u32; 2112],
-    list: &mut [u64; 16384],
+    words: &Words,
+    list: &mut [Entry],
 ) -> Guard
     ensures { WithNames scope words.now (λ ns. guarded result list.new
         ≡ waiting_into scope.depth scope.w ns plan.now table.now cursor.at
@@ -43,23 +45,24 @@ fn gen_waiting(
     let test = expressions::gen_whole(table, plan, cursor, ALT_WORDS, scope, words, list);
     let name = numbers::value_at(table, test.at);
     let word = expressions::channel(words, scope.channels, name.value, scope.w);
-    let second = expressions::plain(list, test.here, instruction::codes::LDLP, word);
+    let second = expressions::plain(list, test.here, codes::LDLP, word);
     Guard {
         at: test.at,
-        here: expressions::operation(list, second, instruction::codes::REV),
+        here: expressions::operation(list, second, codes::REV),
         kind: GuardKind::Input,
     }
 }
 
 // What enabling and disabling begin with: the condition, with LDLP channel, REV if the guard waits; time and condition of a time guard. The
 // scope is the guard's, one word below the ALT's.
+#[tactic(auto, unfolding(crate::specs::Alts::guard_into))]
 pub fn gen_guard(
     table: &[u8],
-    plan: &[u32; 16384],
+    plan: &plan::Plan,
     cursor: Cursor,
     scope: Scope,
-    words: &[u32; 2112],
-    list: &mut [u64; 16384],
+    words: &Words,
+    list: &mut [Entry],
 ) -> Guard
     ensures { WithNames scope words.now (λ ns. guarded result list.new
         ≡ guard_into scope.depth scope.w ns plan.now table.now cursor.at
@@ -91,13 +94,7 @@ pub fn gen_guard(
     }
 }
 
-// One operation or another: of two by a test, of three by the kind of a guard.
-fn either(first: bool, one: u32, other: u32) -> u32
-    ensures { result ≡ cond first one other }
-{
-    if first { one } else { other }
-}
-
+// One operation or another, by the kind of a guard.
 fn by_kind(kind: GuardKind, input: u32, skip: u32, time: u32) -> u32
     ensures { result ≡ by_guard kind input skip time }
 {
@@ -109,19 +106,20 @@ fn by_kind(kind: GuardKind, input: u32, skip: u32, time: u32) -> u32
 }
 
 // The guard at a place is a time guard.
+#[tactic(auto, unfolding(crate::specs::Alts::is_timed))]
 fn is_time(table: &[u8], at: usize) -> bool
     ensures { result ≡ is_timed table.now at }
 {
     let number = numbers::value_at(table, at);
-    match numbers::kinds::guard_kind(number.value as u64) {
-        GuardKind::Input => false,
-        GuardKind::Skip => false,
-        GuardKind::Time => true,
-    }
+    matches!(
+        numbers::kinds::guard_kind(number.value as u64),
+        GuardKind::Time
+    )
 }
 
 // The place of the statement of the guard at a place, as the plan tells.
-fn statement_of(table: &[u8], plan: &[u32; 16384], at: usize) -> usize
+#[tactic(auto, unfolding(crate::specs::Alts::statement_of))]
+fn statement_of(table: &[u8], plan: &plan::Plan, at: usize) -> usize
     ensures { result ≡ statement_of plan.now table.now at }
 {
     let number = numbers::value_at(table, at);
@@ -134,25 +132,22 @@ fn statement_of(table: &[u8], plan: &[u32; 16384], at: usize) -> usize
 }
 
 // The place of the next guard, behind this one's statement.
-fn next_guard(table: &[u8], plan: &[u32; 16384], at: usize) -> usize
+fn next_guard(table: &[u8], plan: &plan::Plan, at: usize) -> usize
     ensures { result ≡ next_guard plan.now table.now at }
 {
-    let extent = plan::extent_in(plan, statement_of(table, plan, at));
-    extent.next
+    plan::extent_in(plan, statement_of(table, plan, at)).next
 }
 
 // There is a time guard among so many guards from a place on. The plan tells where each begins, so no statement is gone through.
-fn has_time(table: &[u8], plan: &[u32; 16384], first: usize, count: u32) -> bool
+fn has_time(table: &[u8], plan: &plan::Plan, first: usize, count: u32) -> bool
     ensures { result ≡ timed_in count plan.now table.now first }
 {
     let mut at = first;
-    let mut left = count;
-    while 0 < left {
+    for _ in 0..count {
         if is_time(table, at) {
             return true;
         }
         at = next_guard(table, plan, at);
-        left -= 1;
     }
     false
 }
@@ -161,33 +156,24 @@ fn has_time(table: &[u8], plan: &[u32; 16384], first: usize, count: u32) -> bool
 // after it.
 fn gen_enable(
     table: &[u8],
-    plan: &[u32; 16384],
+    plan: &plan::Plan,
     cursor: Cursor,
     count: u32,
     scope: Scope,
-    words: &[u32; 2112],
-    list: &mut [u64; 16384],
+    words: &Words,
+    list: &mut [Entry],
 ) -> u32
     ensures { WithNames scope words.now (λ ns. standing result list.new
         ≡ enable_into count scope.depth scope.w ns plan.now table.now cursor.at
         (standing cursor.here list.old)) }
 {
-    let mut at = cursor.at;
-    let mut here = cursor.here;
-    let mut left = count;
-    while 0 < left {
-        let start = Cursor { at: at, here: here };
+    let Cursor { mut at, mut here } = cursor;
+    for _ in 0..count {
+        let start = Cursor { at, here };
         let guard = gen_guard(table, plan, start, scope, words, &mut *list);
-        let kind = guard.kind;
-        let code = by_kind(
-            kind,
-            instruction::codes::ENBC,
-            instruction::codes::ENBS,
-            instruction::codes::ENBT,
-        );
+        let code = by_kind(guard.kind, codes::ENBC, codes::ENBS, codes::ENBT);
         here = expressions::operation(&mut *list, guard.here, code);
         at = next_guard(table, plan, at);
-        left -= 1;
     }
     here
 }
@@ -196,12 +182,12 @@ fn gen_enable(
 // has the enabling's instructions and one more for each guard. The scope is the guards'.
 pub fn gen_front(
     table: &[u8],
-    plan: &[u32; 16384],
+    plan: &plan::Plan,
     cursor: Cursor,
     count: u32,
     scope: Scope,
-    words: &[u32; 2112],
-    list: &mut [u64; 16384],
+    words: &Words,
+    list: &mut [Entry],
 ) -> Front
     ensures { WithNames scope words.now (λ ns. fronted result list.new
         ≡ front_into count scope.depth scope.w ns plan.now table.now cursor.at
@@ -209,34 +195,31 @@ pub fn gen_front(
 {
     let timed = has_time(table, plan, cursor.at, count);
     let lower = expressions::minus(1);
-    let second = expressions::plain(list, cursor.here, instruction::codes::AJW, lower);
-    let begins = either(timed, instruction::codes::TALT, instruction::codes::ALT);
+    let second = expressions::plain(list, cursor.here, codes::AJW, lower);
+    let (begins, waits) = if timed {
+        (codes::TALT, codes::TALTWT)
+    } else {
+        (codes::ALT, codes::ALTWT)
+    };
     let start = Cursor {
         at: cursor.at,
         here: expressions::operation(list, second, begins),
     };
     let wait = gen_enable(table, plan, start, count, scope, words, list);
-    let waits = either(timed, instruction::codes::TALTWT, instruction::codes::ALTWT);
     let disable = expressions::operation(list, wait, waits);
     let size = word::plus(word::less(wait, start.here), count);
     Front {
-        disable: disable,
+        disable,
         choice: word::plus(disable, size),
     }
 }
 
 // The rest of a guard's disabling: LDC branch, DISC, or LDC branch, DISS, or LDC branch, DIST. Distances of branches count from the byte
 // after ALTEND, which is at index `choice`.
-pub fn put_disable(list: &mut [u64; 16384], guard: Guard, branch: u32, choice: u32) -> u32
+pub fn put_disable(list: &mut [Entry], guard: Guard, branch: u32, choice: u32) -> u32
     ensures { standing result list.new ≡ disable_into guard branch choice list.old }
 {
-    let second = expressions::distance(list, guard.here, instruction::codes::LDC, branch, choice);
-    let kind = guard.kind;
-    let code = by_kind(
-        kind,
-        instruction::codes::DISC,
-        instruction::codes::DISS,
-        instruction::codes::DIST,
-    );
+    let second = expressions::distance(list, guard.here, codes::LDC, branch, choice);
+    let code = by_kind(guard.kind, codes::DISC, codes::DISS, codes::DIST);
     expressions::operation(list, second, code)
 }

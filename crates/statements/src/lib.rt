@@ -6,18 +6,14 @@ ghost use Rattle.statements.specs.Tables.{Generates};
 mod alt;
 mod stmt;
 
+use assembler::Entry;
 use numbers::kinds::Declared;
 
 // The list of an accepted table. The answer is its length; entries past the list's end are left out.
-pub fn generate(
-    table: &[u8],
-    plan: &[u32; 16384],
-    facts: model::Facts,
-    list: &mut [u64; 16384],
-) -> u32
+pub fn generate(table: &[u8], plan: &plan::Plan, facts: model::Facts, list: &mut [Entry]) -> u32
     ensures { Generates table.now plan.now facts list.old list.new result }
 {
-    let mut words: [u32; 2112] = [0; 2112];
+    let mut words: expressions::Words = [0; 2112];
     let outer = expressions::Scope {
         depth: model::limits::DEPTH,
         w: facts.words,

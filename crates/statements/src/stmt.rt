@@ -1,5 +1,5 @@
 // The code of statements.
-ghost use Rattle.std.specs.Prelude.{◌≡◌, ◌+◌, ◌≤◌};
+ghost use Rattle.std.specs.Prelude.{◌≡◌, ◌+◌, ◌≤◌, length};
 ghost use Rattle.model.specs.Limits.{part_limit};
 ghost use Rattle.expressions.specs.Emits.{at as standing};
 ghost use Rattle.expressions.specs.Exprs.{wrote};
@@ -10,7 +10,9 @@ ghost use Rattle.statements.specs.Alts.{chosen, branch_input, choice_into, guard
 ghost use Rattle.statements.specs.Kinds.{FewParts, stmt_into, inner_at, parts_into, inside_into};
 
 use crate::alt::Guard;
-use expressions::{Cursor, Scope, gen_simple};
+use assembler::Entry;
+use expressions::{Cursor, Scope, Words, gen_simple};
+use instruction::codes;
 use model::kinds::{GuardKind, StmtKind};
 use numbers::kinds::{Count, Declared, Head, Shape};
 
@@ -50,25 +52,24 @@ struct Form {
 }
 
 // LDC 0 (VAR) or MINT (CHAN).
-fn put_first(list: &mut [u64; 16384], here: u32, declared: Declared) -> u32
+#[tactic(auto, unfolding(crate::specs::Stmts::first_into))]
+fn put_first(list: &mut [Entry], here: u32, declared: Declared) -> u32
     ensures { standing result list.new ≡ first_into declared (standing here list.old) }
 {
     match declared {
-        Declared::Variables => expressions::plain(list, here, instruction::codes::LDC, 0),
-        Declared::Channels => expressions::operation(list, here, instruction::codes::MINT),
+        Declared::Variables => expressions::plain(list, here, codes::LDC, 0),
+        Declared::Channels => expressions::operation(list, here, codes::MINT),
     }
 }
 
 // The same and STL j, for each of so many j.
-fn put_initial(list: &mut [u64; 16384], start: u32, declared: Declared, count: u32) -> u32
+fn put_initial(list: &mut [Entry], start: u32, declared: Declared, count: u32) -> u32
     ensures { standing result list.new ≡ initial_into count declared 0 (standing start list.old) }
 {
     let mut here = start;
-    let mut j: u32 = 0;
-    while j < count {
+    for j in 0..count {
         let second = put_first(&mut *list, here, declared);
-        here = expressions::plain(&mut *list, second, instruction::codes::STL, j);
-        j += 1;
+        here = expressions::plain(&mut *list, second, codes::STL, j);
     }
     here
 }
@@ -78,10 +79,8 @@ fn lowered(scope: Scope, n: u32) -> Scope
     ensures { result ≡ under n scope }
 {
     Scope {
-        depth: scope.depth,
         w: expressions::below(scope.w, n),
-        variables: scope.variables,
-        channels: scope.channels,
+        ..scope
     }
 }
 
@@ -89,12 +88,12 @@ fn lowered(scope: Scope, n: u32) -> Scope
 #[cycle(alt_branch_branches_choice_choices_declare_inside_pair_pairs_par_parts_repetition_seq_statement)]
 fn declare(
     table: &[u8],
-    plan: &[u32; 16384],
+    plan: &plan::Plan,
     cursor: Cursor,
     declared: Declared,
     scope: Scope,
-    words: &mut [u32; 2112],
-    list: &mut [u64; 16384],
+    words: &mut Words,
+    list: &mut [Entry],
 ) -> Cursor
     ensures { Makes (scope.depth + 1) scope words.old words.new
         (λ ns. declaration_into declared (inner_at scope.depth plan.now table.now) scope.w ns
@@ -102,45 +101,35 @@ fn declare(
 {
     let count = numbers::kinds::count_at(table, cursor.at, Count::UpTo(model::limits::NAMES));
     let n = count.value;
-    let first = expressions::plain(
-        list,
-        cursor.here,
-        instruction::codes::AJW,
-        expressions::minus(n),
-    );
+    let first = expressions::plain(list, cursor.here, codes::AJW, expressions::minus(n));
     let start = Cursor {
         at: count.next,
         here: put_initial(list, first, declared, n),
     };
     let inner = expressions::enter(words, declared, n, scope);
     let body = statement(table, plan, start, inner, words, list);
-    let end = expressions::plain(list, body.here, instruction::codes::AJW, n);
-    Cursor {
-        at: body.at,
-        here: end,
-    }
+    let here = expressions::plain(list, body.here, codes::AJW, n);
+    Cursor { at: body.at, here }
 }
 
 // SEQ: so many parts.
 #[cycle(alt_branch_branches_choice_choices_declare_inside_pair_pairs_par_parts_repetition_seq_statement)]
 fn seq(
     table: &[u8],
-    plan: &[u32; 16384],
+    plan: &plan::Plan,
     cursor: Cursor,
     count: u32,
     scope: Scope,
-    words: &mut [u32; 2112],
-    list: &mut [u64; 16384],
+    words: &mut Words,
+    list: &mut [Entry],
 ) -> Cursor
     ensures { Makes (scope.depth + 1) scope words.old words.new
         (λ ns. seq_into count (inner_at scope.depth plan.now table.now scope.w ns) cursor.at
         (standing cursor.here list.old)) (wrote result list.new) }
 {
     let mut next = cursor;
-    let mut left = count;
-    while 0 < left {
+    for _ in 0..count {
         next = statement(table, plan, next, scope, &mut *words, &mut *list);
-        left -= 1;
     }
     next
 }
@@ -149,11 +138,11 @@ fn seq(
 #[cycle(alt_branch_branches_choice_choices_declare_inside_pair_pairs_par_parts_repetition_seq_statement)]
 fn pair(
     table: &[u8],
-    plan: &[u32; 16384],
+    plan: &plan::Plan,
     cursor: Cursor,
     scope: Scope,
-    words: &mut [u32; 2112],
-    list: &mut [u64; 16384],
+    words: &mut Words,
+    list: &mut [Entry],
 ) -> Cursor
     ensures { Makes (scope.depth + 1) scope words.old words.new
         (λ ns. pair_into scope.depth scope.w ns.variables
@@ -167,20 +156,17 @@ fn pair(
     };
     let body = statement(table, plan, start, scope, words, list);
     let next = word::plus(body.here, 1);
-    expressions::distance(list, test.here, instruction::codes::CJ, next, test.here);
+    expressions::distance(list, test.here, codes::CJ, next, test.here);
     body
 }
 
-// The Js at so many indices, to the end.
-fn close(ends: &[u32; 32], count: u32, over: u32, list: &mut [u64; 16384])
-    requires { count ≤ part_limit }
-    ensures { list.new ≡ close_into count ends.now over list.old }
+// The Js at some indices, to the end; the last first.
+fn close(ends: &[u32], over: u32, list: &mut [Entry])
+    ensures { list.new ≡ close_into (length ends.now) ends.now over list.old }
 {
-    let mut left = count;
-    while 0 < left {
-        left -= 1;
-        let here = ends[left as usize];
-        expressions::distance(&mut *list, here, instruction::codes::J, over, here);
+    for k in (0..ends.len()).rev() {
+        let here = ends[k];
+        expressions::distance(&mut *list, here, codes::J, over, here);
     }
 }
 
@@ -188,12 +174,12 @@ fn close(ends: &[u32; 32], count: u32, over: u32, list: &mut [u64; 16384])
 #[cycle(alt_branch_branches_choice_choices_declare_inside_pair_pairs_par_parts_repetition_seq_statement)]
 fn pairs(
     table: &[u8],
-    plan: &[u32; 16384],
+    plan: &plan::Plan,
     cursor: Cursor,
     count: u32,
     scope: Scope,
-    words: &mut [u32; 2112],
-    list: &mut [u64; 16384],
+    words: &mut Words,
+    list: &mut [Entry],
 ) -> Cursor
     requires { count ≤ part_limit }
     ensures { Makes (scope.depth + 1) scope words.old words.new
@@ -203,18 +189,16 @@ fn pairs(
 {
     let mut ends: [u32; 32] = [0; 32];
     let mut next = cursor;
-    let mut i: u32 = 0;
-    while i < count {
+    for i in 0..count {
         let body = pair(table, plan, next, scope, &mut *words, &mut *list);
         ends[i as usize] = body.here;
         next = Cursor {
             at: body.at,
             here: word::plus(body.here, 1),
         };
-        i += 1;
     }
-    let over = expressions::operation(list, next.here, instruction::codes::STOPP);
-    close(&ends, count, over, list);
+    let over = expressions::operation(list, next.here, codes::STOPP);
+    close(&ends[..count as usize], over, list);
     Cursor {
         at: next.at,
         here: over,
@@ -225,11 +209,11 @@ fn pairs(
 #[cycle(alt_branch_branches_choice_choices_declare_inside_pair_pairs_par_parts_repetition_seq_statement)]
 fn repetition(
     table: &[u8],
-    plan: &[u32; 16384],
+    plan: &plan::Plan,
     cursor: Cursor,
     scope: Scope,
-    words: &mut [u32; 2112],
-    list: &mut [u64; 16384],
+    words: &mut Words,
+    list: &mut [Entry],
 ) -> Cursor
     ensures { Makes (scope.depth + 1) scope words.old words.new
         (λ ns. while_into scope.depth scope.w ns.variables
@@ -237,44 +221,30 @@ fn repetition(
         cursor.at (standing cursor.here list.old)) (wrote result list.new) }
 {
     let body = pair(table, plan, cursor, scope, words, list);
-    let end = expressions::distance(
-        list,
-        body.here,
-        instruction::codes::J,
-        cursor.here,
-        body.here,
-    );
-    Cursor {
-        at: body.at,
-        here: end,
-    }
+    let here = expressions::distance(list, body.here, codes::J, cursor.here, body.here);
+    Cursor { at: body.at, here }
 }
 
 // LDC start, LDLP -d, STARTP.
-fn put_start(list: &mut [u64; 16384], here: u32, d: u32, start: u32) -> u32
+fn put_start(list: &mut [Entry], here: u32, d: u32, start: u32) -> u32
     ensures { standing result list.new ≡ start_into d start (standing here list.old) }
 {
     let user = word::plus(here, 2);
-    let second = expressions::distance(list, here, instruction::codes::LDC, start, user);
-    let third = expressions::plain(
-        list,
-        second,
-        instruction::codes::LDLP,
-        expressions::minus(d),
-    );
-    expressions::operation(list, third, instruction::codes::STARTP)
+    let second = expressions::distance(list, here, codes::LDC, start, user);
+    let third = expressions::plain(list, second, codes::LDLP, expressions::minus(d));
+    expressions::operation(list, third, codes::STARTP)
 }
 
 // A branch d words below: its code, LDLP d, ENDP.
 #[cycle(alt_branch_branches_choice_choices_declare_inside_pair_pairs_par_parts_repetition_seq_statement)]
 fn branch(
     table: &[u8],
-    plan: &[u32; 16384],
+    plan: &plan::Plan,
     cursor: Cursor,
     d: u32,
     scope: Scope,
-    words: &mut [u32; 2112],
-    list: &mut [u64; 16384],
+    words: &mut Words,
+    list: &mut [Entry],
 ) -> Cursor
     ensures { Makes (scope.depth + 1) scope words.old words.new
         (λ ns. branch_into d (inner_at scope.depth plan.now table.now) scope.w ns cursor.at
@@ -282,23 +252,20 @@ fn branch(
 {
     let inner = lowered(scope, d);
     let body = statement(table, plan, cursor, inner, words, list);
-    let second = expressions::plain(list, body.here, instruction::codes::LDLP, d);
-    let end = expressions::operation(list, second, instruction::codes::ENDP);
-    Cursor {
-        at: body.at,
-        here: end,
-    }
+    let second = expressions::plain(list, body.here, codes::LDLP, d);
+    let here = expressions::operation(list, second, codes::ENDP);
+    Cursor { at: body.at, here }
 }
 
 // The branches of a PAR from the second on, each with its start.
 #[cycle(alt_branch_branches_choice_choices_declare_inside_pair_pairs_par_parts_repetition_seq_statement)]
 fn branches(
     table: &[u8],
-    plan: &[u32; 16384],
+    plan: &plan::Plan,
     rest: Rest,
     scope: Scope,
-    words: &mut [u32; 2112],
-    list: &mut [u64; 16384],
+    words: &mut Words,
+    list: &mut [Entry],
 ) -> Cursor
     ensures { Makes (scope.depth + 1) scope words.old words.new
         (λ ns. branches_into rest.left (inner_at scope.depth plan.now table.now) scope.w ns
@@ -310,31 +277,29 @@ fn branches(
     };
     let mut start = rest.start;
     let mut d = rest.d;
-    let mut left = rest.left;
-    while 0 < left {
+    for _ in 0..rest.left {
         let own = plan::extent_in(plan, next.at);
         start = put_start(&mut *list, start, d, next.here);
         next = branch(table, plan, next, d, scope, &mut *words, &mut *list);
         d = word::plus(d, own.need);
-        left -= 1;
     }
     next
 }
 
 // AJW -2; an index left for LDC end; LDPI, STL 0; LDC count, STL 1.
-fn put_fork(list: &mut [u64; 16384], here: u32, count: u32) -> Fork
+fn put_fork(list: &mut [Entry], here: u32, count: u32) -> Fork
     ensures { forked result list.new ≡ fork_into count (standing here list.old) }
 {
     let lower = expressions::minus(2);
-    let gap = expressions::plain(list, here, instruction::codes::AJW, lower);
+    let gap = expressions::plain(list, here, codes::AJW, lower);
     let user = word::plus(gap, 1);
-    let second = expressions::operation(list, user, instruction::codes::LDPI);
-    let third = expressions::plain(list, second, instruction::codes::STL, 0);
-    let fourth = expressions::plain(list, third, instruction::codes::LDC, count);
+    let second = expressions::operation(list, user, codes::LDPI);
+    let third = expressions::plain(list, second, codes::STL, 0);
+    let fourth = expressions::plain(list, third, codes::LDC, count);
     Fork {
-        gap: gap,
-        user: user,
-        starts: expressions::plain(list, fourth, instruction::codes::STL, 1),
+        gap,
+        user,
+        starts: expressions::plain(list, fourth, codes::STL, 1),
     }
 }
 
@@ -342,12 +307,12 @@ fn put_fork(list: &mut [u64; 16384], here: u32, count: u32) -> Fork
 #[cycle(alt_branch_branches_choice_choices_declare_inside_pair_pairs_par_parts_repetition_seq_statement)]
 fn par(
     table: &[u8],
-    plan: &[u32; 16384],
+    plan: &plan::Plan,
     cursor: Cursor,
     count: u32,
     scope: Scope,
-    words: &mut [u32; 2112],
-    list: &mut [u64; 16384],
+    words: &mut Words,
+    list: &mut [Entry],
 ) -> Cursor
     ensures { Makes (scope.depth + 1) scope words.old words.new
         (λ ns. par_into count (inner_at scope.depth plan.now table.now) scope.w ns plan.now
@@ -372,34 +337,30 @@ fn par(
         left: count - 1,
     };
     let end = branches(table, plan, rest, inner, words, list);
-    expressions::distance(list, fork.gap, instruction::codes::LDC, end.here, fork.user);
+    expressions::distance(list, fork.gap, codes::LDC, end.here, fork.user);
     Cursor {
         at: end.at,
-        here: expressions::plain(list, end.here, instruction::codes::AJW, 2),
+        here: expressions::plain(list, end.here, codes::AJW, 2),
     }
 }
 
 // The input that a guard's branch begins with, if it waits for one.
+#[tactic(auto, unfolding(crate::specs::Alts::branch_input))]
 fn put_input(
     table: &[u8],
     guard: Guard,
     here: u32,
     scope: Scope,
-    words: &[u32; 2112],
-    list: &mut [u64; 16384],
+    words: &Words,
+    list: &mut [Entry],
 ) -> Cursor
     ensures { WithNames scope words.now
         (λ ns. wrote result list.new ≡ branch_input guard scope.w ns table.now (standing here list.old)) }
 {
-    let start = Cursor {
-        at: guard.at,
-        here: here,
-    };
-    let kind = guard.kind;
-    match kind {
+    let start = Cursor { at: guard.at, here };
+    match guard.kind {
         GuardKind::Input => expressions::gen_input(table, start, scope, words, list),
-        GuardKind::Skip => start,
-        GuardKind::Time => start,
+        GuardKind::Skip | GuardKind::Time => start,
     }
 }
 
@@ -407,11 +368,11 @@ fn put_input(
 #[cycle(alt_branch_branches_choice_choices_declare_inside_pair_pairs_par_parts_repetition_seq_statement)]
 fn choice(
     table: &[u8],
-    plan: &[u32; 16384],
+    plan: &plan::Plan,
     turn: Turn,
     scope: Scope,
-    words: &mut [u32; 2112],
-    list: &mut [u64; 16384],
+    words: &mut Words,
+    list: &mut [Entry],
 ) -> Turn
     ensures { Makes (scope.depth + 1) scope words.old words.new
         (λ ns. choice_into scope.depth (inner_at scope.depth plan.now table.now) scope.w ns
@@ -424,27 +385,28 @@ fn choice(
     };
     let guard = crate::alt::gen_guard(table, plan, start, lowered(scope, 1), &*words, list);
     let disable = crate::alt::put_disable(list, guard, turn.here, turn.choice);
-    let first = expressions::plain(list, turn.here, instruction::codes::AJW, 1);
+    let first = expressions::plain(list, turn.here, codes::AJW, 1);
     let input = put_input(table, guard, first, scope, &*words, list);
     let body = statement(table, plan, input, scope, words, list);
     Turn {
         at: body.at,
-        disable: disable,
+        disable,
         here: body.here,
-        choice: turn.choice,
+        ..turn
     }
 }
 
 // The disabling of so many guards, and their branches: each ends with J end.
+// Stays beside `pairs`: a loop for both, over a closure, would have a contract of what the closure ensures at each turn, longer than both.
 #[cycle(alt_branch_branches_choice_choices_declare_inside_pair_pairs_par_parts_repetition_seq_statement)]
 fn choices(
     table: &[u8],
-    plan: &[u32; 16384],
+    plan: &plan::Plan,
     first: Turn,
     count: u32,
     scope: Scope,
-    words: &mut [u32; 2112],
-    list: &mut [u64; 16384],
+    words: &mut Words,
+    list: &mut [Entry],
 ) -> Cursor
     requires { count ≤ part_limit }
     ensures { Makes (scope.depth + 1) scope words.old words.new
@@ -454,19 +416,17 @@ fn choices(
 {
     let mut ends: [u32; 32] = [0; 32];
     let mut turn = first;
-    let mut i: u32 = 0;
-    while i < count {
+    for i in 0..count {
         let body = choice(table, plan, turn, scope, &mut *words, &mut *list);
         ends[i as usize] = body.here;
         turn = Turn {
             at: body.at,
             disable: body.disable,
             here: word::plus(body.here, 1),
-            choice: first.choice,
+            ..turn
         };
-        i += 1;
     }
-    close(&ends, count, turn.here, list);
+    close(&ends[..count as usize], turn.here, list);
     Cursor {
         at: turn.at,
         here: turn.here,
@@ -477,12 +437,12 @@ fn choices(
 #[cycle(alt_branch_branches_choice_choices_declare_inside_pair_pairs_par_parts_repetition_seq_statement)]
 fn alt(
     table: &[u8],
-    plan: &[u32; 16384],
+    plan: &plan::Plan,
     cursor: Cursor,
     count: u32,
     scope: Scope,
-    words: &mut [u32; 2112],
-    list: &mut [u64; 16384],
+    words: &mut Words,
+    list: &mut [Entry],
 ) -> Cursor
     requires { count ≤ part_limit }
     ensures { Makes (scope.depth + 1) scope words.old words.new
@@ -495,7 +455,7 @@ fn alt(
     let first = Turn {
         at: cursor.at,
         disable: front.disable,
-        here: expressions::operation(list, front.choice, instruction::codes::ALTEND),
+        here: expressions::operation(list, front.choice, codes::ALTEND),
         choice: front.choice,
     };
     choices(table, plan, first, count, scope, words, list)
@@ -505,12 +465,12 @@ fn alt(
 #[cycle(alt_branch_branches_choice_choices_declare_inside_pair_pairs_par_parts_repetition_seq_statement)]
 fn parts(
     table: &[u8],
-    plan: &[u32; 16384],
+    plan: &plan::Plan,
     cursor: Cursor,
     form: Form,
     scope: Scope,
-    words: &mut [u32; 2112],
-    list: &mut [u64; 16384],
+    words: &mut Words,
+    list: &mut [Entry],
 ) -> Cursor
     requires { FewParts form.count }
     ensures { Makes (scope.depth + 1) scope words.old words.new
@@ -518,8 +478,7 @@ fn parts(
         scope.w ns plan.now table.now cursor.at (standing cursor.here list.old))
         (wrote result list.new) }
 {
-    let head = form.head;
-    let count = form.count;
+    let Form { head, count } = form;
     let number = numbers::kinds::count_at(table, cursor.at, count);
     let n = number.value;
     let first = Cursor {
@@ -529,8 +488,8 @@ fn parts(
     match head {
         Head::Nothing => seq(table, plan, first, n, scope, words, list),
         Head::Condition => match count {
-            Count::UpTo(most) => pairs(table, plan, first, n, scope, words, list),
-            Count::Fixed(m) => repetition(table, plan, first, scope, words, list),
+            Count::UpTo(_) => pairs(table, plan, first, n, scope, words, list),
+            Count::Fixed(_) => repetition(table, plan, first, scope, words, list),
         },
         Head::Guard => alt(table, plan, first, n, scope, words, list),
     }
@@ -540,12 +499,12 @@ fn parts(
 #[cycle(alt_branch_branches_choice_choices_declare_inside_pair_pairs_par_parts_repetition_seq_statement)]
 fn inside(
     table: &[u8],
-    plan: &[u32; 16384],
+    plan: &plan::Plan,
     cursor: Cursor,
     kind: StmtKind,
     scope: Scope,
-    words: &mut [u32; 2112],
-    list: &mut [u64; 16384],
+    words: &mut Words,
+    list: &mut [Entry],
 ) -> Cursor
     ensures { Makes (scope.depth + 1) scope words.old words.new
         (λ ns. inside_into kind scope.depth (inner_at scope.depth plan.now table.now) scope.w ns
@@ -564,10 +523,7 @@ fn inside(
             par(table, plan, first, number.value, scope, words, list)
         }
         Shape::Parts(head, count) => {
-            let own = Form {
-                head: head,
-                count: count,
-            };
+            let own = Form { head, count };
             parts(table, plan, cursor, own, scope, words, list)
         }
     }
@@ -577,11 +533,11 @@ fn inside(
 #[cycle(alt_branch_branches_choice_choices_declare_inside_pair_pairs_par_parts_repetition_seq_statement)]
 pub fn statement(
     table: &[u8],
-    plan: &[u32; 16384],
+    plan: &plan::Plan,
     cursor: Cursor,
     scope: Scope,
-    words: &mut [u32; 2112],
-    list: &mut [u64; 16384],
+    words: &mut Words,
+    list: &mut [Entry],
 ) -> Cursor
     ensures { Makes scope.depth scope words.old words.new
         (λ ns. stmt_into scope.depth scope.w ns plan.now table.now cursor.at
@@ -598,9 +554,7 @@ pub fn statement(
     };
     let inner = Scope {
         depth: scope.depth - 1,
-        w: scope.w,
-        variables: scope.variables,
-        channels: scope.channels,
+        ..scope
     };
     inside(table, plan, behind, kind, inner, words, list)
 }

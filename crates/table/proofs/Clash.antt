@@ -9,7 +9,7 @@ use mathlib.Core.List.{List, [], ◌∷◌, ◌++◌}
 use lib.ListN.{length, drop}
 use lib.Dec.{ltb}
 use lib.Bits.{bit_and, bit_or, or_add_and, and_le_l, and_le_r}
-use borrow.Author.Tests.{lt-ltb, ltb-true}
+use borrow.Author.Tests.{lt-ltb, le-ltb, ltb-true, ltb-false}
 use Rattle.model.proofs.Cases.{by_bool, never}
 use Rattle.model.proofs.Tables.Sites.{same_refl, same-eq}
 use Rattle.model.proofs.Quiet.Setting.{get_elem-inside as inside}
@@ -45,20 +45,20 @@ share-of (y ∷ xs) ys x e h =
     (λ s. rw (share-of xs ys x (rw s at e) h) (or-true (is_in y ys)))
 
 -- something is in a union if it is in one of the two
-in-union : (a b : ℕ) → 0 < bit_or a b → (0 < a) ⊎ (0 < b)
+pub in-union : (a b : ℕ) → 0 < bit_or a b → (0 < a) ⊎ (0 < b)
 in-union a b h = elim (dec_le 1 a) [
   | yes l ↦ inl l
   | no l ↦ inr (omega (arith, or_add_and a b))
 ]
 
-left_in_lem : (a b : ℕ) → 0 < a → 0 < bit_or a b
+pub left_in_lem : (a b : ℕ) → 0 < a → 0 < bit_or a b
 left_in_lem a b h = omega (arith, or_add_and a b, and_le_r a b)
 
-right-in : (a b : ℕ) → 0 < b → 0 < bit_or a b
+pub right-in : (a b : ℕ) → 0 < b → 0 < bit_or a b
 right-in a b h = omega (arith, or_add_and a b, and_le_l a b)
 
 -- what is found below word k was there or is in one of the words
-met_has : (k x : ℕ) (b m : List ℕ) → 0 < met_below k x b m → (0 < x) ⊎ ((j : ℕ) × (j < k) × (0 < met_at j b m))
+pub met_has : (k x : ℕ) (b m : List ℕ) → 0 < met_below k x b m → (0 < x) ⊎ ((j : ℕ) × (j < k) × (0 < met_at j b m))
 unfolding met_below
 met_has zero x b m h = inl h
 met_has (suc k) x b m h =
@@ -70,7 +70,7 @@ unfolding met_below
 met-keeps zero x b m h = h
 met-keeps (suc k) x b m h = met-keeps k (bit_or x (met_at k b m)) b m (left_in_lem x (met_at k b m) h)
 
-met_of : (k x : ℕ) (b m : List ℕ) (j : ℕ) → j < k → 0 < met_at j b m → 0 < met_below k x b m
+pub met_of : (k x : ℕ) (b m : List ℕ) (j : ℕ) → j < k → 0 < met_at j b m → 0 < met_below k x b m
 unfolding met_below
 met_of zero x b m j l h = absurd (omega (arith, l))
 met_of (suc k) x b m j l h = elim (dec_le k j) [
@@ -79,6 +79,42 @@ met_of (suc k) x b m j l h = elim (dec_le k j) [
       met-keeps k (bit_or x (met_at k b m)) b m (right-in x (met_at k b m) (rw e at h))
   | no low ↦ met_of k (bit_or x (met_at k b m)) b m j (omega (arith, low)) h
 ]
+
+-- what was found in the words before k, from the first on
+abbrev pub met_before : (k : ℕ) (b m : List ℕ) → ℕ
+met_before zero b m = 0
+met_before (suc k) b m = bit_or (met_before k b m) (met_at k b m)
+
+before-has : (k : ℕ) (b m : List ℕ) → 0 < met_before k b m → (j : ℕ) × (j < k) × (0 < met_at j b m)
+before-has zero b m h = absurd (omega (arith, h))
+before-has (suc k) b m h =
+    ⊎_elim (λ g. let r = before-has k b m g in (r.0, omega (arith, r.1), r.2)) (λ g. (k, omega arith, g))
+    (in-union (met_before k b m) (met_at k b m) h)
+
+before_of : (k : ℕ) (b m : List ℕ) (j : ℕ) → j < k → 0 < met_at j b m → 0 < met_before k b m
+before_of zero b m j l h = absurd (omega arith)
+before_of (suc k) b m j l h =
+    elim (dec_le k j) [
+      | yes low ↦
+          let e : j ≡ k = omega (arith, l, low) in right-in (met_before k b m) (met_at k b m) (rw e at h)
+      | no low ↦ left_in_lem (met_before k b m) (met_at k b m) (before_of k b m j (omega (arith, low)) h)
+    ]
+
+-- some are found from the first word on where some are found from the last on
+pub met-same : (b m : List ℕ) → ltb 0 (met_before 16 b m) ≡ ltb 0 (met_below 16 0 b m)
+met-same b m =
+    by_bool (ltb 0 (met_below 16 0 b m))
+    (λ e. ⊎_elim (λ g. absurd (omega (arith, g)))
+    (λ r. rw e (lt-ltb 0 (met_before 16 b m) (before_of 16 b m r.0 r.1 r.2)))
+    (met_has 16 0 b m (ltb-true 0 (met_below 16 0 b m) e)))
+    (λ e. rw e (le-ltb 0 (met_before 16 b m) (none_before (ltb-false 0 (met_below 16 0 b m) e))))
+  where
+    none_before : met_below 16 0 b m ≤ 0 → met_before 16 b m ≤ 0
+    none_before h =
+        elim (dec_le 1 (met_before 16 b m)) [
+          | yes g ↦ let r = before-has 16 b m g in absurd (omega (arith, h, met_of 16 0 b m r.0 r.1 r.2))
+          | no g ↦ omega (arith, g)
+        ]
 
 -- the names of one word that two lists have
 abbrev in_both : (names xs ys : List Site) → ℕ → ℕ

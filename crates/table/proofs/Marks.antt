@@ -469,7 +469,7 @@ clean-added {f} {g} {sc} {inner} {new} adds c =
         (λ a. fields h g (λ s. rw (s, adds.second) (omega (arith, length-append (names_of g sc) new)))
         (λ b. rw (adds.others h a b) (omega arith)))
 
-merged-at : (n : ℕ) (b m : List ℕ) (i : ℕ) → n ≤ length b
+pub merged-at : (n : ℕ) (b m : List ℕ) (i : ℕ) → n ≤ length b
     → get_or (merged n b m) i 0 ≡ cond (ltb i n) (bit_or (get_or b i 0) (get_or m i 0)) (get_or b i 0)
 unfolding merged
 merged-at zero b m i h = rw (le-ltb i 0 (omega arith)) refl
@@ -488,7 +488,7 @@ merged-at (suc k) b m i h =
         (λ q. rw (q, lt-ltb i (suc k) (omega (arith, ltb-true i k q))) refl)
         (λ q. rw (q, le-ltb i (suc k) (omega (arith, d, ltb-false i k q))) refl)
 
-merged-length : (n : ℕ) (b m : List ℕ) → length (merged n b m) ≡ length b
+pub merged-length : (n : ℕ) (b m : List ℕ) → length (merged n b m) ≡ length b
 unfolding merged
 merged-length zero b m = refl
 merged-length (suc k) b m =

@@ -23,24 +23,25 @@ use Rattle.table.specs.Stmts.{Fits, stmt_at, stmt_uses, declaring, more_names}
 use Rattle.table.specs.Uses.{leave_at}
 use Rattle.table.specs.Exprs.{kept}
 use Rattle.table.specs.declared.stmt.Names.{Names}
-use Rattle.table.specs.declared.stmt.StmtRead.TheVariants.{Stmt, Refused as NoStmt}
 use Rattle.table.specs.Scopes.{Scoped}
+use Rattle.std.specs.Prelude.{Ok, Err}
 use Rattle.table.proofs.SameItems.{Bytes, Same, gives, onwards, count_same}
 use Rattle.table.proofs.Marks.{Field, changed, used-there, inputs-of, outputs-of, names_of, Marked, Clean, InScope, Adds}
 use Rattle.table.proofs.Marks.{adds-variables, adds-channels, clean-added, left}
-use Rattle.numbers.specs.Items.{between_at, with_item}
+use Rattle.numbers.specs.Items.{between_at, with_read}
 use Rattle.table.proofs.SameSimple.{part_of, DeclaredIn, Within, RestIs, StmtIs, own-more, below_more, below-later, lookup-append}
 use Rattle.table.proofs.SameSimple.{numbered-at, length-numbered, declared-wider}
 
 -- the statements inside, one level down
 abbrev pub InnerIs : List ℕ → ℕ → Type 0
-InnerIs s d = (w : Names) (sc : Scope) (i : ℕ) → Scoped w sc i → Fits w d → Same s (StmtIs s d w sc i) NoStmt (stmt_at d w s i)
+InnerIs s d = (w : Names) (sc : Scope) (i : ℕ) → Scoped w sc i → Fits w d → Same s (StmtIs s d w sc i) (stmt_at d w s i)
     (read_stmt d sc i (drop i s))
 
 -- the sets behind a declaration: its own names leave them
 abbrev pub declared_way : Declared → (d : ℕ) → Names → List ℕ → (at : ℕ) → List ℕ → List ℕ
 declared_way what d w s at l =
-    with_item (kept l) (between_at 1 32 s at) (λ c m. leave_at what w.variables w.channels (stmt_uses d (more_names what c w) s m l))
+    with_read (kept l) (between_at 1 32 s at) (λ c.
+    leave_at what w.variables w.channels (stmt_uses d (more_names what c.value w) s c.next l))
 
 variables-in : (w : Names) (sc : Scope) (place c m : ℕ) → Scoped w sc place → place < m
     → Scoped (more_names Variables c w) (with_variables place c sc) m
@@ -106,22 +107,24 @@ record Declares (s : List ℕ) (d : ℕ) (w : Names) (sc : Scope) (place : ℕ) 
   leaves : (c : ℕ) (l m : List ℕ) (u : Usage) → c ≤ 32 → Clean sc l → Marked (more c) l u m
       → Marked sc l u (leave_at what w.variables w.channels m)
   within : (c m n : ℕ) (u : Usage) → place < m → m ≤ n → Within (more c) m n u → Within sc place n u
-  counts : (c n : ℕ) (st : M.Stmt) → declaring c (Stmt (part_of st n)) ≡ Stmt (part_of (of c st) n)
+  counts : (c n : ℕ) (st : M.Stmt) → declaring c (part_of st n) ≡ part_of (of c st) n
   same-usage : (c : ℕ) (st : M.Stmt) → usage (of c st) ≡ usage st
 
 declare-same : (s : List ℕ) (d : ℕ) (w : Names) (sc : Scope) (place : ℕ) (what : Declared) (more : ℕ → Scope)
     (of : ℕ → M.Stmt → M.Stmt) (at : ℕ)
     → Bytes s
     → place < at → InnerIs s d → Declares s d w sc place what more of
-    → Same s (RestIs sc place at (declared_way what d w s at)) NoStmt
-    (with_item NoStmt (between_at 1 32 s at) (λ c m. declaring c (stmt_at d (more_names what c w) s m)))
+    → Same s (RestIs sc place at (declared_way what d w s at))
+    (with_read Err (between_at 1 32 s at) (λ c.
+    with_read Err (stmt_at d (more_names what c.value w) s c.next) (λ p. Ok (declaring c.value p))))
     (onward (read_count 1 32 at (drop at s)) (λ c. λ i bytes. onward (read_stmt d (more c) i bytes) (λ st. pure (of c st))))
 declare-same s d w sc place what more of at b l inner h =
-    onwards (λ x. with_item NoStmt x (λ c m. declaring c (stmt_at d (more_names what c w) s m))) _ (count_same 1 32 s at b)
+    onwards (λ x. with_read Err x (λ c.
+    with_read Err (stmt_at d (more_names what c.value w) s c.next) (λ p. Ok (declaring c.value p)))) _ (count_same 1 32 s at b)
     (λ c m y k q. rw k.found (
-    onwards (λ x. declaring c x) (λ st. pure (of c st))
+    onwards (λ x. with_read Err x (λ p. Ok (declaring c p))) (λ st. pure (of c st))
     (inner (more_names what c w) (more c) m (h.scoped c m (omega (arith, l, k.there.ahead))) (h.fits c k.most))
-    (λ st n z r p. rw (r.is, h.counts c n st) (gives (of c st) n (Stmt (part_of (of c st) n))
+    (λ st n z r p. rw (r.is, h.counts c n st) (gives (of c st) n (Ok (part_of (of c st) n))
     (record {
       is = refl;
       ahead = omega (arith, k.there.ahead, r.ahead);
@@ -131,8 +134,8 @@ declare-same s d w sc place what more of at b l inner h =
       within = rw (h.same-usage c st)
           (h.within c m n (usage st) (omega (arith, l, k.there.ahead)) (omega (arith, r.ahead)) r.within);
     })))
-    (λ j p. refl)))
-    (λ j p. refl)
+    (λ e. refl)))
+    (λ e. refl)
 
 within-variables : (sc : Scope) (place c m n : ℕ) (u : Usage) → place < m → m ≤ n → Within (with_variables place c sc) m n u
     → Within sc place n u
@@ -160,8 +163,9 @@ within-channels sc place c m n u l k w = record { each_in = λ f x e. one f x (w
 
 pub variables-same : (s : List ℕ) (d : ℕ) (w : Names) (sc : Scope) (place at : ℕ) (inner : Inner) → Bytes s → place < at → Scoped w sc place
     → Fits w (suc d) → InnerIs s d → inner.stmt ≡ read_stmt d
-    → Same s (RestIs sc place at (declared_way Variables d w s at)) NoStmt
-    (with_item NoStmt (between_at 1 32 s at) (λ c m. declaring c (stmt_at d (more_names Variables c w) s m)))
+    → Same s (RestIs sc place at (declared_way Variables d w s at))
+    (with_read Err (between_at 1 32 s at) (λ c.
+    with_read Err (stmt_at d (more_names Variables c.value w) s c.next) (λ p. Ok (declaring c.value p))))
     (stmt_of place sc inner Var at (drop at s))
 unfolding stmt_of leave_at need processes first_clash usage
 variables-same s d w sc place at inner b l h f i e =
@@ -182,8 +186,9 @@ variables-same s d w sc place at inner b l h f i e =
 
 pub channels-same : (s : List ℕ) (d : ℕ) (w : Names) (sc : Scope) (place at : ℕ) (inner : Inner) → Bytes s → place < at → Scoped w sc place
     → Fits w (suc d) → InnerIs s d → inner.stmt ≡ read_stmt d
-    → Same s (RestIs sc place at (declared_way Channels d w s at)) NoStmt
-    (with_item NoStmt (between_at 1 32 s at) (λ c m. declaring c (stmt_at d (more_names Channels c w) s m)))
+    → Same s (RestIs sc place at (declared_way Channels d w s at))
+    (with_read Err (between_at 1 32 s at) (λ c.
+    with_read Err (stmt_at d (more_names Channels c.value w) s c.next) (λ p. Ok (declaring c.value p))))
     (stmt_of place sc inner Chan at (drop at s))
 unfolding stmt_of leave_at need processes first_clash usage
 channels-same s d w sc place at inner b l h f i e =

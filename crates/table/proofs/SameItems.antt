@@ -30,24 +30,30 @@ use Rattle.numbers.specs.Kinds.{stmt_kind, expr_kind, guard_kind, operator_of}
 use Rattle.model.proofs.Tables.Readers.{number-sized}
 use Rattle.model.proofs.Quiet.Setting.{get_elem-inside as inside}
 use Rattle.model.proofs.Cases.{by_bool, by-option, never}
-use Rattle.numbers.specs.Items.{groups_at, grouped, between_at, name_at, deep_at}
-use Rattle.numbers.specs.declared.NumberRead.{NumberRead}
-use Rattle.numbers.specs.declared.NumberRead.TheVariants.{Number, Bad}
-use Rattle.numbers.specs.declared.Item.{Item}
-use Rattle.numbers.specs.declared.Item.TheVariants.{Item as Found, Refused}
+use Rattle.std.specs.Prelude.{Option as Maybe, Some, None, Result, Ok, Err}
+use Rattle.std.specs.Option.{option_and_then}
+use Rattle.model.specs.declared.Reason.{Reason}
+use Rattle.model.specs.declared.Reason.TheVariants.{BadNumber, OutOfRange, TooDeep, BadName}
+use Rattle.numbers.specs.declared.Misread.{Misread}
+use Rattle.numbers.specs.Items.{misread, groups_at, grouped, number_at, between_at, name_at, deep_at}
+use Rattle.numbers.specs.declared.Number.{Number}
 
 -- a table's elements are bytes
 abbrev pub Bytes : List ℕ → Type 0
 Bytes s = (i : ℕ) → get_or s i 0 < 256
 
+-- a number and the place after it
+abbrev pub to : (value next : ℕ) → Number
+to v n = record { value = v; next = n }
+
 -- a number as the reader answers it where it has at most k bytes and is below 2 ^ 32
-abbrev capped : (k at : ℕ) → Option N.Number → NumberRead
-capped k at none = Bad
-capped k at (some n) = cond (leb n.size k && ltb n.value (2 ^ 32)) (Number n.value (at + n.size)) Bad
+abbrev capped : (k at : ℕ) → Option N.Number → Maybe Number
+capped k at none = None
+capped k at (some n) = cond (leb n.size k && ltb n.value (2 ^ 32)) (Some (to n.value (at + n.size))) None
 
 -- one group behind another
 grouped-is : (b : ℕ) (m : N.Number) (k at : ℕ) → b < 256 → 128 ≤ b → m.value ≢ 0
-    → grouped b (capped k (at + 1) (some m))
+    → option_and_then (grouped b) (capped k (at + 1) (some m))
     ≡ capped (suc k) at (some (record { value = b - 128 + 128 * m.value; size = suc m.size }))
 grouped-is b m k at hb lb nz =
     by_bool (leb m.size k)
@@ -72,7 +78,8 @@ grouped-is b m k at hb lb nz =
     rw (e, fits, le-ltb (b - 128 + 128 * m.value) (2 ^ 32) (omega arith)) (too_large (ltb m.value (2 ^ 32)) f)))
     (λ e. rw (e, lt-leb (suc m.size) (suc k) (omega (arith, leb-false m.size k e))))
   where
-    too_large : (t : Bool) → ltb m.value (2 ^ 25) ≡ false → grouped b (cond t (Number m.value (at + 1 + m.size)) Bad) ≡ Bad
+    too_large : (t : Bool) → ltb m.value (2 ^ 25) ≡ false
+        → option_and_then (grouped b) (cond t (Some (to m.value (at + 1 + m.size))) None) ≡ None
     too_large true f = rw (ne_eqb m.value 0 nz, f)
     too_large false f = refl
 
@@ -125,12 +132,13 @@ groups-capped (suc k) s at b =
     (λ e. rw (e, drop-cons s at 0 (leb-false (length s) at e)) (one (rw (add-one at) at (groups-capped k s (at + 1) b))))
   where
     zeroed : (t : Bool) (m : N.Number) → eqb m.value 0 ≡ true
-        → grouped (get_or s at 0) (cond t (Number m.value (suc at + m.size)) Bad) ≡ Bad
+        → option_and_then (grouped (get_or s at 0)) (cond t (Some (to m.value (suc at + m.size))) None) ≡ None
     zeroed true m v = rw v
     zeroed false m v = refl
 
     one : groups_at k s (suc at) ≡ capped k (suc at) (groups (drop (suc at) s))
-        → cond (ltb (get_or s at 0) 128) (Number (get_or s at 0) (at + 1)) (grouped (get_or s at 0) (groups_at k s (at + 1)))
+        → cond (ltb (get_or s at 0) 128) (Some (to (get_or s at 0) (at + 1)))
+        (option_and_then (grouped (get_or s at 0)) (groups_at k s (at + 1)))
         ≡ capped (suc k) at (groups (get_or s at 0 ∷ drop (suc at) s))
     one ih = by_bool (ltb (get_or s at 0) 128)
         (λ f. rw (f, le-leb 1 (suc k) (omega arith), lt-ltb (get_or s at 0) (2 ^ 32) (omega (arith, b at))))
@@ -141,9 +149,9 @@ groups-capped (suc k) s at b =
         (λ v. rw (f, add-one at, ih, z, v)
         (rw (add-one at) at (grouped-is (get_or s at 0) m k at (b at) (ltb-false _ _ f) (eqb-false _ _ v))))))
 
-abbrev answer : (at : ℕ) → Option N.Number → NumberRead
-answer at none = Bad
-answer at (some n) = Number n.value (at + n.size)
+abbrev answer : (at : ℕ) → Option N.Number → Maybe Number
+answer at none = None
+answer at (some n) = Some (to n.value (at + n.size))
 
 -- the number at a place
 number_same : (s : List ℕ) (at : ℕ) → Bytes s → groups_at 5 s at ≡ answer at (number (drop at s))
@@ -151,7 +159,7 @@ unfolding number
 number_same s at b = groups-capped 5 s at b ∙ by-option (groups (drop at s)) (λ e. rw e) (λ n e. rw e (cut n (shaped (drop at s) n e)))
   where
     cut : (n : N.Number) → Shaped n
-        → cond (leb n.size 5 && ltb n.value (2 ^ 32)) (Number n.value (at + n.size)) Bad
+        → cond (leb n.size 5 && ltb n.value (2 ^ 32)) (Some (to n.value (at + n.size))) None
         ≡ answer at (cond (ltb n.value (2 ^ 32)) (some n) none)
     cut n h = by_bool (ltb n.value (2 ^ 32))
         (λ e. rw (e, le-leb n.size 5 (five n h (ltb-true _ _ e))))
@@ -159,17 +167,17 @@ number_same s at b = groups-capped 5 s at b ∙ by-option (groups (drop at s)) (
 
 -- a part read by the model and its answer here: from the place after it on the bytes are those of the table, and the answer is related to
 -- what was read; a refusal is the same refusal
-pub data Same {A X : Type 0} (s : List ℕ) (R : A → ℕ → X → Type 0) (g : ℕ → ℕ → X) : X → Parsed A → Type 0 where
-  gives : (a : A) (n : ℕ) (x : X) → R a n x → Same s R g x (parsed a n (drop n s))
-  turns : (k p : ℕ) → Same s R g (g k p) (fails k p)
+pub data Same {A X : Type 0} (s : List ℕ) (R : A → ℕ → Result X Misread → Type 0) : Result X Misread → Parsed A → Type 0 where
+  gives : (a : A) (n : ℕ) (x : Result X Misread) → R a n x → Same s R x (parsed a n (drop n s))
+  turns : (why : Reason) (p : ℕ) → Same s R (Err (misread why p)) (fails why p)
 
 -- one part, then another
-pub onwards : {A B X Y : Type 0} {s : List ℕ} {R : A → ℕ → X → Type 0} {g : ℕ → ℕ → X} {Q : B → ℕ → Y → Type 0} {h : ℕ → ℕ → Y}
-    {x : X} {r : Parsed A} (c : X → Y) (k : A → Reader B) → Same s R g x r
-    → ((a : A) (n : ℕ) (y : X) → R a n y → x ≡ y → Same s Q h (c y) (k a n (drop n s)))
-    → ((j p : ℕ) → c (g j p) ≡ h j p) → Same s Q h (c x) (onward r k)
+pub onwards : {A B X Y : Type 0} {s : List ℕ} {R : A → ℕ → Result X Misread → Type 0} {Q : B → ℕ → Result Y Misread → Type 0}
+    {x : Result X Misread} {r : Parsed A} (c : Result X Misread → Result Y Misread) (k : A → Reader B) → Same s R x r
+    → ((a : A) (n : ℕ) (y : Result X Misread) → R a n y → x ≡ y → Same s Q (c y) (k a n (drop n s)))
+    → ((e : Misread) → c (Err e) ≡ Err e) → Same s Q (c x) (onward r k)
 onwards c k (gives a n x h) f e = f a n x h refl
-onwards c k (turns j p) f e = rw (e j p) (turns j p)
+onwards c k (turns why p) f e = rw (e (misread why p)) (turns why p)
 
 pub outside_of : {A : Type 0} (l : List A) (i : ℕ) → get_elem? l i ≡ none → length l ≤ i
 outside_of [] i e = omega arith
@@ -178,52 +186,52 @@ outside_of (x ∷ l) (suc i) e = omega (arith, outside_of l i e)
 
 -- the number at a place of the table, and the place after it
 pub record NumberAt (s : List ℕ) (at v n : ℕ) : Type 0 where
-  pub number : groups_at 5 s at ≡ Number v n
+  pub number : groups_at 5 s at ≡ Some (to v n)
   pub ahead : at < n
 
 -- an item that stands for one of the things listed
-pub record Listed {A : Type 0} (s : List ℕ) (at : ℕ) (things : List A) (a : A) (n : ℕ) (i : Item) : Type 0 where
+pub record Listed {A : Type 0} (s : List ℕ) (at : ℕ) (things : List A) (a : A) (n : ℕ) (i : Result Number Misread) : Type 0 where
   pub value : ℕ
-  pub found : i ≡ Found value n
+  pub found : i ≡ Ok (to value n)
   pub listed : get_elem? things value ≡ some a
   pub there : NumberAt s at value n
 
 -- a number from lo to hi
-pub record Counted (s : List ℕ) (at lo hi : ℕ) (v n : ℕ) (i : Item) : Type 0 where
-  pub found : i ≡ Found v n
+pub record Counted (s : List ℕ) (at lo hi : ℕ) (v n : ℕ) (i : Result Number Misread) : Type 0 where
+  pub found : i ≡ Ok (to v n)
   pub least : lo ≤ v
   pub most : v ≤ hi
   pub there : NumberAt s at v n
 
-number_at : (s : List ℕ) (at : ℕ) (n : N.Number) → Bytes s → number (drop at s) ≡ some n → NumberAt s at n.value (at + n.size)
-number_at s at n b e =
+number-there : (s : List ℕ) (at : ℕ) (n : N.Number) → Bytes s → number (drop at s) ≡ some n → NumberAt s at n.value (at + n.size)
+number-there s at n b e =
     record { number = number_same s at b ∙ ap (answer at) e; ahead = omega (arith, (number-sized (drop at s) n e).0) }
 
 pub count_same : (lo hi : ℕ) (s : List ℕ) (at : ℕ) → Bytes s
-    → Same s (Counted s at lo hi) Refused (between_at lo hi s at) (read_count lo hi at (drop at s))
-unfolding between_at read_count read_number
+    → Same s (Counted s at lo hi) (between_at lo hi s at) (read_count lo hi at (drop at s))
+unfolding between_at number_at read_count read_number
 count_same lo hi s at b =
-    by-option (number (drop at s)) (λ e. rw (number_same s at b, e) (turns 2 at))
-    (λ n e. rw (number_same s at b, e, drop-drop n.size at s) (one n (number_at s at n b e)))
+    by-option (number (drop at s)) (λ e. rw (number_same s at b, e) (turns BadNumber at))
+    (λ n e. rw (number_same s at b, e, drop-drop n.size at s) (one n (number-there s at n b e)))
   where
-    one : (n : N.Number) → NumberAt s at n.value (at + n.size) → Same s (Counted s at lo hi) Refused
-        (cond (ltb n.value lo) (Refused 3 at) (cond (ltb hi n.value) (Refused 3 at) (Found n.value (at + n.size))))
-        (cond {A = Reader ℕ} (leb lo n.value && leb n.value hi) (pure n.value) (refuse 3 at) (at + n.size)
+    one : (n : N.Number) → NumberAt s at n.value (at + n.size) → Same s (Counted s at lo hi)
+        (cond (ltb n.value lo || ltb hi n.value) (Err (misread OutOfRange at)) (Ok (to n.value (at + n.size))))
+        (cond {A = Reader ℕ} (leb lo n.value && leb n.value hi) (pure n.value) (refuse OutOfRange at) (at + n.size)
         (drop (at + n.size) s))
     one n t =
         by_bool (ltb n.value lo)
-        (λ e. rw (e, lt-leb lo n.value (ltb-true _ _ e)) (turns 3 at))
+        (λ e. rw (e, lt-leb lo n.value (ltb-true _ _ e)) (turns OutOfRange at))
         (λ e. by_bool (ltb hi n.value)
-        (λ f. rw (e, f, le-leb lo n.value (ltb-false _ _ e), lt-leb n.value hi (ltb-true _ _ f)) (turns 3 at))
+        (λ f. rw (e, f, le-leb lo n.value (ltb-false _ _ e), lt-leb n.value hi (ltb-true _ _ f)) (turns OutOfRange at))
         (λ f. rw (e, f, le-leb lo n.value (ltb-false _ _ e), le-leb n.value hi (ltb-false _ _ f))
         (gives n.value (at + n.size) _ (record { found = refl; least = ltb-false _ _ e; most = ltb-false _ _ f; there = t }))))
 
 pub one_same : {A : Type 0} (things : List A) (hi : ℕ) (s : List ℕ) (at : ℕ) → Bytes s → length things ≡ suc hi
-    → Same s (Listed s at things) Refused (between_at 0 hi s at) (one_of things at (drop at s))
-unfolding between_at one_of read_number
+    → Same s (Listed s at things) (between_at 0 hi s at) (one_of things at (drop at s))
+unfolding between_at number_at one_of read_number
 one_same things hi s at b l =
     by-option (number (drop at s))
-    (λ e. rw (number_same s at b, e) (turns 2 at))
+    (λ e. rw (number_same s at b, e) (turns BadNumber at))
     (λ n e. by-option (get_elem? things n.value)
     (λ f. rw (
       number_same s at b,
@@ -232,7 +240,7 @@ one_same things hi s at b l =
       f,
       le-ltb n.value 0 (omega arith),
       lt-ltb hi n.value (omega (arith, l, outside_of things n.value f)),
-    ) (turns 3 at))
+    ) (turns OutOfRange at))
     (λ a f. rw (
       number_same s at b,
       e,
@@ -241,19 +249,19 @@ one_same things hi s at b l =
       le-ltb n.value 0 (omega arith),
       le-ltb hi n.value (omega (arith, l, inside things n.value f)),
     )
-    (gives a (at + n.size) _ (record { value = n.value; found = refl; listed = f; there = number_at s at n b e }))))
+    (gives a (at + n.size) _ (record { value = n.value; found = refl; listed = f; there = number-there s at n b e }))))
 
 -- a name that may stand there: those from `from` up to `to` may not
-pub name-same : (fits : Site → Bool) (names : List Site) (from to : ℕ) (s : List ℕ) (at : ℕ) → Bytes s
-    → ((i : ℕ) (a : Site) → get_elem? names i ≡ some a → fits a ≡ (ltb i from || leb to i))
-    → Same s (Listed s at names) Refused (name_at (length names) from to s at) (read_name fits names at (drop at s))
-unfolding name_at read_name read_number
-name-same fits names from to s at b ways =
+pub name-same : (fits : Site → Bool) (names : List Site) (from up_to : ℕ) (s : List ℕ) (at : ℕ) → Bytes s
+    → ((i : ℕ) (a : Site) → get_elem? names i ≡ some a → fits a ≡ (ltb i from || leb up_to i))
+    → Same s (Listed s at names) (name_at (length names) from up_to s at) (read_name fits names at (drop at s))
+unfolding name_at number_at read_name read_number
+name-same fits names from up_to s at b ways =
     by-option (number (drop at s))
-    (λ e. rw (number_same s at b, e) (turns 2 at))
+    (λ e. rw (number_same s at b, e) (turns BadNumber at))
     (λ n e. by-option (get_elem? names n.value)
     (λ f. rw (number_same s at b, e, drop-drop n.size at s, f, le-leb (length names) n.value (outside_of names n.value f))
-    (turns 5 at))
+    (turns BadName at))
     (λ a f. rw (
       number_same s at b,
       e,
@@ -263,35 +271,35 @@ name-same fits names from to s at b ways =
       ways
           n.value a f,
     )
-    (one n a f (number_at s at n b e))))
+    (one n a f (number-there s at n b e))))
   where
     one : (n : N.Number) (a : Site) → get_elem? names n.value ≡ some a → NumberAt s at n.value (at + n.size)
-        → Same s (Listed s at names) Refused
-        (cond (ltb n.value from) (Found n.value (at + n.size))
-        (cond (ltb n.value to) (Refused 5 at) (Found n.value (at + n.size))))
-        (cond {A = Reader Site} (ltb n.value from || leb to n.value) (pure a) (refuse 5 at) (at + n.size) (drop (at + n.size) s))
+        → Same s (Listed s at names)
+        (cond (leb from n.value && ltb n.value up_to) (Err (misread BadName at)) (Ok (to n.value (at + n.size))))
+        (cond {A = Reader Site} (ltb n.value from || leb up_to n.value) (pure a) (refuse BadName at) (at + n.size) (drop (at + n.size) s))
     one n a f t =
         by_bool (ltb n.value from)
-        (λ e. rw e (gives a (at + n.size) _ (record { value = n.value; found = refl; listed = f; there = t })))
-        (λ e. by_bool (ltb n.value to)
-        (λ g. rw (e, g, lt-leb to n.value (ltb-true _ _ g)) (turns 5 at))
-        (λ g. rw (e, g, le-leb to n.value (ltb-false _ _ g))
+        (λ e. rw (e, lt-leb from n.value (ltb-true _ _ e))
+        (gives a (at + n.size) _ (record { value = n.value; found = refl; listed = f; there = t })))
+        (λ e. by_bool (ltb n.value up_to)
+        (λ g. rw (e, le-leb from n.value (ltb-false _ _ e), g, lt-leb up_to n.value (ltb-true _ _ g)) (turns BadName at))
+        (λ g. rw (e, le-leb from n.value (ltb-false _ _ e), g, le-leb up_to n.value (ltb-false _ _ g))
         (gives a (at + n.size) _ (record { value = n.value; found = refl; listed = f; there = t }))))
 
-pub deep-same : {A X : Type 0} (R : A → ℕ → X → Type 0) (g : ℕ → ℕ → X) (c : Item → X) (s : List ℕ) (at : ℕ) → Bytes s
-    → ((j p : ℕ) → c (Refused j p) ≡ g j p) → Same s R g (c (deep_at s at)) (too_deep at (drop at s))
-unfolding deep_at too_deep read_number
-deep-same R g c s at b e =
-    by-option (number (drop at s)) (λ f. rw (number_same s at b, f, e 2 at) (turns 2 at))
-    (λ n f. rw (number_same s at b, f, e 4 at) (turns 4 at))
+pub deep-same : {A X : Type 0} (R : A → ℕ → Result X Misread → Type 0) (s : List ℕ) (at : ℕ) → Bytes s
+    → Same s R (Err (deep_at s at)) (too_deep at (drop at s))
+unfolding deep_at number_at too_deep read_number
+deep-same R s at b =
+    by-option (number (drop at s)) (λ f. rw (number_same s at b, f) (turns BadNumber at))
+    (λ n f. rw (number_same s at b, f) (turns TooDeep at))
 
 -- a constant is any number
 pub word_same : (s : List ℕ) (at : ℕ) → Bytes s
-    → Same s (Counted s at 0 4294967295) Refused (between_at 0 4294967295 s at) (read_number at (drop at s))
-unfolding between_at read_number
+    → Same s (Counted s at 0 4294967295) (between_at 0 4294967295 s at) (read_number at (drop at s))
+unfolding between_at number_at read_number
 word_same s at b =
     by-option (number (drop at s))
-    (λ e. rw (number_same s at b, e) (turns 2 at))
+    (λ e. rw (number_same s at b, e) (turns BadNumber at))
     (λ n e. let small : n.value < 2 ^ 32 = (number-sized (drop at s) n e).2 in
     rw (
       number_same s at b,
@@ -302,7 +310,7 @@ word_same s at b =
           (omega (arith, small)),
     )
     (gives n.value (at + n.size) _
-    (record { found = refl; least = omega arith; most = omega (arith, small); there = number_at s at n b e })))
+    (record { found = refl; least = omega arith; most = omega (arith, small); there = number-there s at n b e })))
 
 -- what a list has at a place, where a thing is there
 listed_at : {A : Type 0} {a : A} (d : A) (l : List A) (v : ℕ) → get_elem? l v ≡ some a → get_or l v d ≡ a
@@ -328,8 +336,8 @@ unfolding operator_of
 operator-is v e = listed_at PLUS operators v e
 
 -- the same part, with another answer made of it
-pub mapped : {A X Y : Type 0} {s : List ℕ} {R : A → ℕ → X → Type 0} {g : ℕ → ℕ → X} {Q : A → ℕ → Y → Type 0} {h : ℕ → ℕ → Y}
-    {x : X} {r : Parsed A} (c : X → Y) → Same s R g x r
-    → ((a : A) (n : ℕ) (y : X) → R a n y → Q a n (c y)) → ((j p : ℕ) → c (g j p) ≡ h j p) → Same s Q h (c x) r
+pub mapped : {A X Y : Type 0} {s : List ℕ} {R : A → ℕ → Result X Misread → Type 0} {Q : A → ℕ → Result Y Misread → Type 0}
+    {x : Result X Misread} {r : Parsed A} (c : Result X Misread → Result Y Misread) → Same s R x r
+    → ((a : A) (n : ℕ) (y : Result X Misread) → R a n y → Q a n (c y)) → ((e : Misread) → c (Err e) ≡ Err e) → Same s Q (c x) r
 mapped c (gives a n x k) f e = gives a n (c x) (f a n x k)
-mapped c (turns j p) f e = rw (e j p) (turns j p)
+mapped c (turns why p) f e = rw (e (misread why p)) (turns why p)

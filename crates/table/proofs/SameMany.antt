@@ -7,17 +7,16 @@ use mathlib.Core.Option.{Option, none, some}
 use lib.ListN.{drop}
 use Rattle.model.specs.Reader.{Reader, pure, Scope, read_many}
 use Rattle.model.specs.Usage.{Usage, nothing, ◌⊕◌, or_else}
-use Rattle.table.specs.Stmts.{first_among, added, part_at, most_from, part_uses, most_use, with_stmt}
+use Rattle.table.specs.Stmts.{first_among, added, part_at, most_from, part_uses, most_use}
 use Rattle.numbers.specs.declared.kinds.Head.{Head}
 use Rattle.table.specs.declared.stmt.Names.{Names}
 use Rattle.table.specs.declared.stmt.Part.{Part}
-use Rattle.table.specs.declared.stmt.StmtRead.{StmtRead}
-use Rattle.table.specs.declared.stmt.StmtRead.TheVariants.{Stmt, Refused as NoStmt}
+use Rattle.std.specs.Prelude.{Result, Ok, Err}
+use Rattle.numbers.specs.declared.Misread.{Misread}
+use Rattle.numbers.specs.Items.{with_read}
 use Rattle.table.proofs.SameItems.{Same, gives, onwards}
 use Rattle.table.proofs.Marks.{Uses, use-nothing, use-both}
 use Rattle.table.specs.declared.stmt.Sum.{Sum}
-use Rattle.table.specs.declared.stmt.SumRead.{SumRead}
-use Rattle.table.specs.declared.stmt.SumRead.TheVariants.{Sum as Total, Refused as NoSum}
 use Rattle.table.proofs.SameSimple.{first, Within, wider, within_both, within-nothing}
 
 pub first_among-none : (a : ℕ) → first_among a 0 ≡ a
@@ -45,13 +44,14 @@ pub record Counting (L : Type 0) : Type 0 where
   pub no-usages : usages empty ≡ nothing
 
 -- one part, and what it adds to those behind it
-pub record PartIs {L : Type 0} (K : Counting L) (sc : Scope) (place at : ℕ) (way : List ℕ → List ℕ) (add : L → L) (n : ℕ) (x : StmtRead)
+pub record PartIs {L : Type 0} (K : Counting L) (sc : Scope) (place at : ℕ) (way : List ℕ → List ℕ) (add : L → L) (n : ℕ)
+    (x : Result Part Misread)
     : Type 0 where
   pub words : ℕ
   pub processes : ℕ
   pub clash : ℕ
   pub use-of : Usage
-  pub is : x ≡ Stmt (record { next = n; words = words; processes = processes; clash = clash })
+  pub is : x ≡ Ok (record { next = n; words = words; processes = processes; clash = clash })
   pub ahead : at ≤ n
   pub needs : (l : L) → K.needs (add l) ≡ max words (K.needs l)
   pub lives : (l : L) → K.lives (add l) ≡ max processes (K.lives l)
@@ -61,10 +61,11 @@ pub record PartIs {L : Type 0} (K : Counting L) (sc : Scope) (place at : ℕ) (w
   pub within : Within sc place n use-of
 
 -- so many parts, after some
-pub record ManyIs {L : Type 0} (K : Counting L) (sc : Scope) (place : ℕ) (way : List ℕ → List ℕ) (t : Sum) (l : L) (n : ℕ) (y : SumRead)
+pub record ManyIs {L : Type 0} (K : Counting L) (sc : Scope) (place : ℕ) (way : List ℕ → List ℕ) (t : Sum) (l : L) (n : ℕ)
+    (y : Result Sum Misread)
     : Type 0 where
   pub total : Sum
-  pub is : y ≡ Total total
+  pub is : y ≡ Ok total
   pub next : total.next ≡ n
   pub ahead : t.next ≤ n
   pub most : total.most ≡ max t.most (K.needs l)
@@ -74,15 +75,15 @@ pub record ManyIs {L : Type 0} (K : Counting L) (sc : Scope) (place : ℕ) (way 
   pub within : Within sc place n (K.usages l)
 
 pub many-same : {A L : Type 0} (K : Counting L) (more : A → L → L) (part : Reader A) (s : List ℕ) (d : ℕ) (w : Names) (sc : Scope)
-    (inner : ℕ → StmtRead) (uses : ℕ → List ℕ → List ℕ) (i : ℕ) (head : Head) (place : ℕ) (t : Sum) → place ≤ t.next
+    (inner : ℕ → Result Part Misread) (uses : ℕ → List ℕ → List ℕ) (i : ℕ) (head : Head) (place : ℕ) (t : Sum) → place ≤ t.next
     → ((at : ℕ) → place ≤ at
-    → Same s (λ a n x. PartIs K sc place at (λ j. part_uses head d w uses s at j) (more a) n x) NoStmt (part_at head d w inner s at)
+    → Same s (λ a n x. PartIs K sc place at (λ j. part_uses head d w uses s at j) (more a) n x) (part_at head d w inner s at)
     (part at (drop at s)))
-    → Same s (ManyIs K sc place (λ j. most_use i head d w inner uses s t.next j) t) NoSum (most_from i head d w inner s t)
+    → Same s (ManyIs K sc place (λ j. most_use i head d w inner uses s t.next j) t) (most_from i head d w inner s t)
     (read_many K.empty more part i t.next (drop t.next s))
 unfolding most_from most_use read_many
 many-same K more part s d w sc inner uses zero head place t l parts =
-    gives K.empty t.next (Total t)
+    gives K.empty t.next (Ok t)
     (record {
       total = t;
       is = refl;
@@ -95,7 +96,7 @@ many-same K more part s d w sc inner uses zero head place t l parts =
       within = rw K.no-usages (within-nothing sc place t.next);
     })
 many-same K more part s d w sc inner uses (suc i) head place t l parts =
-    onwards (λ x. with_stmt NoSum x (λ p. most_from i head d w inner s (added t p))) _ (parts t.next l)
+    onwards (λ x. with_read Err x (λ p. most_from i head d w inner s (added t p))) _ (parts t.next l)
     (λ a n y k q.
     let p : Part = record { next = n; words = k.words; processes = k.processes; clash = k.clash } in
     rw k.is (
@@ -114,5 +115,5 @@ many-same K more part s d w sc inner uses (suc i) head place t l parts =
           (use-both {f = part_uses head d w uses s t.next} {g = most_use i head d w inner uses s n} k.uses h.uses);
       within = rw (k.usages r) (within_both (wider (omega arith) (omega (arith, h.ahead)) k.within) h.within);
     }))
-    (λ j p. refl)))
-    (λ j p. refl)
+    (λ e. refl)))
+    (λ e. refl)

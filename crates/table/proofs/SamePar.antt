@@ -1,7 +1,7 @@
 -- PAR: the branches, and whether any two clash.
 use Prim.Native.Nat.{ℕ, zero, suc, ◌+◌, ◌≤◌, max}
 use native.Mathlib.Omega.{arith}
-use mathlib.Core.Path.{◌≡◌, refl, sym, ◌∙◌}
+use mathlib.Core.Path.{◌≡◌, refl, sym, ap, ◌∙◌}
 use mathlib.Core.Logic.{◌⊎◌, inl, inr}
 use mathlib.Core.Bool.{Bool, ◌||◌, or-false, or_assoc}
 use mathlib.Core.List.{List, append-nil}
@@ -14,13 +14,14 @@ use Rattle.model.specs.Usage.{Usage, nothing, ◌⊕◌, usage, first_clash, usa
 use Rattle.model.specs.Counts.{processes, need, sum_need, sum_processes}
 use Rattle.table.specs.Uses.{no_names, clashing, merged}
 use Rattle.table.specs.Exprs.{kept}
-use Rattle.table.specs.Stmts.{first_among, Fits, stmt_at, stmt_uses, Branches, BranchesRead, all, stopped, with_branches, joined_by, par_of}
-use Rattle.table.specs.Stmts.{branches_from, no_branches, with_stmt}
+use Rattle.table.specs.Stmts.{first_among, Fits, stmt_at, stmt_uses, Branches, joined_by, par_of}
+use Rattle.table.specs.Stmts.{branches_from, no_branches}
 use Rattle.model.specs.declared.kinds.StmtKind.TheVariants.{Par}
 use Rattle.table.specs.declared.stmt.Names.{Names}
-use Rattle.table.specs.declared.stmt.StmtRead.{StmtRead}
-use Rattle.table.specs.declared.stmt.StmtRead.TheVariants.{Stmt, Refused as NoStmt}
 use Rattle.table.specs.Scopes.{Scoped}
+use Rattle.std.specs.Prelude.{Result, Ok, Err}
+use Rattle.numbers.specs.declared.Misread.{Misread}
+use Rattle.table.specs.declared.stmt.Part.{Part}
 use Rattle.table.proofs.SameItems.{Bytes, Same, gives, onwards, count_same}
 use Rattle.table.proofs.Marks.{changed, used-there, inputs-of, outputs-of, Marked, marked-nothing, marked-merged, clean-none}
 use Rattle.table.proofs.Marks.{InScope}
@@ -28,7 +29,7 @@ use Rattle.table.specs.declared.stmt.Sum.{Sum}
 use Rattle.table.proofs.SameExpr.{Numbers}
 use Rattle.table.proofs.SameSimple.{first, part_of, Within, RestIs, StmtIs, wider, within_both, within-nothing, DeclaredIn}
 use Rattle.table.proofs.SameDeclare.{InnerIs}
-use Rattle.numbers.specs.Items.{between_at, with_item}
+use Rattle.numbers.specs.Items.{between_at, with_read}
 use Rattle.table.proofs.SameMany.{first-or_else, first_among-assoc, first_among-none}
 use Rattle.table.proofs.Clash.{clashing-is, clashes_before, before-any}
 use Rattle.table.proofs.SameParts.{scoped-later, inner_uses, plus_assoc}
@@ -43,7 +44,7 @@ shared names lo mid hi (output_of k) (inr a) (inr b) = absurd a
 shared names lo mid hi (declared p j) (inr a) (inr b) = absurd (omega (arith, a.1, b.0))
 
 -- the check of one branch beside those before it, which use u
-branch-clashes : {s : List ℕ} {d : ℕ} {w : Names} {sc : Scope} {place from n : ℕ} {st : M.Stmt} {x : StmtRead} (u : Usage)
+branch-clashes : {s : List ℕ} {d : ℕ} {w : Names} {sc : Scope} {place from n : ℕ} {st : M.Stmt} {x : Result Part Misread} (u : Usage)
     (before : List ℕ) → Numbers sc → Marked sc no_names u before → Within sc place from u → StmtIs s d w sc from st n x
     → clashing before (stmt_uses d w s from no_names) ≡ clash u (usage st)
 branch-clashes {s} {d} {w} {sc} {place} {from} {n} {st} u before o sets within k =
@@ -58,9 +59,9 @@ plus-nothing : (u : Usage) → u ⊕ nothing ≡ u
 plus-nothing u = rw (append-nil u.changes, append-nil u.uses, append-nil u.inputs, append-nil u.outputs) refl
 
 -- so many branches, after some that use u
-record BranchesIs (sc : Scope) (place : ℕ) (b : Branches) (u : Usage) (ss : Stmts) (n : ℕ) (x : BranchesRead) : Type 0 where
+record BranchesIs (sc : Scope) (place : ℕ) (b : Branches) (u : Usage) (ss : Stmts) (n : ℕ) (x : Result Branches Misread) : Type 0 where
   end : Branches
-  is : x ≡ all end
+  is : x ≡ Ok end
   next : end.total.next ≡ n
   ahead : b.total.next ≤ n
   sum : end.total.sum ≡ b.total.sum + sum_need ss
@@ -72,11 +73,11 @@ record BranchesIs (sc : Scope) (place : ℕ) (b : Branches) (u : Usage) (ss : St
 
 branches-same : (s : List ℕ) (d : ℕ) (w : Names) (sc : Scope) (i place : ℕ) (b : Branches) (u : Usage) → place ≤ b.total.next
     → Scoped w sc place → Fits w d → Numbers sc → InnerIs s d → Marked sc no_names u b.before → Within sc place b.total.next u
-    → Same s (BranchesIs sc place b u) stopped (branches_from i (λ i. stmt_at d w s i) (inner_uses d w s) b)
+    → Same s (BranchesIs sc place b u) (branches_from i (λ i. stmt_at d w s i) (inner_uses d w s) b)
     (read_many no_stmt stmt (read_stmt d sc) i b.total.next (drop b.total.next s))
 unfolding branches_from read_many sum_need sum_processes first_clash_all clashes_before usage_all
 branches-same s d w sc zero place b u l h f o inner sets within =
-    gives no_stmt b.total.next (all b)
+    gives no_stmt b.total.next (Ok b)
     (record {
       end = b;
       is = refl;
@@ -92,7 +93,7 @@ branches-same s d w sc zero place b u l h f o inner sets within =
 branches-same s d w sc (suc i) place b u l h f o inner sets within =
     let from = b.total.next in
     let branch = stmt_uses d w s from no_names in
-    onwards (λ x. with_stmt stopped x (λ p. branches_from i (λ i. stmt_at d w s i) (inner_uses d w s) (joined_by branch b p))) _
+    onwards (λ x. with_read Err x (λ p. branches_from i (λ i. stmt_at d w s i) (inner_uses d w s) (joined_by branch b p))) _
     (inner w sc from (scoped-later from l h) f)
     (λ st n y k q.
     rw k.is (
@@ -117,44 +118,48 @@ branches-same s d w sc (suc i) place b u l h f o inner sets within =
       sets = rw (plus_assoc u (usage st) (usage_all ss)) at r.sets;
       within = within_both (wider l (omega (arith, r.ahead)) k.within) r.within;
     }))
-    (λ j p. refl)))
-    (λ j p. refl)
+    (λ e. refl)))
+    (λ e. refl)
 
 -- the sets behind a PAR: those of its branches together
 abbrev pub par_way : (d : ℕ) → Names → List ℕ → (at : ℕ) → List ℕ → List ℕ
 par_way d w s at l =
-    with_item (kept l) (between_at 0 16 s at) (λ c m.
-    with_branches (kept l) (branches_from c (λ i. stmt_at d w s i) (inner_uses d w s) (no_branches m)) (λ b. merged 64 l b.before))
+    with_read (kept l) (between_at 0 16 s at) (λ c.
+    with_read (kept l) (branches_from c.value (λ i. stmt_at d w s i) (inner_uses d w s) (no_branches c.next)) (λ b. merged 64 l b.before))
 
 pub par-same : (s : List ℕ) (d : ℕ) (w : Names) (sc : Scope) (place at : ℕ) (inner : Inner) → Bytes s → place ≤ at → Scoped w sc place
     → Numbers sc → Fits w d → InnerIs s d → inner.stmt ≡ read_stmt d
-    → Same s (RestIs sc place at (par_way d w s at)) NoStmt
-    (with_item NoStmt (between_at 0 16 s at) (λ c m.
-    with_branches NoStmt (branches_from c (λ i. stmt_at d w s i) (inner_uses d w s) (no_branches m)) (λ b. par_of place b.total b.bad)))
+    → Same s (RestIs sc place at (par_way d w s at))
+    (with_read Err (between_at 0 16 s at) (λ c.
+    with_read Err (branches_from c.value (λ i. stmt_at d w s i) (inner_uses d w s) (no_branches c.next))
+    (λ b. Ok (par_of place b.total b.bad))))
     (stmt_of place sc inner Par at (drop at s))
 unfolding stmt_of need processes first_clash usage
 par-same s d w sc place at inner b l h o f i es =
     rw es (
     onwards
-    (λ x. with_item NoStmt x (λ c m.
-    with_branches NoStmt (branches_from c (λ i. stmt_at d w s i) (inner_uses d w s) (no_branches m)) (λ b. par_of place b.total b.bad))) _
+    (λ x. with_read Err x (λ c.
+    with_read Err (branches_from c.value (λ i. stmt_at d w s i) (inner_uses d w s) (no_branches c.next))
+    (λ b. Ok (par_of place b.total b.bad)))) _
     (count_same 0 16 s at b)
     (λ c m y k q. rw k.found (
-    onwards (λ x. with_branches NoStmt x (λ b. par_of place b.total b.bad)) (λ ss. pure (M.PAR place ss))
+    onwards (λ x. with_read Err x (λ b. Ok (par_of place b.total b.bad))) (λ ss. pure (M.PAR place ss))
     (branches-same s d w sc c place (no_branches m) nothing (omega (arith, l, k.there.ahead)) h f o i
     (marked-nothing sc no_names (clean-none sc).long) (within-nothing sc place m))
     (λ ss n z r p. rw r.is (gives (M.PAR place ss) n _
     (record {
-      is = par-is ss r.end.total r.end.bad r.sum r.live r.clash-in (r.clashing-in ∙ before-any ss) ∙ rw r.next refl;
+      is =
+          ap (λ p. Ok p) (par-is ss r.end.total r.end.bad r.sum r.live r.clash-in (r.clashing-in ∙ before-any ss)
+          ∙ rw r.next refl);
       ahead = omega (arith, k.there.ahead, r.ahead);
       uses = λ j z. rw (q ∙ k.found, p ∙ r.is) (marked-merged (marked-nothing sc j z.long) r.sets);
       within = r.within;
     })))
-    (λ j p. refl)))
-    (λ j p. refl))
+    (λ e. refl)))
+    (λ e. refl))
   where
     par-is : (ss : Stmts) (t : Sum) (bad : Bool) → t.sum ≡ 0 + sum_need ss → t.all ≡ 0 + sum_processes ss
-        → t.clash ≡ first (first_clash_all ss) → bad ≡ any_clash ss → par_of place t bad ≡ Stmt (part_of (M.PAR place ss) t.next)
+        → t.clash ≡ first (first_clash_all ss) → bad ≡ any_clash ss → par_of place t bad ≡ part_of (M.PAR place ss) t.next
     par-is ss t bad a c x e =
         let words : 2 + t.sum ≡ 2 + sum_need ss = omega (arith, a) in
         let live : max 1 t.all ≡ max 1 (sum_processes ss) = omega (arith, c) in

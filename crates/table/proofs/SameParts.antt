@@ -10,7 +10,7 @@ use Rattle.model.specs.Reader.{Reader, onward, pure, Scope, read_expr, Inner, st
 use Rattle.model.specs.Usage.{Usage, ◌⊕◌, reading, usage, first_clash, usage_all, usage_pairs, first_clash_all, first_clash_pairs}
 use Rattle.model.specs.Counts.{temporaries, processes, need, most_need, pair_need, most_processes, pair_processes}
 use Rattle.counts.specs.Words.{asked}
-use Rattle.table.specs.Stmts.{whole_at, Fits, stmt_at, head_at, behind, nothing as no_part, with_head, with_stmt, added, part_at}
+use Rattle.table.specs.Stmts.{whole_at, Fits, stmt_at, head_at, behind, nothing as no_part, added, part_at}
 use Rattle.table.specs.Stmts.{most_from, gathered, head_uses, part_uses, most_use, stmt_uses}
 use Rattle.table.specs.Exprs.{kept, expr_uses}
 use Rattle.model.specs.declared.kinds.StmtKind.TheVariants.{Seq, If, While}
@@ -19,18 +19,17 @@ use Rattle.numbers.specs.declared.kinds.Head.TheVariants.{Nothing, Condition}
 use Rattle.counts.specs.declared.Role.{Role}
 use Rattle.counts.specs.declared.Role.TheVariants.{Value}
 use Rattle.table.specs.declared.stmt.Names.{Names}
-use Rattle.table.specs.declared.stmt.StmtRead.{StmtRead}
-use Rattle.table.specs.declared.stmt.StmtRead.TheVariants.{Stmt, Refused as NoStmt}
-use Rattle.table.specs.declared.stmt.HeadRead.TheVariants.{Head as Before, Refused as NoHead}
 use Rattle.table.specs.Scopes.{Scoped}
+use Rattle.std.specs.Prelude.{Result, Ok, Err}
+use Rattle.numbers.specs.declared.Misread.{Misread}
+use Rattle.table.specs.declared.stmt.Part.{Part}
 use Rattle.table.proofs.SameItems.{Bytes, Same, gives, onwards, count_same, mapped}
 use Rattle.table.proofs.Marks.{Uses, use-both}
 use Rattle.table.specs.declared.stmt.Sum.{Sum}
-use Rattle.table.specs.declared.stmt.SumRead.TheVariants.{Sum as Total, Refused as NoSum}
 use Rattle.table.proofs.SameExpr.{Numbers}
-use Rattle.table.proofs.SameSimple.{first, part_of, Within, RestIs, below-later, wider, within_both, WholeIs, whole_same}
+use Rattle.table.proofs.SameSimple.{front, first, part_of, Within, RestIs, below-later, wider, within_both, WholeIs, whole_same}
 use Rattle.table.proofs.SameDeclare.{InnerIs}
-use Rattle.numbers.specs.Items.{between_at, with_item}
+use Rattle.numbers.specs.Items.{between_at, with_read}
 use Rattle.table.proofs.SameMany.{first-or_else, Counting, PartIs, many-same}
 
 -- how the statements one level down are used
@@ -68,11 +67,11 @@ sequence =
 
 sequence-part : (s : List ℕ) (d : ℕ) (w : Names) (sc : Scope) (place : ℕ) → Scoped w sc place → Fits w d → InnerIs s d → (at : ℕ)
     → place ≤ at
-    → Same s (λ a n x. PartIs sequence sc place at (λ j. part_uses Nothing d w (inner_uses d w s) s at j) (stmt a) n x) NoStmt
+    → Same s (λ a n x. PartIs sequence sc place at (λ j. part_uses Nothing d w (inner_uses d w s) s at j) (stmt a) n x)
     (part_at Nothing d w (λ i. stmt_at d w s i) s at) (read_stmt d sc at (drop at s))
 unfolding part_at part_uses head_at head_uses most_need most_processes first_clash_all usage_all
 sequence-part s d w sc place h f inner at l =
-    mapped (λ x. with_stmt NoStmt x (λ p. Stmt (behind 0 p))) (inner w sc at (scoped-later at l h) f)
+    mapped (λ x. with_read Err x (λ p. Ok (behind 0 p))) (inner w sc at (scoped-later at l h) f)
     (λ st n y k. rw k.is
     (record {
       words = max 0 (need st);
@@ -88,49 +87,53 @@ sequence-part s d w sc place h f inner at l =
       uses = k.uses;
       within = wider l (omega arith) k.within;
     }))
-    (λ j p. refl)
+    (λ e. refl)
 
 -- the sets behind parts with their count
-abbrev pub counted_way : Head → (d : ℕ) → Names → (ℕ → StmtRead) → (ℕ → List ℕ → List ℕ) → List ℕ → (at : ℕ) → List ℕ → List ℕ
-counted_way head d w inner uses s at l = with_item (kept l) (between_at 0 32 s at) (λ c m. most_use c head d w inner uses s m l)
+abbrev pub counted_way : Head → (d : ℕ) → Names → (ℕ → Result Part Misread) → (ℕ → List ℕ → List ℕ) → List ℕ → (at : ℕ) → List ℕ → List ℕ
+counted_way head d w inner uses s at l = with_read (kept l) (between_at 0 32 s at) (λ c.
+    most_use c.value head d w inner uses s c.next l)
 
 -- what is counted over parts is what is counted of their statement
 pub record Gathers {L : Type 0} (K : Counting L) (head : Head) (of : L → M.Stmt) : Type 0 where
   pub counts : (l : L) (t : Sum) → t.most ≡ K.needs l → t.live ≡ K.lives l
-      → t.clash ≡ first (K.clashes l) → gathered head (Total t) ≡ Stmt (part_of (of l) t.next)
+      → t.clash ≡ first (K.clashes l) → gathered head t ≡ part_of (of l) t.next
   pub same-usage : (l : L) → usage (of l) ≡ K.usages l
 
 pub counted_same : {A L : Type 0} (K : Counting L) (more : A → L → L) (part : Reader A) (of : L
     → M.Stmt) (s : List ℕ) (d : ℕ) (w : Names) (sc : Scope)
-    (inner : ℕ → StmtRead) (uses : ℕ → List ℕ → List ℕ) (head : Head) (place at : ℕ) → Bytes s → place ≤ at → Gathers K head of
+    (inner : ℕ → Result Part Misread) (uses : ℕ → List ℕ → List ℕ) (head : Head) (place at : ℕ) → Bytes s → place ≤ at → Gathers K head of
     → ((at : ℕ) → place ≤ at
-    → Same s (λ a n x. PartIs K sc place at (λ j. part_uses head d w uses s at j) (more a) n x) NoStmt (part_at head d w inner s at)
+    → Same s (λ a n x. PartIs K sc place at (λ j. part_uses head d w uses s at j) (more a) n x) (part_at head d w inner s at)
     (part at (drop at s)))
-    → Same s (RestIs sc place at (counted_way head d w inner uses s at)) NoStmt
-    (with_item NoStmt (between_at 0 32 s at) (λ c m. gathered head (most_from c head d w inner s (no_part m))))
+    → Same s (RestIs sc place at (counted_way head d w inner uses s at))
+    (with_read Err (between_at 0 32 s at) (λ c.
+    with_read Err (most_from c.value head d w inner s (no_part c.next)) (λ t. Ok (gathered head t))))
     (onward (read_count 0 32 at (drop at s)) (λ c. λ i bytes. onward (read_many K.empty more part c i bytes) (λ l. pure (of l))))
 counted_same K more part of s d w sc inner uses head place at b l g parts =
-    onwards (λ x. with_item NoStmt x (λ c m. gathered head (most_from c head d w inner s (no_part m)))) _ (count_same 0 32 s at b)
+    onwards (λ x. with_read Err x (λ c.
+    with_read Err (most_from c.value head d w inner s (no_part c.next)) (λ t. Ok (gathered head t)))) _ (count_same 0 32 s at b)
     (λ c m y k q. rw k.found (
-    onwards (λ x. gathered head x) (λ l. pure (of l))
+    onwards (λ x. with_read Err x (λ t. Ok (gathered head t))) (λ l. pure (of l))
     (many-same K more part s d w sc inner uses c head place (no_part m) (omega (arith, l, k.there.ahead)) parts)
     (λ list n z r p.
-    let same-part : gathered head (Total r.total) ≡ Stmt (part_of (of list) n) =
+    let same-part : gathered head r.total ≡ part_of (of list) n =
     g.counts list r.total (r.most ∙ omega arith) (r.live ∙ omega arith) r.clash ∙ rw r.next refl in
-    rw (r.is, same-part) (gives (of list) n (Stmt (part_of (of list) n))
+    rw (r.is, same-part) (gives (of list) n (Ok (part_of (of list) n))
     (record {
       is = refl;
       ahead = omega (arith, k.there.ahead, r.ahead);
       uses = rw (q ∙ k.found, g.same-usage list) r.uses;
       within = rw (g.same-usage list) r.within;
     })))
-    (λ j p. refl)))
-    (λ j p. refl)
+    (λ e. refl)))
+    (λ e. refl)
 
 pub sequence-same : (s : List ℕ) (d : ℕ) (w : Names) (sc : Scope) (place at : ℕ) (inner : Inner) → Bytes s → place ≤ at → Scoped w sc place
     → Fits w d → InnerIs s d → inner.stmt ≡ read_stmt d
-    → Same s (RestIs sc place at (counted_way Nothing d w (λ i. stmt_at d w s i) (inner_uses d w s) s at)) NoStmt
-    (with_item NoStmt (between_at 0 32 s at) (λ c m. gathered Nothing (most_from c Nothing d w (λ i. stmt_at d w s i) s (no_part m))))
+    → Same s (RestIs sc place at (counted_way Nothing d w (λ i. stmt_at d w s i) (inner_uses d w s) s at))
+    (with_read Err (between_at 0 32 s at) (λ c.
+    with_read Err (most_from c.value Nothing d w (λ i. stmt_at d w s i) s (no_part c.next)) (λ t. Ok (gathered Nothing t))))
     (stmt_of place sc inner Seq at (drop at s))
 unfolding stmt_of need processes first_clash usage
 sequence-same s d w sc place at inner b l h f i e =
@@ -152,27 +155,30 @@ pub record ConditionIs (s : List ℕ) (role : Role) (d : ℕ) (w : Names) (sc : 
     : Type 0 where
   pub ahead : at ≤ n
   pub middle : ℕ
-  pub head : whole_at role d w.variables s at ≡ Before middle (asked role (temporaries e))
-  pub body : stmt_at d w s middle ≡ Stmt (part_of st n)
+  pub head : whole_at role d w.variables s at ≡ Ok (front middle (asked role (temporaries e)))
+  pub body : stmt_at d w s middle ≡ Ok (part_of st n)
   pub uses : Uses sc (reading e ⊕ usage st) (λ l. stmt_uses d w s middle (expr_uses d w.variables s at l))
   pub within : Within sc place n (reading e ⊕ usage st)
 
 pub whole-scoped : (role : Role) (d : ℕ) (w : Names) (sc : Scope) (s : List ℕ) (place at : ℕ) → Bytes s → Scoped w sc place → Numbers sc
-    → Same s (WholeIs s role d sc at) NoHead (whole_at role d w.variables s at) (read_expr d sc at (drop at s))
+    → Same s (WholeIs s role d sc at) (whole_at role d w.variables s at) (read_expr d sc at (drop at s))
 whole-scoped role d w sc s place at b h o = rw h.variables (whole_same role d sc s at b o)
 
-pub condition-same : {B : Type 0} (R : B → ℕ → StmtRead → Type 0) (s : List ℕ) (role : Role) (d : ℕ) (w : Names) (sc : Scope) (place at : ℕ)
+pub condition-same : {B : Type 0} (R : B → ℕ → Result Part Misread → Type 0) (s : List ℕ) (role : Role) (d : ℕ) (w : Names) (sc : Scope)
+    (place at : ℕ)
     (of : M.Expr → M.Stmt → B) → Bytes s → place ≤ at → Scoped w sc place → Numbers sc → Fits w d → InnerIs s d
     → ((e : M.Expr) (st : M.Stmt) (n : ℕ) → ConditionIs s role d w sc place at e st n
-    → R (of e st) n (Stmt (behind (asked role (temporaries e)) (part_of st n))))
-    → Same s R NoStmt
-    (with_head NoStmt (whole_at role d w.variables s at) (λ n a. with_stmt NoStmt (stmt_at d w s n) (λ p. Stmt (behind a p))))
+    → R (of e st) n (Ok (behind (asked role (temporaries e)) (part_of st n))))
+    → Same s R
+    (with_read Err (whole_at role d w.variables s at) (λ f.
+    with_read Err (stmt_at d w s f.next) (λ p. Ok (behind f.words p))))
     (onward (read_expr d sc at (drop at s)) (λ e. λ i bytes. onward (read_stmt d sc i bytes) (λ st. pure (of e st))))
 condition-same R s role d w sc place at of b l h o f inner g =
-    onwards (λ x. with_head NoStmt x (λ n a. with_stmt NoStmt (stmt_at d w s n) (λ p. Stmt (behind a p)))) _
+    onwards (λ x. with_read Err x (λ f.
+    with_read Err (stmt_at d w s f.next) (λ p. Ok (behind f.words p)))) _
     (whole-scoped role d w sc s place at b h o)
     (λ e n y r q. rw r.is (
-    onwards (λ x. with_stmt NoStmt x (λ p. Stmt (behind (asked role (temporaries e)) p))) (λ st. pure (of e st))
+    onwards (λ x. with_read Err x (λ p. Ok (behind (asked role (temporaries e)) p))) (λ st. pure (of e st))
     (inner w sc n (scoped-later n (omega (arith, l, r.ahead)) h) f)
     (λ st m z k p.
     let value : Uses sc (reading e) (λ l. expr_uses d w.variables s at l) = rw h.variables r.uses in
@@ -184,8 +190,8 @@ condition-same R s role d w sc place at of b l h o f inner g =
       body = p ∙ k.is;
       uses = use-both {f = expr_uses d w.variables s at} {g = stmt_uses d w s n} value k.uses;
       within = within_both (r.within place m) (wider (omega (arith, l, r.ahead)) (omega arith) k.within);
-    })))) (λ j p. refl)))
-    (λ j p. refl)
+    })))) (λ e. refl)))
+    (λ e. refl)
 
 abbrev choices : Counting Pairs
 unfolding pair_need pair_processes first_clash_pairs usage_pairs
@@ -205,7 +211,7 @@ choices =
 choice-part : (s : List ℕ) (d : ℕ) (w : Names) (sc : Scope) (place : ℕ) (inner : Inner) → Bytes s → Scoped w sc place → Numbers sc
     → Fits w d → InnerIs s d
     → inner.expr ≡ read_expr d sc → inner.stmt ≡ read_stmt d → (at : ℕ) → place ≤ at
-    → Same s (λ a n x. PartIs choices sc place at (λ j. part_uses Condition d w (inner_uses d w s) s at j) (applied a) n x) NoStmt
+    → Same s (λ a n x. PartIs choices sc place at (λ j. part_uses Condition d w (inner_uses d w s) s at j) (applied a) n x)
     (part_at Condition d w (λ i. stmt_at d w s i) s at) (read_pair sc inner at (drop at s))
 unfolding part_at part_uses head_at head_uses read_pair asked pair_need pair_processes first_clash_pairs usage_pairs
 choice-part s d w sc place inner b h o f i ee es at l =
@@ -232,8 +238,9 @@ choice-part s d w sc place inner b h o f i ee es at l =
 
 pub choice-same : (s : List ℕ) (d : ℕ) (w : Names) (sc : Scope) (place at : ℕ) (inner : Inner) → Bytes s → place ≤ at → Scoped w sc place
     → Numbers sc → Fits w d → InnerIs s d → inner.expr ≡ read_expr d sc → inner.stmt ≡ read_stmt d
-    → Same s (RestIs sc place at (counted_way Condition d w (λ i. stmt_at d w s i) (inner_uses d w s) s at)) NoStmt
-    (with_item NoStmt (between_at 0 32 s at) (λ c m. gathered Condition (most_from c Condition d w (λ i. stmt_at d w s i) s (no_part m))))
+    → Same s (RestIs sc place at (counted_way Condition d w (λ i. stmt_at d w s i) (inner_uses d w s) s at))
+    (with_read Err (between_at 0 32 s at) (λ c.
+    with_read Err (most_from c.value Condition d w (λ i. stmt_at d w s i) s (no_part c.next)) (λ t. Ok (gathered Condition t))))
     (stmt_of place sc inner If at (drop at s))
 unfolding stmt_of need processes first_clash usage
 choice-same s d w sc place at inner b l h o f i ee es =
@@ -261,27 +268,28 @@ live-some (M.WAIT e) = omega arith
 
 pub loop-same : (s : List ℕ) (d : ℕ) (w : Names) (sc : Scope) (place at : ℕ) (inner : Inner) → Bytes s → place ≤ at → Scoped w sc place
     → Numbers sc → Fits w d → InnerIs s d → inner.expr ≡ read_expr d sc → inner.stmt ≡ read_stmt d
-    → Same s (RestIs sc place at (λ j. most_use 1 Condition d w (λ i. stmt_at d w s i) (inner_uses d w s) s at j)) NoStmt
-    (gathered Condition (most_from 1 Condition d w (λ i. stmt_at d w s i) s (no_part at))) (stmt_of place sc inner While at (drop at s))
+    → Same s (RestIs sc place at (λ j. most_use 1 Condition d w (λ i. stmt_at d w s i) (inner_uses d w s) s at j))
+    (with_read Err (most_from 1 Condition d w (λ i. stmt_at d w s i) s (no_part at)) (λ t. Ok (gathered Condition t)))
+    (stmt_of place sc inner While at (drop at s))
 unfolding stmt_of part_at part_uses head_at head_uses most_from most_use asked need processes first_clash usage
 loop-same s d w sc place at inner b l h o f i ee es =
     rw (ee, es) (
-    mapped (λ x. gathered Condition (with_stmt NoSum x (λ p. Total (added (no_part at) p))))
+    mapped (λ x. with_read Err (with_read Err x (λ p. Ok (added (no_part at) p))) (λ t. Ok (gathered Condition t)))
     (condition-same Turn s Value d w sc place at (λ e st. M.WHILE e st) b l h o f i (λ e st n k. (e, st, refl, refl, k)))
     (λ a n y t. one a n y t)
-    (λ j p. refl))
+    (λ e. refl))
   where
-    Turn : M.Stmt → ℕ → StmtRead → Type 0
+    Turn : M.Stmt → ℕ → Result Part Misread → Type 0
     Turn a n x =
         (e : M.Expr)
         × (st : M.Stmt)
         × (a ≡ M.WHILE e st)
-        × (x ≡ Stmt (behind (temporaries e + 2) (part_of st n)))
+        × (x ≡ Ok (behind (temporaries e + 2) (part_of st n)))
         × ConditionIs s Value d w sc place at e st n
 
-    one : (a : M.Stmt) (n : ℕ) (y : StmtRead) → Turn a n y
+    one : (a : M.Stmt) (n : ℕ) (y : Result Part Misread) → Turn a n y
         → RestIs sc place at (λ j. most_use 1 Condition d w (λ i. stmt_at d w s i) (inner_uses d w s) s at j) a n
-        (gathered Condition (with_stmt NoSum y (λ p. Total (added (no_part at) p))))
+        (with_read Err (with_read Err y (λ p. Ok (added (no_part at) p))) (λ t. Ok (gathered Condition t)))
     one a n y t =
         let e = t.0 in
         let st = t.1 in

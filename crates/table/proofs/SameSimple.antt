@@ -23,26 +23,23 @@ use Rattle.counts.specs.declared.Role.TheVariants.{Value, Output as Outward, Wai
 use Rattle.model.specs.Usage.{Usage, nothing, ◌⊕◌, reading, changing, inputting, same, is_in, reads, usage, first_clash}
 use Rattle.model.specs.Counts.{temporaries, processes, need}
 use Rattle.counts.specs.Words.{asked}
-use Rattle.table.specs.Stmts.{whole_at, variable_at, input_at, output_at, leaf, value_at, taken_at, with_head, simple_at, taken_uses}
+use Rattle.table.specs.Stmts.{whole_at, variable_at, input_at, output_at, leaf, value_at, taken_at, simple_at, taken_uses}
 use Rattle.table.specs.Stmts.{timed_at, timed_uses}
 use Rattle.table.specs.Stmts.{simple_uses, stmt_uses}
 use Rattle.table.specs.Scopes.{Fresh, Below, Scoped}
 use Rattle.table.specs.Uses.{mark_at, change_at}
-use Rattle.numbers.specs.declared.Item.{Item}
-use Rattle.numbers.specs.declared.Item.TheVariants.{Refused}
 use Rattle.table.specs.declared.stmt.Names.{Names}
 use Rattle.table.specs.declared.stmt.Part.{Part}
-use Rattle.table.specs.declared.stmt.StmtRead.{StmtRead}
-use Rattle.table.specs.declared.stmt.StmtRead.TheVariants.{Stmt, Refused as NoStmt}
-use Rattle.table.specs.declared.stmt.HeadRead.{HeadRead}
-use Rattle.table.specs.declared.stmt.HeadRead.TheVariants.{Head as Before, Refused as NoHead}
+use Rattle.std.specs.Prelude.{Result, Ok, Err}
+use Rattle.numbers.specs.declared.Misread.{Misread}
+use Rattle.numbers.specs.declared.Number.{Number}
+use Rattle.table.specs.declared.stmt.Front.{Front}
 use Rattle.table.proofs.SameItems.{Bytes, Same, gives, onwards, mapped, Listed, name-same}
 use Rattle.table.proofs.Marks.{Field, changed, used-there, inputs-of, outputs-of, field, names_of, only, Uses, use-nothing, use-both}
 use Rattle.table.proofs.Marks.{mark-one, change-one, is_in-append, field_both, field-nothing, field-only, fields, InScope, or_cases}
 use Rattle.table.proofs.Marks.{in_one}
 use Rattle.table.proofs.SameExpr.{Numbers, expr_way, expr-same, variable-same}
-use Rattle.numbers.specs.Items.{with_item}
-use Rattle.table.specs.Exprs.{with_expr}
+use Rattle.numbers.specs.Items.{with_read}
 
 abbrev pub first : Option ℕ → ℕ
 first none = 0
@@ -64,9 +61,13 @@ pub record Within (sc : Scope) (lo hi : ℕ) (u : Usage) : Type 0 where
   pub each_in : (f : Field) (x : Site) → is_in x (field f u) ≡ true
       → InScope (names_of f sc) x ⊎ DeclaredIn lo hi x
 
+-- what stands before a statement, up to a place, and the words that it asks for
+abbrev pub front : (next words : ℕ) → Front
+front n a = record { next = n; words = a }
+
 -- an expression of a statement that stands in no other
-pub record WholeIs (s : List ℕ) (role : Role) (d : ℕ) (sc : Scope) (at : ℕ) (e : M.Expr) (n : ℕ) (x : HeadRead) : Type 0 where
-  pub is : x ≡ Before n (asked role (temporaries e))
+pub record WholeIs (s : List ℕ) (role : Role) (d : ℕ) (sc : Scope) (at : ℕ) (e : M.Expr) (n : ℕ) (x : Result Front Misread) : Type 0 where
+  pub is : x ≡ Ok (front n (asked role (temporaries e)))
   pub ahead : at < n
   pub uses : Uses sc (reading e) (expr_way d sc s at)
   pub within : (lo hi : ℕ) → Within sc lo hi (reading e)
@@ -84,17 +85,17 @@ within-reads sc e lo hi h = record { each_in = λ f x i. in_field f x i }
     in_field outputs-of x i = never (cc)
 
 pub whole_same : (role : Role) (d : ℕ) (sc : Scope) (s : List ℕ) (at : ℕ) → Bytes s → Numbers sc
-    → Same s (WholeIs s role d sc at) NoHead (whole_at role d (length sc.variables) s at) (read_expr d sc at (drop at s))
+    → Same s (WholeIs s role d sc at) (whole_at role d (length sc.variables) s at) (read_expr d sc at (drop at s))
 unfolding whole_at
 whole_same role d sc s at b o =
-    mapped (λ x. with_expr NoHead x (λ e. Before e.next (asked role e.stored))) (expr-same d sc s at b o)
+    mapped (λ x. with_read Err x (λ e. Ok (front e.next (asked role e.stored)))) (expr-same d sc s at b o)
     (λ e n y k. rw k.is
     (record { is = refl; ahead = k.ahead; uses = k.uses; within = λ lo hi. within-reads sc e lo hi k.within }))
-    (λ j p. refl)
+    (λ e. refl)
 
 -- what follows a statement's kind
-pub record RestIs (sc : Scope) (place at : ℕ) (way : List ℕ → List ℕ) (st : M.Stmt) (n : ℕ) (x : StmtRead) : Type 0 where
-  pub is : x ≡ Stmt (part_of st n)
+pub record RestIs (sc : Scope) (place at : ℕ) (way : List ℕ → List ℕ) (st : M.Stmt) (n : ℕ) (x : Result Part Misread) : Type 0 where
+  pub is : x ≡ Ok (part_of st n)
   pub ahead : at ≤ n
   pub uses : Uses sc (usage st) way
   pub within : Within sc place n (usage st)
@@ -139,9 +140,9 @@ within-changing sc lo hi k x e = within_both (within-only changed sc lo hi k x e
 -- SKIP and STOP
 pub idle-same : (sc : Scope) (s : List ℕ) (place at : ℕ) (st : M.Stmt) → usage st ≡ nothing
     → part_of st at ≡ record { next = at; words = 2; processes = 1; clash = 0 }
-    → Same s (RestIs sc place at (λ l. l)) NoStmt (leaf at 2) (parsed st at (drop at s))
+    → Same s (RestIs sc place at (λ l. l)) (Ok (leaf at 2)) (parsed st at (drop at s))
 idle-same sc s place at st none-used is =
-    gives st at (leaf at 2)
+    gives st at (Ok (leaf at 2))
     (record {
       is = rw is refl;
       ahead = omega arith;
@@ -150,32 +151,33 @@ idle-same sc s place at st none-used is =
     })
 
 -- an expression at the end of a statement without statements inside
-value_same : (role : Role) (d : ℕ) (sc : Scope) (s : List ℕ) (at : ℕ) (of : M.Expr → M.Stmt) (R : M.Stmt → ℕ → StmtRead → Type 0)
+value_same : (role : Role) (d : ℕ) (sc : Scope) (s : List ℕ) (at : ℕ) (of : M.Expr → M.Stmt) (R : M.Stmt → ℕ → Result Part Misread → Type 0)
     → Bytes s
     → Numbers sc
-    → ((e : M.Expr) (n : ℕ) (x : HeadRead) → WholeIs s role d sc at e n x → R (of e) n (leaf n (asked role (temporaries e))))
-    → Same s R NoStmt (value_at role d (length sc.variables) s at) (onward (read_expr d sc at (drop at s)) (λ e. pure (of e)))
+    → ((e : M.Expr) (n : ℕ) (x : Result Front Misread) → WholeIs s role d sc at e n x
+    → R (of e) n (Ok (leaf n (asked role (temporaries e)))))
+    → Same s R (value_at role d (length sc.variables) s at) (onward (read_expr d sc at (drop at s)) (λ e. pure (of e)))
 unfolding value_at
 value_same role d sc s at of R b o h =
-    onwards (λ x. with_head NoStmt x leaf) (λ e. pure (of e)) (whole_same role d sc s at b o)
-    (λ e n y k q. rw k.is (gives (of e) n (leaf n (asked role (temporaries e))) (h e n y k))) (λ j p. refl)
+    onwards (λ x. with_read Err x (λ f. Ok (leaf f.next f.words))) (λ e. pure (of e)) (whole_same role d sc s at b o)
+    (λ e n y k q. rw k.is (gives (of e) n (Ok (leaf n (asked role (temporaries e)))) (h e n y k))) (λ e. refl)
 
 input-same : (w : Names) (sc : Scope) (place : ℕ) (s : List ℕ) (at : ℕ) → Bytes s → Scoped w sc place
-    → Same s (Listed s at sc.channels) Refused (input_at w s at) (read_name can_input sc.channels at (drop at s))
+    → Same s (Listed s at sc.channels) (input_at w s at) (read_name can_input sc.channels at (drop at s))
 input-same w sc place s at b h = rw h.channels (name-same can_input sc.channels w.inputs (w.inputs + w.outputs) s at b h.ins)
 
 output-same : (w : Names) (sc : Scope) (place : ℕ) (s : List ℕ) (at : ℕ) → Bytes s → Scoped w sc place
-    → Same s (Listed s at sc.channels) Refused (output_at w s at) (read_name can_output sc.channels at (drop at s))
+    → Same s (Listed s at sc.channels) (output_at w s at) (read_name can_output sc.channels at (drop at s))
 output-same w sc place s at b h = rw h.channels (name-same can_output sc.channels 0 w.inputs s at b h.outs)
 
 pub assign-same : (d : ℕ) (w : Names) (sc : Scope) (s : List ℕ) (place at : ℕ) (stmts : Scope → Reader M.Stmt) → Bytes s → Scoped w sc place
     → Numbers sc
-    → Same s (RestIs sc place at (λ l. simple_uses Assigning d w s at l)) NoStmt (simple_at Assigning d w s at)
+    → Same s (RestIs sc place at (λ l. simple_uses Assigning d w s at l)) (simple_at Assigning d w s at)
     (stmt_of place sc (record { expr = read_expr d sc; stmt = stmts }) Assign at (drop at s))
 unfolding simple_at simple_uses stmt_of asked need processes first_clash usage
 assign-same d w sc s place at stmts b h o =
     rw h.variables (
-    onwards (λ i. with_item NoStmt i (λ x n. value_at Value d (length sc.variables) s n)) _ (variable-same sc.variables s at b)
+    onwards (λ i. with_read Err i (λ x. value_at Value d (length sc.variables) s x.next)) _ (variable-same sc.variables s at b)
     (λ x n y k q. rw k.found (
     value_same Value d sc s n (λ e. M.assign x e) (RestIs sc place at _) b o (λ e m z r.
     record {
@@ -186,10 +188,10 @@ assign-same d w sc s place at stmts b h o =
           (change-one sc k.value x o.own-variables k.listed o.few-variables) r.uses);
       within = within_both (within-changing sc place m k.value x k.listed) (r.within place m);
     })))
-    (λ j p. refl))
+    (λ e. refl))
 
 -- an item that was read stands for one of the things listed
-listed-is : {A : Type 0} {s : List ℕ} {at n : ℕ} {things : List A} {a : A} {i j : Item} → i ≡ j → Listed s at things a n j
+listed-is : {A : Type 0} {s : List ℕ} {at n : ℕ} {things : List A} {a : A} {i j : Result Number Misread} → i ≡ j → Listed s at things a n j
     → Listed s at things a n i
 listed-is e k = record { value = k.value; found = e ∙ k.found; listed = k.listed; there = k.there }
 
@@ -199,19 +201,19 @@ pub record TakenAt (w : Names) (sc : Scope) (s : List ℕ) (at : ℕ) (ch x : Si
   pub target : Listed s n sc.variables x m (variable_at w s n)
 
 -- a channel to input from and a variable, and what follows them
-pub taken-onward : {B Y : Type 0} {Q : B → ℕ → Y → Type 0} {g : ℕ → ℕ → Y} (w : Names) (sc : Scope) (s : List ℕ) (place at words : ℕ)
-    (c : HeadRead → Y) (k : Site → Site → Reader B) → Bytes s → Scoped w sc place
-    → ((ch x : Site) (n m : ℕ) → TakenAt w sc s at ch x n m → Same s Q g (c (Before m words)) (k ch x m (drop m s)))
-    → ((j p : ℕ) → c (NoHead j p) ≡ g j p)
-    → Same s Q g (c (taken_at w s at words))
+pub taken-onward : {B Y : Type 0} {Q : B → ℕ → Result Y Misread → Type 0} (w : Names) (sc : Scope) (s : List ℕ) (place at words : ℕ)
+    (c : Result Front Misread → Result Y Misread) (k : Site → Site → Reader B) → Bytes s → Scoped w sc place
+    → ((ch x : Site) (n m : ℕ) → TakenAt w sc s at ch x n m → Same s Q (c (Ok (front m words))) (k ch x m (drop m s)))
+    → ((e : Misread) → c (Err e) ≡ Err e)
+    → Same s Q (c (taken_at w s at words))
     (onward (read_name can_input sc.channels at (drop at s))
     (λ ch. λ i bytes. onward (read_name any_site sc.variables i bytes) (λ x. k ch x)))
 unfolding taken_at
 taken-onward w sc s place at words c k b h f r =
-    onwards (λ i. c (with_item NoHead i (λ ch n. with_item NoHead (variable_at w s n) (λ x m. Before m words)))) _
+    onwards (λ i. c (with_read Err i (λ ch. with_read Err (variable_at w s ch.next) (λ x. Ok (front x.next words))))) _
     (input-same w sc place s at b h)
     (λ ch n y kc q. rw (kc.found, h.variables) (
-    onwards (λ i. c (with_item NoHead i (λ x m. Before m words))) (λ x. k ch x) (variable-same sc.variables s n b)
+    onwards (λ i. c (with_read Err i (λ x. Ok (front x.next words)))) (λ x. k ch x) (variable-same sc.variables s n b)
     (λ x m z kx p. rw kx.found
     (f ch x n m (record { channel = listed-is q kc; target = listed-is (rw h.variables p) kx }))) r))
     r
@@ -234,28 +236,28 @@ within-input {sc = sc} {ch = ch} {x} lo hi t =
 
 pub input-stmt-same : (d : ℕ) (w : Names) (sc : Scope) (s : List ℕ) (place at : ℕ) (inner : Inner) → Bytes s → Scoped w sc place
     → Numbers sc
-    → Same s (RestIs sc place at (λ l. simple_uses Inputting d w s at l)) NoStmt (simple_at Inputting d w s at)
+    → Same s (RestIs sc place at (λ l. simple_uses Inputting d w s at l)) (simple_at Inputting d w s at)
     (stmt_of place sc inner Input at (drop at s))
 unfolding simple_at simple_uses stmt_of need processes first_clash usage
 input-stmt-same d w sc s place at inner b h o =
-    taken-onward w sc s place at 3 (λ x. with_head NoStmt x (λ m a. leaf m a)) (λ c x. pure (M.input c x)) b h
-    (λ ch x n m t. gives (M.input ch x) m (leaf m 3)
+    taken-onward w sc s place at 3 (λ x. with_read Err x (λ f. Ok (leaf f.next f.words))) (λ c x. pure (M.input c x)) b h
+    (λ ch x n m t. gives (M.input ch x) m (Ok (leaf m 3))
     (record {
       is = refl;
       ahead = omega (arith, t.channel.there.ahead, t.target.there.ahead);
       uses = taken-uses t o;
       within = within-input place m t;
     }))
-    (λ j p. refl)
+    (λ e. refl)
 
 pub output-stmt-same : (d : ℕ) (w : Names) (sc : Scope) (s : List ℕ) (place at : ℕ) (stmts : Scope → Reader M.Stmt) → Bytes s
     → Scoped w sc place → Numbers sc
-    → Same s (RestIs sc place at (λ l. simple_uses Outputting d w s at l)) NoStmt (simple_at Outputting d w s at)
+    → Same s (RestIs sc place at (λ l. simple_uses Outputting d w s at l)) (simple_at Outputting d w s at)
     (stmt_of place sc (record { expr = read_expr d sc; stmt = stmts }) Output at (drop at s))
 unfolding simple_at simple_uses stmt_of asked need processes first_clash usage
 output-stmt-same d w sc s place at stmts b h o =
     rw h.variables (
-    onwards (λ i. with_item NoStmt i (λ x n. value_at Outward d (length sc.variables) s n)) _ (output-same w sc place s at b h)
+    onwards (λ i. with_read Err i (λ x. value_at Outward d (length sc.variables) s x.next)) _ (output-same w sc place s at b h)
     (λ ch n y k q. rw k.found (
     value_same Outward d sc s n (λ e. M.output ch e) (RestIs sc place at _) b o (λ e m z r.
     record {
@@ -266,29 +268,29 @@ output-stmt-same d w sc s place at stmts b h o =
           (mark-one outputs-of sc k.value ch o.own-channels k.listed o.few-channels) r.uses);
       within = within_both (within-only outputs-of sc place m k.value ch k.listed) (r.within place m);
     })))
-    (λ j p. refl))
+    (λ e. refl))
 
 -- TIME and WAIT (02, order 4)
 pub time-same : (d : ℕ) (w : Names) (sc : Scope) (s : List ℕ) (place at : ℕ) (inner : Inner) → Bytes s → Scoped w sc place → Numbers sc
-    → Same s (RestIs sc place at (λ l. simple_uses Timing d w s at l)) NoStmt (simple_at Timing d w s at)
+    → Same s (RestIs sc place at (λ l. simple_uses Timing d w s at l)) (simple_at Timing d w s at)
     (stmt_of place sc inner Time at (drop at s))
 unfolding simple_at simple_uses timed_at timed_uses stmt_of need processes first_clash usage
 time-same d w sc s place at inner b h o =
     rw h.variables (
-    onwards (λ i. with_item NoStmt i (λ x n. leaf n 2)) (λ x. pure (M.TIME x)) (variable-same sc.variables s at b)
+    onwards (λ i. with_read Err i (λ x. Ok (leaf x.next 2))) (λ x. pure (M.TIME x)) (variable-same sc.variables s at b)
     (λ x n y k q. rw k.found
-    (gives (M.TIME x) n (leaf n 2)
+    (gives (M.TIME x) n (Ok (leaf n 2))
     (record {
       is = refl;
       ahead = omega (arith, k.there.ahead);
       uses = rw (q ∙ k.found) (change-one sc k.value x o.own-variables k.listed o.few-variables);
       within = within-changing sc place n k.value x k.listed;
     })))
-    (λ j p. refl))
+    (λ e. refl))
 
 pub wait-same : (d : ℕ) (w : Names) (sc : Scope) (s : List ℕ) (place at : ℕ) (stmts : Scope → Reader M.Stmt) → Bytes s → Scoped w sc place
     → Numbers sc
-    → Same s (RestIs sc place at (λ l. simple_uses Waiting d w s at l)) NoStmt (simple_at Waiting d w s at)
+    → Same s (RestIs sc place at (λ l. simple_uses Waiting d w s at l)) (simple_at Waiting d w s at)
     (stmt_of place sc (record { expr = read_expr d sc; stmt = stmts }) Wait at (drop at s))
 unfolding simple_at simple_uses stmt_of asked need processes first_clash usage
 wait-same d w sc s place at stmts b h o =
@@ -297,8 +299,8 @@ wait-same d w sc s place at stmts b h o =
     record { is = refl; ahead = omega (arith, r.ahead); uses = r.uses; within = r.within place m }))
 
 -- a statement
-pub record StmtIs (s : List ℕ) (d : ℕ) (w : Names) (sc : Scope) (at : ℕ) (st : M.Stmt) (n : ℕ) (x : StmtRead) : Type 0 where
-  pub is : x ≡ Stmt (part_of st n)
+pub record StmtIs (s : List ℕ) (d : ℕ) (w : Names) (sc : Scope) (at : ℕ) (st : M.Stmt) (n : ℕ) (x : Result Part Misread) : Type 0 where
+  pub is : x ≡ Ok (part_of st n)
   pub ahead : at < n
   pub uses : Uses sc (usage st) (λ l. stmt_uses d w s at l)
   pub within : Within sc at n (usage st)

@@ -13,18 +13,25 @@ use borrow.Author.Tests.{le-leb, lt-leb, le-ltb, lt-ltb, eq-eqb, ne_eqb, ltb-tru
 use Rattle.model.proofs.Cases.{by_bool, by-option, by-parsed, never}
 use Rattle.model.specs.Limits.{table_limit}
 use Rattle.model.specs.Syntax.{Site, input_of, output_of, declared, Program}
+use Rattle.model.specs.Reader.{Reader, onward}
 use Rattle.model.specs.Reader.{Parsed, parsed, fails, Scope, numbered, can_input, can_output, read_program, read_table, Read, refused}
 use Rattle.model.specs.Usage.{same, first_clash}
 use Rattle.model.specs.Counts.{processes}
 use Rattle.model.specs.Accept.{accept, answer_of, checks}
-use Rattle.model.specs.declared.Reading.{Reading}
-use Rattle.model.specs.declared.Reading.TheVariants.{Refused}
-use Rattle.numbers.specs.Items.{between_at, with_item}
-use Rattle.table.specs.Stmts.{Fits, with_stmt}
-use Rattle.table.specs.Tables.{finished, body_at, table_at}
+use Rattle.model.specs.declared.Facts.{Facts}
+use Rattle.model.specs.Answers.{refused_for}
+use Rattle.model.specs.declared.Reason.{Reason}
+use Rattle.model.specs.declared.Reason.TheVariants.{TableSize, BadNumber, OutOfRange, TooDeep, BadName, BytesBehind, Clash}
+use Rattle.model.specs.declared.Reason.TheVariants.{TooManyProcesses, TooLarge, Short}
+use Rattle.numbers.specs.Items.{misread, refusal_of, between_at}
+use Rattle.table.specs.Stmts.{Fits}
+use Rattle.table.specs.Tables.{answered, finished, body_at, table_at}
 use Rattle.table.specs.declared.stmt.Names.{Names}
 use Rattle.table.specs.Scopes.{Fresh, Below, Scoped}
-use Rattle.table.proofs.SameItems.{Bytes, Same, gives, turns, onwards, count_same}
+use Rattle.std.specs.Prelude.{Result, Err}
+use Rattle.model.specs.declared.Refusal.{Refusal}
+use Rattle.numbers.specs.declared.Misread.{Misread}
+use Rattle.table.proofs.SameItems.{Bytes, Same, gives, turns, count_same}
 use Rattle.table.proofs.SameSimple.{part_of, lookup-append, length-numbered, numbered-at}
 use Rattle.table.proofs.SameStmt.{stmt-same}
 
@@ -104,27 +111,46 @@ outermost-scoped ins outs at =
       before-channels = channels-below ins outs at;
     }
 
--- a whole program and the place after it
-abbrev ProgramIs : List ℕ → Program → ℕ → Reading → Type 0
-ProgramIs s p n x = x ≡ finished p.inputs p.outputs (length s) (part_of p.body n)
+-- a refusal's reason is known by its number
+refusal-is : (why : Reason) (p : ℕ) → refusal_of (misread why p) ≡ refused_for why p
+refusal-is TableSize p = refl
+refusal-is BadNumber p = refl
+refusal-is OutOfRange p = refl
+refusal-is TooDeep p = refl
+refusal-is BadName p = refl
+refusal-is BytesBehind p = refl
+refusal-is Clash p = refl
+refusal-is TooManyProcesses p = refl
+refusal-is TooLarge p = refl
+refusal-is Short p = refl
+
+-- a whole program and the place after it, or a refusal
+data Ends (s : List ℕ) : Result Facts Refusal → Parsed Program → Type 0 where
+  program : (p : Program) (n : ℕ) → Ends s (finished p.inputs p.outputs (length s) (part_of p.body n)) (parsed p n (drop n s))
+  refusal : (why : Reason) (p : ℕ) → Ends s (Err (refused_for why p)) (fails why p)
+
+-- a part, then the rest of the table
+then_ends : {A X : Type 0} {s : List ℕ} {R : A → ℕ → Result X Misread → Type 0} {x : Result X Misread} {r : Parsed A}
+    (f : X → Result Facts Refusal) (k : A → Reader Program) → Same s R x r
+    → ((a : A) (n : ℕ) (y : Result X Misread) → R a n y → Ends s (answered y f) (k a n (drop n s)))
+    → Ends s (answered x f) (onward r k)
+then_ends f k (gives a n x h) g = g a n x h
+then_ends f k (turns why p) g = rw (refusal-is why p) (refusal why p)
 
 program-same : (s : List ℕ) → Bytes s
-    → Same s (ProgramIs s) Refused
-    (with_item Refused (between_at 0 8 s 0) (λ ins n. with_item Refused (between_at 0 8 s n) (λ outs m. body_at ins outs s m)))
+    → Ends s
+    (answered (between_at 0 8 s 0) (λ ins. answered (between_at 0 8 s ins.next) (λ outs. body_at ins.value outs.value s outs.next)))
     (read_program 0 (drop 0 s))
 unfolding body_at read_program
 program-same s b =
-    onwards (λ x. with_item Refused x (λ ins n. with_item Refused (between_at 0 8 s n) (λ outs m. body_at ins outs s m))) _
-    (count_same 0 8 s 0 b)
-    (λ ins n y k q. rw k.found (
-    onwards (λ x. with_item Refused x (λ outs m. body_at ins outs s m)) _ (count_same 0 8 s n b)
-    (λ outs m z j p. rw j.found (
+    then_ends (λ ins. answered (between_at 0 8 s ins.next) (λ outs. body_at ins.value outs.value s outs.next)) _ (count_same 0 8 s 0 b)
+    (λ ins n y k. rw k.found (
+    then_ends (λ outs. body_at ins outs.value s outs.next) _ (count_same 0 8 s n b)
+    (λ outs m z j. rw j.found (
     let fits : Fits (numbers ins outs) 32 = (omega arith, omega arith, omega (arith, k.most, j.most), k.most, j.most) in
-    onwards (λ x. with_stmt Refused x (λ p. finished ins outs (length s) p)) _
+    then_ends (λ p. finished ins outs (length s) p) _
     (stmt-same 32 s b (numbers ins outs) (outermost ins outs) m (outermost-scoped ins outs m) fits)
-    (λ st e u r o. rw r.is (gives (record { inputs = ins; outputs = outs; body = st }) e _ refl)) (λ a c. refl)))
-    (λ a c. refl)))
-    (λ a c. refl)
+    (λ st e u r. rw r.is (program (record { inputs = ins; outputs = outs; body = st }) e))))))
 
 -- refusals 7 and 9, lowest first
 checks-same : (p : Program) (n len : ℕ) → len ≤ n
@@ -139,23 +165,23 @@ checks-same p n len l =
 -- what a reading is answered with: 6 at a byte behind the program, else the other tests
 abbrev ended : Parsed Program → Read
 ended (parsed p n []) = checks p
-ended (parsed p n (b ∷ bytes)) = refused 6 n
-ended (fails k p) = refused k p
+ended (parsed p n (b ∷ bytes)) = refused BytesBehind n
+ended (fails why p) = refused why p
 
-ended_same : (s : List ℕ) (x : Reading) (r : Parsed Program) → Same s (ProgramIs s) Refused x r → x ≡ answer_of (ended r)
+ended_same : (s : List ℕ) (x : Result Facts Refusal) (r : Parsed Program) → Ends s x r → x ≡ answer_of (ended r)
 unfolding finished
-ended_same s x r (turns k p) = refl
-ended_same s x r (gives p n y h) =
+ended_same s x r (refusal why p) = refl
+ended_same s x r (program p n) =
     by_bool (ltb n (length s))
-    (λ e. rw (h, e, drop-cons s n 0 (ltb-true n (length s) e)) refl)
-    (λ e. let low : length s ≤ n = ltb-false n (length s) e in rw (h, drop_of_length-le s low) (checks-same p n (length s) low))
+    (λ e. rw (e, drop-cons s n 0 (ltb-true n (length s) e)) refl)
+    (λ e. let low : length s ≤ n = ltb-false n (length s) e in rw (drop_of_length-le s low) (checks-same p n (length s) low))
 
 accept-is : (s : List ℕ) → (leb 1 (length s) && leb (length s) table_limit) ≡ true → accept s ≡ ended (read_program 0 s)
 unfolding accept read_table
 accept-is s e =
     by-parsed (read_program 0 s) (λ k p f. rw (e, f) refl) (λ p n f. rw (e, f) refl) (λ p n b l f. rw (e, f) refl)
 
-refused-length : (s : List ℕ) → (leb 1 (length s) && leb (length s) table_limit) ≡ false → accept s ≡ refused 1 0
+refused-length : (s : List ℕ) → (leb 1 (length s) && leb (length s) table_limit) ≡ false → accept s ≡ refused TableSize 0
 unfolding accept read_table
 refused-length s e = rw e refl
 

@@ -2,12 +2,13 @@
 use Prim.Native.Nat.{ℕ, zero, suc, ◌+◌, ◌-◌, ◌*◌, ◌≤◌, ◌<◌, max}
 use native.Mathlib.Omega.{arith}
 use mathlib.Core.Path.{◌≡◌}
+use mathlib.Core.Bool.{◌&&◌, ◌||◌, or-true}
 use mathlib.Core.List.{List}
 use lib.ListN.{length, get_or}
 use lib.Dec.{ltb, leb, eqb}
 use borrow.Author.Tests.{leb-false, ltb-false}
 use Rattle.model.proofs.Cases.{by_bool, of-cond}
-use Rattle.numbers.specs.Items.{groups_at, between_at, name_at, deep_at, with_number, with_item}
+use Rattle.numbers.specs.Items.{groups_at, number_at, between_at, name_at, with_read}
 use Rattle.numbers.specs.Kinds.{expr_kind, by_expr, guard_kind, by_guard, stmt_kind, shape_of, by_shape, count_at}
 use Rattle.numbers.specs.Kinds.{last_expression, last_guard, last_operator, last_statement}
 use Rattle.model.specs.declared.kinds.ExprKind.{ExprKind}
@@ -30,151 +31,111 @@ use Rattle.counts.specs.declared.Role.{Role}
 use Rattle.counts.specs.declared.Role.TheVariants.{Value, Output as Outward, Guard as ForGuard, Wait as ForWait, Time as ForTime}
 use Rattle.model.specs.Counts.{order_of, sides_hold, guard_words}
 use Rattle.model.proofs.Tables.Needs.{sides-hold}
-use Rattle.table.specs.Exprs.{with_expr, single, constant_at, used_at, sides, operated, expr_at}
+use Rattle.table.specs.Exprs.{single, constant_at, used_at, sides, operated, expr_at}
 use Rattle.counts.specs.Words.{asked, least_words}
-use Rattle.table.specs.Stmts.{whole_at, variable_at, input_at, with_head, with_stmt, output_at, leaf, value_at, taken_at, timed_at}
+use Rattle.table.specs.Stmts.{whole_at, variable_at, input_at, output_at, leaf, value_at, taken_at, timed_at}
 use Rattle.table.specs.Stmts.{simple_at}
 use Rattle.table.specs.Stmts.{waiting_at, both_at, guard_at}
-use Rattle.table.specs.Stmts.{head_at, nothing, added, part_at, most_from, gathered, Branches, joined_by, BranchesRead, all, stopped}
-use Rattle.table.specs.Stmts.{with_branches, branches_from, no_branches, par_of, more_names, declaring, inside_of, stmt_at, stmt_uses}
+use Rattle.table.specs.Stmts.{head_at, nothing, added, part_at, most_from, gathered, Branches, joined_by}
+use Rattle.table.specs.Stmts.{branches_from, no_branches, par_of, more_names, declaring, inside_of, stmt_at, stmt_uses}
 use Rattle.table.specs.Stmts.{part_in}
 use Rattle.table.specs.Uses.{no_names}
-use Rattle.numbers.specs.declared.NumberRead.{NumberRead}
-use Rattle.numbers.specs.declared.NumberRead.TheVariants.{Number, Bad}
-use Rattle.numbers.specs.declared.Item.{Item}
-use Rattle.numbers.specs.declared.Item.TheVariants.{Item as Found, Refused}
+use Rattle.std.specs.Prelude.{Option, Some, None, Result, Ok, Err}
+use Rattle.std.specs.Option.{option_and_then, ok_or}
+use Rattle.numbers.specs.declared.Misread.{Misread}
+use Rattle.numbers.specs.declared.Number.{Number}
 use Rattle.table.specs.declared.expr.Term.{Term}
-use Rattle.table.specs.declared.expr.ExprRead.{ExprRead}
-use Rattle.table.specs.declared.expr.ExprRead.TheVariants.{Expr, Refused as NoExpr}
 use Rattle.table.specs.declared.stmt.Names.{Names}
 use Rattle.table.specs.declared.stmt.Part.{Part}
-use Rattle.table.specs.declared.stmt.StmtRead.{StmtRead}
-use Rattle.table.specs.declared.stmt.StmtRead.TheVariants.{Stmt, Refused as NoStmt}
-use Rattle.table.specs.declared.stmt.HeadRead.{HeadRead}
-use Rattle.table.specs.declared.stmt.HeadRead.TheVariants.{Head as Before, Refused as NoHead}
+use Rattle.table.specs.declared.stmt.Front.{Front}
 use Rattle.table.specs.declared.stmt.Sum.{Sum}
-use Rattle.table.specs.declared.stmt.SumRead.{SumRead}
-use Rattle.table.specs.declared.stmt.SumRead.TheVariants.{Sum as Total, Refused as NoSum}
 
 -- the place after a part is behind its own and no further than the table
-abbrev InNumber : (at len : ℕ) → NumberRead → Type 0
-InNumber at len (Number v n) = (at < n) × (n ≤ len)
-InNumber at len Bad = Unit {0}
+abbrev Inside : (at len : ℕ) → Option Number → Type 0
+Inside at len (Some n) = (at < n.next) × (n.next ≤ len)
+Inside at len None = Unit {0}
 
-abbrev InItem : (at len : ℕ) → Item → Type 0
-InItem at len (Found v n) = (at < n) × (n ≤ len)
-InItem at len (Refused k p) = Unit {0}
+abbrev InItem : (at len : ℕ) → Result Number Misread → Type 0
+InItem at len (Ok n) = (at < n.next) × (n.next ≤ len)
+InItem at len (Err r) = Unit {0}
 
 -- an expression stores fewer values than it has bytes
-abbrev InExpr : (at len : ℕ) → ExprRead → Type 0
-InExpr at len (Expr e) = (at < e.next) × (e.next ≤ len) × (e.stored < e.next - at)
-InExpr at len (NoExpr k p) = Unit {0}
+abbrev InExpr : (at len : ℕ) → Result Term Misread → Type 0
+InExpr at len (Ok e) = (at < e.next) × (e.next ≤ len) × (e.stored < e.next - at)
+InExpr at len (Err r) = Unit {0}
 
-abbrev Most : ℕ → Item → Type 0
-Most hi (Found v n) = v ≤ hi
-Most hi (Refused k p) = Unit {0}
+abbrev Most : ℕ → Result Number Misread → Type 0
+Most hi (Ok n) = n.value ≤ hi
+Most hi (Err r) = Unit {0}
 
 -- a head may be empty; it ends from `from` on, and the words that it asks for are bounded by its bytes from base on
-abbrev InHead : (base from len : ℕ) → HeadRead → Type 0
-InHead base from len (Before n a) = (from ≤ n) × (n ≤ len) × (a ≤ 40 * (n - base))
-InHead base from len (NoHead k p) = Unit {0}
+abbrev InHead : (base from len : ℕ) → Result Front Misread → Type 0
+InHead base from len (Ok f) = (from ≤ f.next) × (f.next ≤ len) × (f.words ≤ 40 * (f.next - base))
+InHead base from len (Err r) = Unit {0}
 
--- what follows a number, an item, an expression, a head or a statement is as P says, where a refusal is
-of_number : {R : Type 0} {bad : R} (P : R → Type 0) (Q : NumberRead → Type 0) → P bad → (x : NumberRead) {f : ℕ → ℕ → R} → Q x
-    → ((v n : ℕ) → Q (Number v n) → P (f v n)) → P (with_number bad x f)
-of_number P Q r (Number v n) h g = g v n h
-of_number P Q r Bad h g = r
+-- what follows a part that was read is as P says, where a refusal is
+of-read : {A R : Type 0} {refuse : Misread → R} (P : R → Type 0) (Q : Result A Misread → Type 0) → ((r : Misread) → P (refuse r))
+    → (x : Result A Misread) {f : A → R} → Q x → ((a : A) → Q (Ok a) → P (f a)) → P (with_read refuse x f)
+of-read P Q r (Ok a) h g = g a h
+of-read P Q r (Err e) h g = r e
 
-of-item : {R : Type 0} {refuse : ℕ → ℕ → R} (P : R → Type 0) (Q : Item → Type 0) → ((k p : ℕ) → P (refuse k p)) → (x : Item)
-    {f : ℕ → ℕ → R} → Q x → ((v n : ℕ) → Q (Found v n) → P (f v n)) → P (with_item refuse x f)
-of-item P Q r (Found v n) h g = g v n h
-of-item P Q r (Refused k p) h g = r k p
+-- the same after the groups of a number, where none is
+of-groups : (P Q : Option Number → Type 0) → P None → (x : Option Number) {f : Number → Option Number} → Q x
+    → ((n : Number) → Q (Some n) → P (f n)) → P (option_and_then f x)
+of-groups P Q r (Some n) h g = g n h
+of-groups P Q r None h g = r
 
-of-expr : {R : Type 0} {refuse : ℕ → ℕ → R} (P : R → Type 0) (Q : ExprRead → Type 0) → ((k p : ℕ) → P (refuse k p)) → (x : ExprRead)
-    {f : Term → R} → Q x → ((e : Term) → Q (Expr e) → P (f e)) → P (with_expr refuse x f)
-of-expr P Q r (Expr e) h g = g e h
-of-expr P Q r (NoExpr k p) h g = r k p
-
-of-head : {R : Type 0} {refuse : ℕ → ℕ → R} (P : R → Type 0) (Q : HeadRead → Type 0) → ((k p : ℕ) → P (refuse k p)) → (x : HeadRead)
-    {f : ℕ → ℕ → R} → Q x → ((n a : ℕ) → Q (Before n a) → P (f n a)) → P (with_head refuse x f)
-of-head P Q r (Before n a) h g = g n a h
-of-head P Q r (NoHead k p) h g = r k p
-
-of-stmt : {R : Type 0} {refuse : ℕ → ℕ → R} (P : R → Type 0) (Q : StmtRead → Type 0) → ((k p : ℕ) → P (refuse k p)) → (x : StmtRead)
-    {f : Part → R} → Q x → ((p : Part) → Q (Stmt p) → P (f p)) → P (with_stmt refuse x f)
-of-stmt P Q r (Stmt p) h g = g p h
-of-stmt P Q r (NoStmt k p) h g = r k p
-
-groups-in : (k : ℕ) (s : List ℕ) (at : ℕ) → InNumber at (length s) (groups_at k s at)
+groups-in : (k : ℕ) (s : List ℕ) (at : ℕ) → Inside at (length s) (groups_at k s at)
 unfolding groups_at
 groups-in zero s at = tt
 groups-in (suc k) s at =
     by_bool (leb (length s) at) (λ e. rw e tt)
     (λ e. let l : at < length s = leb-false (length s) at e in
-    rw e (of-cond (InNumber at (length s)) (ltb (get_or s at 0) 128) (omega (arith, l))
-    (of_number (InNumber at (length s)) (InNumber (at + 1) (length s)) tt (groups_at k s (at + 1)) (groups-in k s (at + 1)) (λ v n h.
-    of-cond (InNumber at (length s)) (eqb v 0) tt
-    (of-cond (InNumber at (length s)) (ltb v 33554432) (omega (arith, h.0, h.1)) tt)))))
+    rw e (of-cond (Inside at (length s)) (ltb (get_or s at 0) 128) (omega (arith, l))
+    (of-groups (Inside at (length s)) (Inside (at + 1) (length s)) tt (groups_at k s (at + 1)) (groups-in k s (at + 1)) (λ n h.
+    of-cond (Inside at (length s)) (eqb n.value 0) tt
+    (of-cond (Inside at (length s)) (ltb n.value 33554432) (omega (arith, h.0, h.1)) tt)))))
+
+number-in : (s : List ℕ) (at : ℕ) → InItem at (length s) (number_at s at)
+unfolding number_at
+number-in s at = of-option _ (groups_at 5 s at) (groups-in 5 s at)
+  where
+    of-option : (r : Misread) (x : Option Number) → Inside at (length s) x → InItem at (length s) (ok_or x r)
+    of-option r (Some n) h = h
+    of-option r None h = tt
 
 pub between_in : (lo hi : ℕ) (s : List ℕ) (at : ℕ) → InItem at (length s) (between_at lo hi s at)
 unfolding between_at
 between_in lo hi s at =
-    of_number (InItem at (length s)) (InNumber at (length s)) tt (groups_at 5 s at) (groups-in 5 s at) (λ v n h.
-    of-cond (InItem at (length s)) (ltb v lo) tt (of-cond (InItem at (length s)) (ltb hi v) tt h))
+    of-read (InItem at (length s)) (InItem at (length s)) (λ r. tt) (number_at s at) (number-in s at) (λ n h.
+    of-cond (InItem at (length s)) (ltb n.value lo || ltb hi n.value) tt h)
 
 name_in : (count from to : ℕ) (s : List ℕ) (at : ℕ) → InItem at (length s) (name_at count from to s at)
 unfolding name_at
 name_in count from to s at =
-    of_number (InItem at (length s)) (InNumber at (length s)) tt (groups_at 5 s at) (groups-in 5 s at) (λ v n h.
-    of-cond (InItem at (length s)) (leb count v) tt
-    (of-cond (InItem at (length s)) (ltb v from) h (of-cond (InItem at (length s)) (ltb v to) tt h)))
+    of-read (InItem at (length s)) (InItem at (length s)) (λ r. tt) (number_at s at) (number-in s at) (λ n h.
+    of-cond (InItem at (length s)) (leb count n.value || leb from n.value && ltb n.value to) tt h)
 
 -- a count is in its bounds
 between-most : (lo hi : ℕ) (s : List ℕ) (at : ℕ) → Most hi (between_at lo hi s at)
 unfolding between_at
 between-most lo hi s at =
-    of_number (Most hi) (λ x. Unit {0}) tt (groups_at 5 s at) tt (λ v n h.
-    of-cond (Most hi) (ltb v lo) tt (by_bool (ltb hi v) (λ e. rw e tt) (λ e. rw e (ltb-false hi v e))))
+    of-read (Most hi) (λ x. Unit {0}) (λ r. tt) (number_at s at) tt (λ n h.
+    by_bool (ltb hi n.value) (λ e. rw (e, or-true (ltb n.value lo)) tt)
+    (λ e. of-cond (Most hi) (ltb n.value lo || ltb hi n.value) tt (ltb-false hi n.value e)))
 
-pub count_most : {v n : ℕ} (lo hi : ℕ) (s : List ℕ) (at : ℕ) → between_at lo hi s at ≡ Found v n → v ≤ hi
-count_most lo hi s at e = rw e at (between-most lo hi s at)
+earlier-expr : (x : Result Term Misread) (from at len : ℕ) → from < at → InExpr at len x → InExpr from len x
+earlier-expr (Ok e) from at len l h = (omega (arith, l, h.0), h.1, omega (arith, l, h.0, h.2))
+earlier-expr (Err r) from at len l h = tt
 
--- a name is below its count
-abbrev Below : ℕ → Item → Type 0
-Below count (Found v n) = v < count
-Below count (Refused k p) = Unit {0}
-
-all-below : (count from to : ℕ) (s : List ℕ) (at : ℕ) → Below count (name_at count from to s at)
-unfolding name_at
-all-below count from to s at =
-    of_number (Below count) (λ x. Unit {0}) tt (groups_at 5 s at) tt (λ v n h.
-    by_bool (leb count v) (λ e. rw e tt) (λ e. let l : v < count = leb-false count v e in
-    rw e (of-cond (Below count) (ltb v from) l (of-cond (Below count) (ltb v to) tt l))))
-
-pub name_below : {v n : ℕ} (count from to : ℕ) (s : List ℕ) (at : ℕ) → name_at count from to s at ≡ Found v n → v < count
-name_below count from to s at e = rw e at (all-below count from to s at)
-
--- what is too deep is refused
-abbrev IsRefused : Item → Type 0
-IsRefused (Found v n) = ⊥
-IsRefused (Refused k p) = Unit {0}
-
-deep-refused : (s : List ℕ) (at : ℕ) → IsRefused (deep_at s at)
-unfolding deep_at
-deep-refused s at = of_number IsRefused (λ x. Unit {0}) tt (groups_at 5 s at) tt (λ v n h. tt)
-
-earlier-expr : (x : ExprRead) (from at len : ℕ) → from < at → InExpr at len x → InExpr from len x
-earlier-expr (Expr e) from at len l h = (omega (arith, l, h.0), h.1, omega (arith, l, h.0, h.2))
-earlier-expr (NoExpr j p) from at len l h = tt
-
-leaf-in : (x : Item) (at len : ℕ) → InItem at len x → InExpr at len (with_item NoExpr x (λ v n. single n))
+leaf-in : (x : Result Number Misread) (at len : ℕ) → InItem at len x → InExpr at len (with_read Err x (λ n. Ok (single n.next)))
 leaf-in x at len h =
-    of-item (InExpr at len) (InItem at len) (λ j p. tt) x h (λ v n g. (g.0, g.1, omega (arith, g.0)))
+    of-read (InExpr at len) (InItem at len) (λ r. tt) x h (λ n g. (g.0, g.1, omega (arith, g.0)))
 
-sides-in : (inner : ℕ → ExprRead) (at len : ℕ) → ((i : ℕ) → InExpr i len (inner i)) → InExpr at len (sides inner at)
+sides-in : (inner : ℕ → Result Term Misread) (at len : ℕ) → ((i : ℕ) → InExpr i len (inner i)) → InExpr at len (sides inner at)
 sides-in inner at len h =
-    of-expr (InExpr at len) (InExpr at len) (λ k p. tt) (inner at) (h at) (λ l a.
-    of-expr (InExpr at len) (InExpr l.next len) (λ k p. tt) (inner l.next) (h l.next) (λ r b. (
+    of-read (InExpr at len) (InExpr at len) (λ r. tt) (inner at) (h at) (λ l a.
+    of-read (InExpr at len) (InExpr l.next len) (λ r. tt) (inner l.next) (h l.next) (λ r b. (
       omega (arith, a.0, b.0),
       b.1,
       omega (arith, a.0, a.2, b.0, b.2, sides-hold (order_of l.registers r.registers) l.stored r.stored),
@@ -182,13 +143,14 @@ sides-in inner at len h =
 
 expr-in : (d vs : ℕ) (s : List ℕ) (at : ℕ) → InExpr at (length s) (expr_at d vs s at)
 unfolding expr_at used_at
-expr-in zero vs s at = of-item (InExpr at (length s)) IsRefused (λ k p. tt) (deep_at s at) (deep-refused s at) (λ v n h. absurd h)
+expr-in zero vs s at = tt
 expr-in (suc d) vs s at =
-    of-item (InExpr at (length s)) (InItem at (length s)) (λ k p. tt) (between_at 0 last_expression s at)
-    (between_in 0 last_expression s at) (λ k n h.
-    earlier-expr (kinds (expr_kind k) n) at n (length s) h.0 (of-kind (λ i. expr-in d vs s i) (expr_kind k) n))
+    of-read (InExpr at (length s)) (InItem at (length s)) (λ r. tt) (between_at 0 last_expression s at)
+    (between_in 0 last_expression s at) (λ k h.
+    earlier-expr (kinds (expr_kind k.value) k.next) at k.next (length s) h.0
+    (of-kind (λ i. expr-in d vs s i) (expr_kind k.value) k.next))
   where
-    kinds : ExprKind → ℕ → ExprRead
+    kinds : ExprKind → ℕ → Result Term Misread
     kinds k n = by_expr k (constant_at s n) (used_at vs s n) (expr_at d vs s n) (operated (λ i. expr_at d vs s i) s n)
 
     of-kind : ((i : ℕ) → InExpr i (length s) (expr_at d vs s i)) → (k : ExprKind) (n : ℕ) → InExpr n (length s) (kinds k n)
@@ -196,26 +158,26 @@ expr-in (suc d) vs s at =
     of-kind h Variable n = leaf-in (name_at vs 0 0 s n) n (length s) (name_in vs 0 0 s n)
     of-kind h Not n = h n
     of-kind h Binary n =
-        of-item (InExpr n (length s)) (InItem n (length s)) (λ j p. tt) (between_at 0 last_operator s n)
-        (between_in 0 last_operator s n) (λ o m g.
-        earlier-expr (sides (λ i. expr_at d vs s i) m) n m (length s) g.0 (sides-in (λ i. expr_at d vs s i) m (length s) h))
+        of-read (InExpr n (length s)) (InItem n (length s)) (λ r. tt) (between_at 0 last_operator s n)
+        (between_in 0 last_operator s n) (λ o g.
+        earlier-expr (sides (λ i. expr_at d vs s i) o.next) n o.next (length s) g.0 (sides-in (λ i. expr_at d vs s i) o.next (length s) h))
 
 -- what is counted from base on, for a statement that ends from `from` on
-abbrev In : (base from len : ℕ) → StmtRead → Type 0
-In base from len (Stmt p) = (from ≤ p.next) × (p.next ≤ len) × (p.words ≤ 40 * (p.next - base)) × (p.processes ≤ p.next - base)
-In base from len (NoStmt k p) = Unit {0}
+abbrev In : (base from len : ℕ) → Result Part Misread → Type 0
+In base from len (Ok p) = (from ≤ p.next) × (p.next ≤ len) × (p.words ≤ 40 * (p.next - base)) × (p.processes ≤ p.next - base)
+In base from len (Err r) = Unit {0}
 
-later-stmt : (x : StmtRead) (base from from2 len : ℕ) → from ≤ from2 → In base from2 len x → In base from len x
-later-stmt (Stmt p) base from from2 len l h = (omega (arith, l, h.0), h.1, h.2, h.3)
-later-stmt (NoStmt k p) base from from2 len l h = tt
+later-stmt : (x : Result Part Misread) (base from from2 len : ℕ) → from ≤ from2 → In base from2 len x → In base from len x
+later-stmt (Ok p) base from from2 len l h = (omega (arith, l, h.0), h.1, h.2, h.3)
+later-stmt (Err r) base from from2 len l h = tt
 
-leaf-small : (n words base from len : ℕ) → base < from → from ≤ n → n ≤ len → words ≤ 40 * (n - base) → In base from len (leaf n words)
+leaf-small : (n words base from len : ℕ) → base < from → from ≤ n → n ≤ len → words ≤ 40 * (n - base) → In base from len (Ok (leaf n words))
 leaf-small n words base from len l m u w = (m, u, w, omega (arith, l, m))
 
-earlier-head : (x : HeadRead) (base from base2 from2 len : ℕ) → base2 ≤ base → from2 ≤ from → InHead base from len x
+earlier-head : (x : Result Front Misread) (base from base2 from2 len : ℕ) → base2 ≤ base → from2 ≤ from → InHead base from len x
     → InHead base2 from2 len x
-earlier-head (Before n a) base from base2 from2 len l m h = (omega (arith, m, h.0), h.1, omega (arith, l, h.2))
-earlier-head (NoHead k p) base from base2 from2 len l m h = tt
+earlier-head (Ok f) base from base2 from2 len l m h = (omega (arith, m, h.0), h.1, omega (arith, l, h.2))
+earlier-head (Err r) base from base2 from2 len l m h = tt
 
 asked-most : (r : Role) (t : ℕ) → asked r t ≤ t + 8
 unfolding asked guard_words
@@ -230,22 +192,22 @@ asked-most ForTime (suc t) = omega arith
 whole_in : (r : Role) (d vs : ℕ) (s : List ℕ) (at : ℕ) → InHead at at (length s) (whole_at r d vs s at)
 unfolding whole_at
 whole_in r d vs s at =
-    of-expr (InHead at at (length s)) (InExpr at (length s)) (λ j p. tt) (expr_at d vs s at) (expr-in d vs s at) (λ e h.
+    of-read (InHead at at (length s)) (InExpr at (length s)) (λ r. tt) (expr_at d vs s at) (expr-in d vs s at) (λ e h.
     (omega (arith, h.0), h.1, omega (arith, h.0, h.2, asked-most r e.stored)))
 
 value_in : (r : Role) (d vs : ℕ) (s : List ℕ) (base from at : ℕ) → base < from → from ≤ at
     → In base from (length s) (value_at r d vs s at)
 unfolding value_at
 value_in r d vs s base from at l m =
-    of-head (In base from (length s)) (InHead at at (length s)) (λ j p. tt) (whole_at r d vs s at) (whole_in r d vs s at) (λ n a h.
-    leaf-small n a base from (length s) l (omega (arith, m, h.0)) h.1 (omega (arith, l, m, h.0, h.2)))
+    of-read (In base from (length s)) (InHead at at (length s)) (λ r. tt) (whole_at r d vs s at) (whole_in r d vs s at) (λ f h.
+    leaf-small f.next f.words base from (length s) l (omega (arith, m, h.0)) h.1 (omega (arith, l, m, h.0, h.2)))
 
 -- a channel and a variable, behind what asks for so many words from base on
 taken_in : (w : Names) (s : List ℕ) (base at a : ℕ) → base ≤ at → a ≤ 40 * (at - base) → InHead base at (length s) (taken_at w s at a)
 unfolding taken_at
 taken_in w s base at a l u =
-    of-item (InHead base at (length s)) (InItem at (length s)) (λ k p. tt) (input_at w s at) (name_in _ _ _ s at) (λ c n h.
-    of-item (InHead base at (length s)) (InItem n (length s)) (λ k p. tt) (variable_at w s n) (name_in _ _ _ s n) (λ x m g.
+    of-read (InHead base at (length s)) (InItem at (length s)) (λ r. tt) (input_at w s at) (name_in _ _ _ s at) (λ c h.
+    of-read (InHead base at (length s)) (InItem c.next (length s)) (λ r. tt) (variable_at w s c.next) (name_in _ _ _ s c.next) (λ x g.
     (omega (arith, h.0, g.0), g.1, omega (arith, l, u, h.0, g.0))))
 
 simple-in : (x : Simple) (d : ℕ) (w : Names) (s : List ℕ) (base at : ℕ) → base < at → at ≤ length s
@@ -254,32 +216,32 @@ unfolding simple_at timed_at
 simple-in Idle d w s base at l u = leaf-small at 2 base at (length s) l (omega arith) u (omega (arith, l))
 simple-in Stopping d w s base at l u = leaf-small at 2 base at (length s) l (omega arith) u (omega (arith, l))
 simple-in Assigning d w s base at l u =
-    of-item (In base at (length s)) (InItem at (length s)) (λ j p. tt) (variable_at w s at) (name_in _ _ _ s at) (λ x n h.
-    value_in Value d w.variables s base at n l (omega (arith, h.0)))
+    of-read (In base at (length s)) (InItem at (length s)) (λ r. tt) (variable_at w s at) (name_in _ _ _ s at) (λ x h.
+    value_in Value d w.variables s base at x.next l (omega (arith, h.0)))
 simple-in Inputting d w s base at l u =
-    of-head (In base at (length s)) (InHead base at (length s)) (λ j p. tt) (taken_at w s at 3)
-    (taken_in w s base at 3 (omega (arith, l)) (omega (arith, l))) (λ m a h.
-    leaf-small m a base at (length s) l h.0 h.1 h.2)
+    of-read (In base at (length s)) (InHead base at (length s)) (λ r. tt) (taken_at w s at 3)
+    (taken_in w s base at 3 (omega (arith, l)) (omega (arith, l))) (λ f h.
+    leaf-small f.next f.words base at (length s) l h.0 h.1 h.2)
 simple-in Outputting d w s base at l u =
-    of-item (In base at (length s)) (InItem at (length s)) (λ j p. tt) (output_at w s at) (name_in _ _ _ s at) (λ x n h.
-    value_in Outward d w.variables s base at n l (omega (arith, h.0)))
+    of-read (In base at (length s)) (InItem at (length s)) (λ r. tt) (output_at w s at) (name_in _ _ _ s at) (λ x h.
+    value_in Outward d w.variables s base at x.next l (omega (arith, h.0)))
 simple-in Timing d w s base at l u =
-    of-item (In base at (length s)) (InItem at (length s)) (λ j p. tt) (variable_at w s at) (name_in _ _ _ s at) (λ x n h.
-    leaf-small n 2 base at (length s) l (omega (arith, h.0)) h.1 (omega (arith, l, h.0)))
+    of-read (In base at (length s)) (InItem at (length s)) (λ r. tt) (variable_at w s at) (name_in _ _ _ s at) (λ x h.
+    leaf-small x.next 2 base at (length s) l (omega (arith, h.0)) h.1 (omega (arith, l, h.0)))
 simple-in Waiting d w s base at l u = value_in ForWait d w.variables s base at at l (omega arith)
 
 waiting-in : (d : ℕ) (w : Names) (s : List ℕ) (at : ℕ) → InHead at at (length s) (waiting_at d w s at)
 unfolding waiting_at
 waiting-in d w s at =
-    of-head (InHead at at (length s)) (InHead at at (length s)) (λ k p. tt) (whole_at ForGuard d w.variables s at)
-    (whole_in ForGuard d w.variables s at) (λ m a h.
-    earlier-head (taken_at w s m a) at m at at (length s) (omega arith) h.0 (taken_in w s at m a h.0 h.2))
+    of-read (InHead at at (length s)) (InHead at at (length s)) (λ r. tt) (whole_at ForGuard d w.variables s at)
+    (whole_in ForGuard d w.variables s at) (λ f h.
+    earlier-head (taken_at w s f.next f.words) at f.next at at (length s) (omega arith) h.0 (taken_in w s at f.next f.words h.0 h.2))
 
 both-in : (d vs : ℕ) (s : List ℕ) (at : ℕ) → InHead at at (length s) (both_at d vs s at)
 unfolding both_at
 both-in d vs s at =
-    of-expr (InHead at at (length s)) (InExpr at (length s)) (λ k p. tt) (expr_at d vs s at) (expr-in d vs s at) (λ e a.
-    of-expr (InHead at at (length s)) (InExpr e.next (length s)) (λ k p. tt) (expr_at d vs s e.next) (expr-in d vs s e.next)
+    of-read (InHead at at (length s)) (InExpr at (length s)) (λ r. tt) (expr_at d vs s at) (expr-in d vs s at) (λ e a.
+    of-read (InHead at at (length s)) (InExpr e.next (length s)) (λ r. tt) (expr_at d vs s e.next) (expr-in d vs s e.next)
     (λ t b.
     let o = order_of t.registers e.registers in
     let held = sides-hold o t.stored e.stored in (
@@ -291,12 +253,12 @@ both-in d vs s at =
 guard-in : (d : ℕ) (w : Names) (s : List ℕ) (at : ℕ) → InHead at at (length s) (guard_at d w s at)
 unfolding guard_at
 guard-in d w s at =
-    of-item (InHead at at (length s)) (InItem at (length s)) (λ k p. tt) (between_at 0 last_guard s at)
-    (between_in 0 last_guard s at) (λ g n b.
-    let l : at ≤ n = omega (arith, b.0) in
-    earlier-head (kinds (guard_kind g) n) n n at at (length s) l l (of-kind (guard_kind g) n))
+    of-read (InHead at at (length s)) (InItem at (length s)) (λ r. tt) (between_at 0 last_guard s at)
+    (between_in 0 last_guard s at) (λ g b.
+    let l : at ≤ g.next = omega (arith, b.0) in
+    earlier-head (kinds (guard_kind g.value) g.next) g.next g.next at at (length s) l l (of-kind (guard_kind g.value) g.next))
   where
-    kinds : GuardKind → ℕ → HeadRead
+    kinds : GuardKind → ℕ → Result Front Misread
     kinds k n = by_guard k (waiting_at d w s n) (whole_at ForGuard d w.variables s n) (both_at d w.variables s n)
 
     of-kind : (k : GuardKind) (n : ℕ) → InHead n n (length s) (kinds k n)
@@ -305,13 +267,13 @@ guard-in d w s at =
     of-kind TimeGuard n = both-in d w.variables s n
 
 -- the head of a part; an empty one ends where it begins
-abbrev After : ℕ → HeadRead → Type 0
-After from (Before n a) = (from ≤ n) × (a ≤ 40 * (n - from))
-After from (NoHead k p) = Unit {0}
+abbrev After : ℕ → Result Front Misread → Type 0
+After from (Ok f) = (from ≤ f.next) × (f.words ≤ 40 * (f.next - from))
+After from (Err r) = Unit {0}
 
-of-in : (x : HeadRead) (at len : ℕ) → InHead at at len x → After at x
-of-in (Before n a) at len h = (h.0, h.2)
-of-in (NoHead j p) at len h = tt
+of-in : (x : Result Front Misread) (at len : ℕ) → InHead at at len x → After at x
+of-in (Ok f) at len h = (h.0, h.2)
+of-in (Err r) at len h = tt
 
 head-after : (h : Head) (d : ℕ) (w : Names) (s : List ℕ) (at : ℕ) → After at (head_at h d w s at)
 unfolding head_at
@@ -320,15 +282,16 @@ head-after Condition d w s at = of-in (whole_at Value d w.variables s at) at (le
 head-after Guard d w s at = of-in (guard_at d w s at) at (length s) (guard-in d w s at)
 
 -- a statement ends behind its place and in the table, and its words and processes are bounded by its bytes
-abbrev pub Small : (at len : ℕ) → StmtRead → Type 0
+abbrev pub Small : (at len : ℕ) → Result Part Misread → Type 0
 Small at len x = In at (suc at) len x
 
-part_in_lem : (e : Head) (d : ℕ) (w : Names) (inner : ℕ → StmtRead) (s : List ℕ) (at : ℕ) → ((n : ℕ) → Small n (length s) (inner n))
+part_in_lem : (e : Head) (d : ℕ) (w : Names) (inner : ℕ → Result Part Misread) (s : List ℕ) (at : ℕ)
+    → ((n : ℕ) → Small n (length s) (inner n))
     → Small at (length s) (part_at e d w inner s at)
 unfolding part_at
 part_in_lem e d w inner s at h =
-    of-head (Small at (length s)) (After at) (λ j p. tt) (head_at e d w s at) (head-after e d w s at) (λ n a l.
-    of-stmt (Small at (length s)) (Small n (length s)) (λ j p. tt) (inner n) (h n) (λ p g.
+    of-read (Small at (length s)) (After at) (λ r. tt) (head_at e d w s at) (head-after e d w s at) (λ f l.
+    of-read (Small at (length s)) (Small f.next (length s)) (λ r. tt) (inner f.next) (h f.next) (λ p g.
     (omega (arith, l.0, g.0), g.1, omega (arith, l.0, l.1, g.0, g.2), omega (arith, l.0, g.3))))
 
 -- what is counted over parts from base on
@@ -340,15 +303,15 @@ record SumIn (base from len : ℕ) (t : Sum) : Type 0 where
   live : t.live ≤ t.next - base
   all : t.all ≤ t.next - base
 
-abbrev InSum : (base from len : ℕ) → SumRead → Type 0
-InSum base from len (Total t) = SumIn base from len t
-InSum base from len (NoSum k p) = Unit {0}
+abbrev InSum : (base from len : ℕ) → Result Sum Misread → Type 0
+InSum base from len (Ok t) = SumIn base from len t
+InSum base from len (Err r) = Unit {0}
 
 nothing-in : (base at len : ℕ) → at ≤ len → SumIn base at len (nothing at)
 nothing-in base at len l =
     record { reached = omega arith; inside = l; most = omega arith; sum = omega arith; live = omega arith; all = omega arith }
 
-added-in : (base from len : ℕ) (t : Sum) (p : Part) → base ≤ from → SumIn base from len t → Small t.next len (Stmt p)
+added-in : (base from len : ℕ) (t : Sum) (p : Part) → base ≤ from → SumIn base from len t → Small t.next len (Ok p)
     → SumIn base from len (added t p)
 added-in base from len t p b h k =
     let r : from ≤ p.next = omega (arith, h.reached, k.0) in
@@ -358,43 +321,42 @@ added-in base from len t p b h k =
     let e : t.all + p.processes ≤ p.next - base = omega (arith, h.reached, b, h.all, k.0, k.3) in
     record { reached = r; inside = k.1; most = m; sum = a; live = l; all = e }
 
-most-in : (i : ℕ) (e : Head) (d : ℕ) (w : Names) (inner : ℕ → StmtRead) (s : List ℕ) (t : Sum) (base from : ℕ) → base ≤ from
+most-in : (i : ℕ) (e : Head) (d : ℕ) (w : Names) (inner : ℕ → Result Part Misread) (s : List ℕ) (t : Sum) (base from : ℕ) → base ≤ from
     → ((n : ℕ) → Small n (length s) (inner n)) → SumIn base from (length s) t → InSum base from (length s) (most_from i e d w inner s t)
 unfolding most_from
 most-in zero e d w inner s t base from b h g = g
 most-in (suc i) e d w inner s t base from b h g =
-    of-stmt (InSum base from (length s)) (Small t.next (length s)) (λ j p. tt) (part_at e d w inner s t.next)
+    of-read (InSum base from (length s)) (Small t.next (length s)) (λ r. tt) (part_at e d w inner s t.next)
     (part_in_lem e d w inner s t.next h)
     (λ p q. most-in i e d w inner s (added t p) base from b h (added-in base from (length s) t p b g q))
 
-gathered-in : (e : Head) (x : SumRead) (base from len : ℕ) → base < from → InSum base from len x → In base from len (gathered e x)
-gathered-in e (Total t) base from len l h = (h.reached, h.inside, words e, omega (arith, l, h.reached, h.live))
+gathered-in : (e : Head) (t : Sum) (base from len : ℕ) → base < from → SumIn base from len t → In base from len (Ok (gathered e t))
+gathered-in e t base from len l h = (h.reached, h.inside, words e, omega (arith, l, h.reached, h.live))
   where
     words : (e : Head) → max (least_words e) t.most ≤ 40 * (t.next - base)
     words Nothing = omega (arith, l, h.reached, h.most)
     words Condition = omega (arith, l, h.reached, h.most)
     words Guard = omega (arith, l, h.reached, h.most)
-gathered-in e (NoSum j p) base from len l h = tt
 
 -- what is counted over the branches of a PAR
-abbrev InBranches : (base from len : ℕ) → BranchesRead → Type 0
-InBranches base from len (all b) = SumIn base from len b.total
-InBranches base from len (stopped k p) = Unit {0}
+abbrev InBranches : (base from len : ℕ) → Result Branches Misread → Type 0
+InBranches base from len (Ok b) = SumIn base from len b.total
+InBranches base from len (Err r) = Unit {0}
 
-branches-in : (i : ℕ) (inner : ℕ → StmtRead) (uses : ℕ → List ℕ → List ℕ) (b : Branches) (base from len : ℕ) → base ≤ from
+branches-in : (i : ℕ) (inner : ℕ → Result Part Misread) (uses : ℕ → List ℕ → List ℕ) (b : Branches) (base from len : ℕ) → base ≤ from
     → ((n : ℕ) → Small n len (inner n)) → SumIn base from len b.total → InBranches base from len (branches_from i inner uses b)
 unfolding branches_from
 branches-in zero inner uses b base from len l h g = g
 branches-in (suc i) inner uses b base from len l h g =
-    of-stmt (InBranches base from len) (Small b.total.next len) (λ j p. tt) (inner b.total.next) (h b.total.next) (λ p q.
+    of-read (InBranches base from len) (Small b.total.next len) (λ r. tt) (inner b.total.next) (h b.total.next) (λ p q.
     branches-in i inner uses (joined_by (uses b.total.next no_names) b p) base from len l h
     (added-in base from len b.total p l g q))
 
-par-in : (x : BranchesRead) (place base from len : ℕ) → base < from → InBranches (suc base) from len x
-    → In base from len (with_branches NoStmt x (λ b. par_of place b.total b.bad))
-par-in (all b) place base from len l g =
+par-in : (x : Result Branches Misread) (place base from len : ℕ) → base < from → InBranches (suc base) from len x
+    → In base from len (with_read Err x (λ b. Ok (par_of place b.total b.bad)))
+par-in (Ok b) place base from len l g =
     (g.reached, g.inside, omega (arith, l, g.reached, g.sum), omega (arith, l, g.reached, g.all))
-par-in (stopped k p) place base from len l g = tt
+par-in (Err r) place base from len l g = tt
 
 -- a count of parts is at most 32, and the place after it is in the table
 abbrev FewOf : Count → Type 0
@@ -423,87 +385,93 @@ few Alt = omega arith
 few Time = tt
 few Wait = tt
 
-abbrev Behind : (at len : ℕ) → Item → Type 0
-Behind at len (Found c n) = (at ≤ n) × (n ≤ len)
-Behind at len (Refused k p) = Unit {0}
+abbrev Behind : (at len : ℕ) → Result Number Misread → Type 0
+Behind at len (Ok c) = (at ≤ c.next) × (c.next ≤ len)
+Behind at len (Err r) = Unit {0}
 
 few-most : (m : Count) (s : List ℕ) (at : ℕ) → FewOf m → Most 32 (count_at m s at)
 unfolding count_at
 few-most (UpTo m) s at l = wider (between_at 0 m s at) (between-most 0 m s at)
   where
-    wider : (x : Item) → Most m x → Most 32 x
-    wider (Found c n) h = omega (arith, l, h)
-    wider (Refused k p) h = tt
+    wider : (x : Result Number Misread) → Most m x → Most 32 x
+    wider (Ok c) h = omega (arith, l, h)
+    wider (Err r) h = tt
 few-most (Fixed n) s at l = l
 
 count-behind : (m : Count) (s : List ℕ) (at : ℕ) → at ≤ length s → Behind at (length s) (count_at m s at)
 unfolding count_at
 count-behind (UpTo m) s at u = later (between_at 0 m s at) (between_in 0 m s at)
   where
-    later : (x : Item) → InItem at (length s) x → Behind at (length s) x
-    later (Found c n) h = (omega (arith, h.0), h.1)
-    later (Refused k p) h = tt
+    later : (x : Result Number Misread) → InItem at (length s) x → Behind at (length s) x
+    later (Ok c) h = (omega (arith, h.0), h.1)
+    later (Err r) h = tt
 count-behind (Fixed n) s at u = (omega arith, u)
 
-pub count-few : {c n : ℕ} (m : Count) (s : List ℕ) (at : ℕ) → FewOf m → count_at m s at ≡ Found c n → c ≤ 32
+pub count-few : {c : Number} (m : Count) (s : List ℕ) (at : ℕ) → FewOf m → count_at m s at ≡ Ok c → c.value ≤ 32
 count-few m s at l e = rw e at (few-most m s at l)
 
-inside-in : (place : ℕ) (k : StmtKind) (d : ℕ) (w : Names) (inner : Names → ℕ → StmtRead) (uses : Names → ℕ → List ℕ → List ℕ) (s : List ℕ)
+inside-in : (place : ℕ) (k : StmtKind) (d : ℕ) (w : Names) (inner : Names → ℕ → Result Part Misread) (uses : Names → ℕ → List ℕ → List ℕ)
+    (s : List ℕ)
     (at : ℕ)
     → place < at → at ≤ length s → ((v : Names) (n : ℕ) → Small n (length s) (inner v n))
     → Small place (length s) (inside_of place k d w inner uses s at)
 inside-in place k d w inner uses s at l u h =
     of-shape (shape_of k) (few k)
   where
-    most : (e : Head) (c n : ℕ) → place < n → n ≤ length s → Small place (length s) (gathered e (most_from c e d w (inner w) s (nothing n)))
+    most : (e : Head) (c n : ℕ) → place < n → n ≤ length s
+        → Small place (length s) (with_read Err (most_from c e d w (inner w) s (nothing n)) (λ t. Ok (gathered e t)))
     most e c n a b =
-        later-stmt (gathered e (most_from c e d w (inner w) s (nothing n))) place (suc place) n (length s) a
-        (gathered-in e (most_from c e d w (inner w) s (nothing n)) place n (length s) a
-        (most-in c e d w (inner w) s (nothing n) place n (omega (arith, a)) (h w) (nothing-in place n (length s) b)))
+        of-read (Small place (length s)) (InSum place n (length s)) (λ r. tt) (most_from c e d w (inner w) s (nothing n))
+        (most-in c e d w (inner w) s (nothing n) place n (omega (arith, a)) (h w) (nothing-in place n (length s) b))
+        (λ t g. later-stmt (Ok (gathered e t)) place (suc place) n (length s) a (gathered-in e t place n (length s) a g))
 
-    read : ℕ → ℕ → BranchesRead
+    read : ℕ → ℕ → Result Branches Misread
     read c n = branches_from c (inner w) (uses w) (no_branches n)
 
     par : (c n : ℕ) → place < n → n ≤ length s
-        → Small place (length s) (with_branches NoStmt (read c n) (λ b. par_of place b.total b.bad))
+        → Small place (length s) (with_read Err (read c n) (λ b. Ok (par_of place b.total b.bad)))
     par c n a b =
-        later-stmt (with_branches NoStmt (read c n) (λ b. par_of place b.total b.bad)) place (suc place) n (length s) a
+        later-stmt (with_read Err (read c n) (λ b. Ok (par_of place b.total b.bad))) place (suc place) n (length s) a
         (par-in (read c n) place place n (length s) a
         (branches-in c (inner w) (uses w) (no_branches n) (suc place) n (length s) a (h w) (nothing-in (suc place) n (length s) b)))
 
     of-shape : (x : Shape) → FewIn x
         → Small place (length s)
         (by_shape x (λ y. simple_at y d w s at)
-        (λ y. with_item NoStmt (between_at 1 32 s at) (λ c n. declaring c (inner (more_names y c w) n)))
-        (λ m. with_item NoStmt (count_at m s at) (λ c n. with_branches NoStmt (read c n) (λ b. par_of place b.total b.bad)))
-        (λ e m. with_item NoStmt (count_at m s at) (λ c n. gathered e (most_from c e d w (inner w) s (nothing n)))))
+        (λ y. with_read Err (between_at 1 32 s at) (λ c.
+        with_read Err (inner (more_names y c.value w) c.next) (λ p. Ok (declaring c.value p))))
+        (λ m. with_read Err (count_at m s at) (λ c. with_read Err (read c.value c.next) (λ b. Ok (par_of place b.total b.bad))))
+        (λ e m. with_read Err (count_at m s at) (λ c.
+        with_read Err (most_from c.value e d w (inner w) s (nothing c.next)) (λ t. Ok (gathered e t)))))
     of-shape (Bare y) f =
         later-stmt (simple_at y d w s at) place (suc place) at (length s) l (simple-in y d w s place at l u)
     of-shape (Declares y) f =
-        of-item (Small place (length s)) (λ x. Most 32 x × InItem at (length s) x) (λ j p. tt) (between_at 1 32 s at)
-        (between-most 1 32 s at, between_in 1 32 s at) (λ c n b.
-        let a : place < n = omega (arith, l, b.1) in
-        of-stmt (Small place (length s)) (Small n (length s)) (λ j p. tt) (inner (more_names y c w) n) (h (more_names y c w) n) (λ p g.
+        of-read (Small place (length s)) (λ x. Most 32 x × InItem at (length s) x) (λ r. tt) (between_at 1 32 s at)
+        (between-most 1 32 s at, between_in 1 32 s at) (λ c b.
+        let a : place < c.next = omega (arith, l, b.1) in
+        of-read (Small place (length s)) (Small c.next (length s)) (λ r. tt) (inner (more_names y c.value w) c.next)
+        (h (more_names y c.value w) c.next) (λ p g.
         (omega (arith, a, g.0), g.1, omega (arith, b.0, a, g.0, g.2), omega (arith, a, g.3))))
     of-shape (Side m) f =
-        of-item (Small place (length s)) (Behind at (length s)) (λ j p. tt) (count_at m s at) (count-behind m s at u)
-        (λ c n b. par c n (omega (arith, l, b.0)) b.1)
+        of-read (Small place (length s)) (Behind at (length s)) (λ r. tt) (count_at m s at) (count-behind m s at u)
+        (λ c b. par c.value c.next (omega (arith, l, b.0)) b.1)
     of-shape (Parts e m) f =
-        of-item (Small place (length s)) (Behind at (length s)) (λ j p. tt) (count_at m s at) (count-behind m s at u)
-        (λ c n b. most e c n (omega (arith, l, b.0)) b.1)
+        of-read (Small place (length s)) (Behind at (length s)) (λ r. tt) (count_at m s at) (count-behind m s at u)
+        (λ c b. most e c.value c.next (omega (arith, l, b.0)) b.1)
 
 pub stmt-small : (d : ℕ) (w : Names) (s : List ℕ) (at : ℕ) → Small at (length s) (stmt_at d w s at)
 unfolding stmt_at
-stmt-small zero w s at = of-item (Small at (length s)) IsRefused (λ k p. tt) (deep_at s at) (deep-refused s at) (λ v n h. absurd h)
+stmt-small zero w s at = tt
 stmt-small (suc d) w s at =
-    of-item (Small at (length s)) (InItem at (length s)) (λ j p. tt) (between_at 0 last_statement s at)
-    (between_in 0 last_statement s at) (λ k n h.
-    inside-in at (stmt_kind k) d w (λ v i. stmt_at d v s i) (λ v i j. stmt_uses d v s i j) s n h.0 h.1 (λ v i. stmt-small d v s i))
+    of-read (Small at (length s)) (InItem at (length s)) (λ r. tt) (between_at 0 last_statement s at)
+    (between_in 0 last_statement s at) (λ k h.
+    inside-in at (stmt_kind k.value) d w (λ v i. stmt_at d v s i) (λ v i j. stmt_uses d v s i j) s k.next h.0 h.1
+    (λ v i. stmt-small d v s i))
 
-pub stmt-counts : {p : Part} (d : ℕ) (w : Names) (s : List ℕ) (at : ℕ) → stmt_at d w s at ≡ Stmt p → Small at (length s) (Stmt p)
+pub stmt-counts : {p : Part} (d : ℕ) (w : Names) (s : List ℕ) (at : ℕ) → stmt_at d w s at ≡ Ok p → Small at (length s) (Ok p)
 stmt-counts d w s at e = rw e at (stmt-small d w s at)
 
-pub part-counts : {p : Part} (h : Head) (d : ℕ) (w : Names) (s : List ℕ) (at : ℕ) → part_in h d w s at ≡ Stmt p
-    → Small at (length s) (Stmt p)
+pub part-counts : {p : Part} (h : Head) (d : ℕ) (w : Names) (s : List ℕ) (at : ℕ) → part_in h d w s at ≡ Ok p
+    → Small at (length s) (Ok p)
 unfolding part_in
 part-counts h d w s at e = rw e at (part_in_lem h d w (λ i. stmt_at d w s i) s at (λ i. stmt-small d w s i))

@@ -11,8 +11,8 @@ mod stmt;
 mod table;
 mod usage;
 
-// Reads a table and answers its facts, or a refusal's number and place.
-pub fn read(table: &[u8]) -> model::Reading
+// Reads a table and answers its facts, or why it is refused, and at which place.
+pub fn read(table: &[u8]) -> Result<model::Facts, model::Refusal>
     ensures answer { result ≡ answer_of (accept table.now) }
     ensures refusal { refused_reading result ≡ read_refusal (accept table.now) }
 {

@@ -1,24 +1,24 @@
 // Statements: what one reading counts, and the sets of names that they change, use, input from and output to.
-ghost use Rattle.std.specs.Prelude.{◌≡◌, ◌+◌, ◌<◌, ◌≤◌, length};
+ghost use Rattle.std.specs.Prelude.{◌≡◌, ◌+◌, ◌<◌, ◌≤◌, length, IfOk};
 ghost use Rattle.table.specs.Stmts.{first_among, leaf, whole_at, value_at, taken_at, simple_at, waiting_at, both_of, both_at, guard_at};
-ghost use Rattle.table.specs.Stmts.{head_at, behind, with_stmt};
-ghost use Rattle.table.specs.Stmts.{nothing, added, gathered, par_of, more_names, declaring, SmallWords, Numbered, Fits};
+ghost use Rattle.table.specs.Stmts.{variable_at, input_at, output_at, head_at, behind};
+ghost use Rattle.table.specs.Stmts.{nothing, added, gathered, par_of, more_names, declaring, Numbered, Fits};
 ghost use Rattle.table.specs.Stmts.{part_in, most_at, par_at, declared_at, inside_at, stmt_at, taken_uses, timed_at, timed_uses};
 ghost use Rattle.table.specs.Stmts.{simple_uses, waiting_uses, both_uses, guard_uses, head_uses};
 ghost use Rattle.table.specs.Stmts.{part_uses_in, most_uses_at, par_uses_at, declared_uses, inside_uses, stmt_uses};
 ghost use Rattle.table.specs.Exprs.{expr_uses};
 ghost use Rattle.table.specs.Sets.{Exact};
-ghost use Rattle.table.specs.declared.stmt.StmtRead.TheVariants.{Stmt, Refused as NoStmt};
-ghost use Rattle.table.specs.declared.stmt.SumRead.TheVariants.{Sum as Total};
-ghost use Rattle.numbers.specs.Items.{with_item};
 
-use crate::expr::{ExprRead, Term};
+use crate::expr::{Term, read_expr};
 use counts::Role;
 use model::kinds::{GuardKind, StmtKind};
-use numbers::kinds::{Declared, Head, Shape, Simple};
+use numbers::kinds::{Declared, Head, LAST_GUARD, LAST_STATEMENT, Shape, Simple};
+use numbers::{Misread, Number};
 
-// How many names are in scope: variables, channels with the outside ones, outside inputs and outputs.
-#[derive(Clone, Copy)]
+// How many names are in scope: variables, channels with the outside ones, outside inputs and outputs. Their bounds stay in clauses: where
+// no depth is left there may be 1,040 channels, so what the readers ask (`Numbered`) is no fact of the type. Table, place, depth and sets
+// stay parameters: as fields each clause would say `self.old.sets` for `sets.old`, and three of them are others at each call.
+#[derive(Clone, Copy, Debug, PartialEq, Eq)]
 pub struct Names {
     pub variables: u64,
     pub channels: u64,
@@ -28,7 +28,8 @@ pub struct Names {
 
 // What is counted of a statement: the place after it, words needed, live processes, and one more than the place of the first PAR with a
 // clash, 0 for none.
-#[derive(Clone, Copy)]
+// The clash stays a number: as an enum with its place it was copied slowly (247 us in place of 95 for 16,384 bytes of SKIPs).
+#[derive(Clone, Copy, Debug, PartialEq, Eq)]
 pub struct Part {
     pub next: usize,
     pub words: u32,
@@ -36,21 +37,15 @@ pub struct Part {
     pub clash: usize,
 }
 
-#[derive(Clone, Copy)]
-pub enum StmtRead {
-    Stmt(Part),
-    Refused(u32, usize),
-}
-
 // What stands before a part's statement: the place after it, and the words that it asks for.
-#[derive(Clone, Copy)]
-pub enum HeadRead {
-    Head(usize, u32),
-    Refused(u32, usize),
+#[derive(Clone, Copy, Debug, PartialEq, Eq)]
+pub struct Front {
+    pub next: usize,
+    pub words: u32,
 }
 
 // What is counted over the parts of a statement: the most and the sum of words and of processes.
-#[derive(Clone, Copy)]
+#[derive(Clone, Copy, Debug, PartialEq, Eq)]
 pub struct Sum {
     pub next: usize,
     pub most: u32,
@@ -60,10 +55,32 @@ pub struct Sum {
     pub clash: usize,
 }
 
-#[derive(Clone, Copy)]
-pub enum SumRead {
-    Sum(Sum),
-    Refused(u32, usize),
+impl Names {
+    // The number of a variable.
+    fn read_variable(self, table: &[u8], at: usize) -> Result<Number, Misread>
+        ensures said { result ≡ variable_at self table.now at }
+        ensures below { IfOk result (λ n. n.value < self.variables) }
+    {
+        numbers::read_name(table, at, self.variables, 0, 0)
+    }
+
+    // The number of a channel to input from.
+    fn read_input(self, table: &[u8], at: usize) -> Result<Number, Misread>
+        requires { Numbered self }
+        ensures said { result ≡ input_at self table.now at }
+        ensures below { IfOk result (λ n. n.value < self.channels) }
+    {
+        let last = self.inputs + self.outputs;
+        numbers::read_name(table, at, self.channels, self.inputs, last)
+    }
+
+    // The number of a channel to output to.
+    fn read_output(self, table: &[u8], at: usize) -> Result<Number, Misread>
+        ensures said { result ≡ output_at self table.now at }
+        ensures below { IfOk result (λ n. n.value < self.channels) }
+    {
+        numbers::read_name(table, at, self.channels, 0, self.inputs)
+    }
 }
 
 // The first of two that is not 0.
@@ -74,18 +91,19 @@ fn earlier(a: usize, b: usize) -> usize
 }
 
 // A statement without statements inside.
-fn leaf_part(next: usize, words: u32) -> StmtRead
+fn leaf(next: usize, words: u32) -> Part
     ensures { result ≡ leaf next words }
 {
-    StmtRead::Stmt(Part {
-        next: next,
-        words: words,
+    Part {
+        next,
+        words,
         processes: 1,
         clash: 0,
-    })
+    }
 }
 
 // An expression of a statement that stands in no other.
+#[tactic(auto, unfolding(crate::specs::Stmts::whole_at))]
 fn read_whole(
     table: &[u8],
     at: usize,
@@ -93,18 +111,20 @@ fn read_whole(
     depth: u64,
     variables: u64,
     sets: &mut [u64; 64],
-) -> HeadRead
+) -> Result<Front, Misread>
     requires { (depth ≤ 32) × (variables ≤ 1024) }
     ensures said { result ≡ whole_at role depth variables table.now at }
     ensures uses { sets.new ≡ expr_uses depth variables table.now at sets.old }
 {
-    match crate::expr::read_expr(table, at, depth, variables, sets) {
-        ExprRead::Expr(e) => HeadRead::Head(e.next, counts::ask(role, e.stored)),
-        ExprRead::Refused(n, p) => HeadRead::Refused(n, p),
-    }
+    let value = read_expr(table, at, depth, variables, sets)?;
+    Ok(Front {
+        next: value.next,
+        words: counts::ask(role, value.stored),
+    })
 }
 
 // An expression as the end of a statement without statements inside.
+#[tactic(auto, unfolding(crate::specs::Stmts::value_at))]
 fn read_value(
     table: &[u8],
     at: usize,
@@ -112,64 +132,52 @@ fn read_value(
     depth: u64,
     variables: u64,
     sets: &mut [u64; 64],
-) -> StmtRead
+) -> Result<Part, Misread>
     requires { (depth ≤ 32) × (variables ≤ 1024) }
     ensures said { result ≡ value_at role depth variables table.now at }
     ensures uses { sets.new ≡ expr_uses depth variables table.now at sets.old }
 {
-    match read_whole(table, at, role, depth, variables, sets) {
-        HeadRead::Head(next, words) => leaf_part(next, words),
-        HeadRead::Refused(n, p) => StmtRead::Refused(n, p),
-    }
+    let value = read_whole(table, at, role, depth, variables, sets)?;
+    Ok(leaf(value.next, value.words))
 }
 
 // A channel to input from and a variable, behind what has been read.
-fn read_input(table: &[u8], at: usize, names: Names, words: u32, sets: &mut [u64; 64]) -> HeadRead
+#[tactic(auto, unfolding(crate::specs::Stmts::taken_at, crate::specs::Stmts::taken_uses))]
+fn read_input(
+    table: &[u8],
+    at: usize,
+    names: Names,
+    words: u32,
+    sets: &mut [u64; 64],
+) -> Result<Front, Misread>
     requires { Numbered names }
     ensures said { result ≡ taken_at names table.now at words }
     ensures uses { sets.new ≡ taken_uses names table.now at sets.old }
 {
-    match numbers::read_name(
-        table,
-        at,
-        names.channels,
-        names.inputs,
-        names.inputs + names.outputs,
-    ) {
-        numbers::Item::Item(channel, next) => match numbers::read_name(
-            table,
-            next,
-            names.variables,
-            0,
-            0,
-        ) {
-            numbers::Item::Item(variable, last) => {
-                crate::usage::mark(sets, crate::usage::INPUTS, channel);
-                crate::usage::change(sets, variable);
-                HeadRead::Head(last, words)
-            }
-            numbers::Item::Refused(n, p) => HeadRead::Refused(n, p),
-        },
-        numbers::Item::Refused(n, p) => HeadRead::Refused(n, p),
-    }
+    let channel = names.read_input(table, at)?;
+    let variable = names.read_variable(table, channel.next)?;
+    crate::usage::mark(sets, crate::usage::INPUTS, channel.value);
+    crate::usage::change(sets, variable.value);
+    Ok(Front {
+        next: variable.next,
+        words,
+    })
 }
 
 // The variable of a TIME (02, order 4), changed as by an input.
-fn read_time(table: &[u8], at: usize, names: Names, sets: &mut [u64; 64]) -> StmtRead
+#[tactic(auto, unfolding(crate::specs::Stmts::timed_at, crate::specs::Stmts::timed_uses))]
+fn read_time(table: &[u8], at: usize, names: Names, sets: &mut [u64; 64]) -> Result<Part, Misread>
     requires { Numbered names }
     ensures said { result ≡ timed_at names table.now at }
     ensures uses { sets.new ≡ timed_uses names table.now at sets.old }
 {
-    match numbers::read_name(table, at, names.variables, 0, 0) {
-        numbers::Item::Item(into, next) => {
-            crate::usage::change(sets, into);
-            leaf_part(next, counts::IDLE_WORDS)
-        }
-        numbers::Item::Refused(n, p) => StmtRead::Refused(n, p),
-    }
+    let into = names.read_variable(table, at)?;
+    crate::usage::change(sets, into.value);
+    Ok(leaf(into.next, counts::IDLE_WORDS))
 }
 
 // What follows the kind of a statement without statements inside.
+#[tactic(auto, unfolding(crate::specs::Stmts::simple_at, crate::specs::Stmts::simple_uses))]
 fn read_simple(
     table: &[u8],
     at: usize,
@@ -177,97 +185,124 @@ fn read_simple(
     depth: u64,
     names: Names,
     sets: &mut [u64; 64],
-) -> StmtRead
+) -> Result<Part, Misread>
     requires { (depth ≤ 32) × Numbered names }
     ensures said { result ≡ simple_at simple depth names table.now at }
     ensures uses { sets.new ≡ simple_uses simple depth names table.now at sets.old }
 {
     match simple {
-        Simple::Skip => leaf_part(at, counts::IDLE_WORDS),
-        Simple::Stop => leaf_part(at, counts::IDLE_WORDS),
-        Simple::Assign => match numbers::read_name(table, at, names.variables, 0, 0) {
-            numbers::Item::Item(target, next) => {
-                crate::usage::change(sets, target);
-                read_value(table, next, Role::Value, depth, names.variables, sets)
-            }
-            numbers::Item::Refused(n, p) => StmtRead::Refused(n, p),
-        },
-        Simple::Input => match read_input(table, at, names, counts::INPUT_WORDS, sets) {
-            HeadRead::Head(next, words) => leaf_part(next, words),
-            HeadRead::Refused(n, p) => StmtRead::Refused(n, p),
-        },
-        Simple::Output => match numbers::read_name(table, at, names.channels, 0, names.inputs) {
-            numbers::Item::Item(channel, next) => {
-                crate::usage::mark(sets, crate::usage::OUTPUTS, channel);
-                read_value(table, next, Role::Output, depth, names.variables, sets)
-            }
-            numbers::Item::Refused(n, p) => StmtRead::Refused(n, p),
-        },
+        Simple::Skip | Simple::Stop => Ok(leaf(at, counts::IDLE_WORDS)),
+        Simple::Assign => {
+            let target = names.read_variable(table, at)?;
+            crate::usage::change(sets, target.value);
+            read_value(
+                table,
+                target.next,
+                Role::Value,
+                depth,
+                names.variables,
+                sets,
+            )
+        }
+        Simple::Input => {
+            let taken = read_input(table, at, names, counts::INPUT_WORDS, sets)?;
+            Ok(leaf(taken.next, taken.words))
+        }
+        Simple::Output => {
+            let channel = names.read_output(table, at)?;
+            crate::usage::mark(sets, crate::usage::OUTPUTS, channel.value);
+            read_value(
+                table,
+                channel.next,
+                Role::Output,
+                depth,
+                names.variables,
+                sets,
+            )
+        }
         Simple::Time => read_time(table, at, names, sets),
         Simple::Wait => read_value(table, at, Role::Wait, depth, names.variables, sets),
     }
 }
 
 // The condition, the channel and the variable of a guard that waits for input.
-fn read_waiting(table: &[u8], at: usize, depth: u64, names: Names, sets: &mut [u64; 64]) -> HeadRead
+#[tactic(auto, unfolding(crate::specs::Stmts::waiting_at, crate::specs::Stmts::waiting_uses))]
+fn read_waiting(
+    table: &[u8],
+    at: usize,
+    depth: u64,
+    names: Names,
+    sets: &mut [u64; 64],
+) -> Result<Front, Misread>
     requires { (depth ≤ 32) × Numbered names }
     ensures said { result ≡ waiting_at depth names table.now at }
     ensures uses { sets.new ≡ waiting_uses depth names table.now at sets.old }
 {
-    match read_whole(table, at, Role::Guard, depth, names.variables, sets) {
-        HeadRead::Head(next, words) => read_input(table, next, names, words, sets),
-        HeadRead::Refused(n, p) => HeadRead::Refused(n, p),
-    }
+    let condition = read_whole(table, at, Role::Guard, depth, names.variables, sets)?;
+    read_input(table, condition.next, names, condition.words, sets)
 }
 
 // What is counted of a time guard: its time and its condition as the left and the right side of an operator (02, order 4).
-fn both_head(condition: Term, time: Term) -> HeadRead
+fn both_front(condition: Term, time: Term) -> Front
     requires { (condition.stored ≤ 32) × (time.stored ≤ 32) }
     ensures { result ≡ both_of condition time }
 {
     let order = counts::order_of(time.registers, condition.registers);
     let stored = counts::sides_hold(order, time.stored, condition.stored);
-    HeadRead::Head(time.next, counts::ask(Role::Time, stored))
+    Front {
+        next: time.next,
+        words: counts::ask(Role::Time, stored),
+    }
 }
 
 // The condition and the time of a time guard.
-fn read_both(table: &[u8], at: usize, depth: u64, variables: u64, sets: &mut [u64; 64]) -> HeadRead
+#[tactic(auto, unfolding(crate::specs::Stmts::both_at, crate::specs::Stmts::both_uses))]
+fn read_both(
+    table: &[u8],
+    at: usize,
+    depth: u64,
+    variables: u64,
+    sets: &mut [u64; 64],
+) -> Result<Front, Misread>
     requires { (depth ≤ 32) × (variables ≤ 1024) }
     ensures said { result ≡ both_at depth variables table.now at }
     ensures uses { sets.new ≡ both_uses depth variables table.now at sets.old }
 {
-    match crate::expr::read_expr(table, at, depth, variables, sets) {
-        ExprRead::Expr(condition) => match crate::expr::read_expr(
-            table,
-            condition.next,
-            depth,
-            variables,
-            sets,
-        ) {
-            ExprRead::Expr(time) => both_head(condition, time),
-            ExprRead::Refused(n, p) => HeadRead::Refused(n, p),
-        },
-        ExprRead::Refused(n, p) => HeadRead::Refused(n, p),
-    }
+    let condition = read_expr(table, at, depth, variables, sets)?;
+    let time = read_expr(table, condition.next, depth, variables, sets)?;
+    Ok(both_front(condition, time))
 }
 
 // A guard: its kind, its condition, and its channel and its variable if it waits for input, its time if it is a time guard.
-fn read_guard(table: &[u8], at: usize, depth: u64, names: Names, sets: &mut [u64; 64]) -> HeadRead
+#[tactic(auto, unfolding(crate::specs::Stmts::guard_at, crate::specs::Stmts::guard_uses))]
+fn read_guard(
+    table: &[u8],
+    at: usize,
+    depth: u64,
+    names: Names,
+    sets: &mut [u64; 64],
+) -> Result<Front, Misread>
     requires { (depth ≤ 32) × Numbered names }
     ensures said { result ≡ guard_at depth names table.now at }
     ensures uses { sets.new ≡ guard_uses depth names table.now at sets.old }
 {
-    match numbers::read_between(table, at, 0, numbers::kinds::LAST_GUARD) {
-        numbers::Item::Item(number, next) => match numbers::kinds::guard_kind(number) {
-            GuardKind::Input => read_waiting(table, next, depth, names, sets),
-            GuardKind::Skip => read_whole(table, next, Role::Guard, depth, names.variables, sets),
-            GuardKind::Time => read_both(table, next, depth, names.variables, sets),
-        },
-        numbers::Item::Refused(n, p) => HeadRead::Refused(n, p),
+    let number = numbers::read_between(table, at, 0, LAST_GUARD)?;
+    match numbers::kinds::guard_kind(number.value) {
+        GuardKind::Input => read_waiting(table, number.next, depth, names, sets),
+        GuardKind::Skip => read_whole(
+            table,
+            number.next,
+            Role::Guard,
+            depth,
+            names.variables,
+            sets,
+        ),
+        GuardKind::Time => read_both(table, number.next, depth, names.variables, sets),
     }
 }
 
 // What stands before the statement of a part.
+#[tactic(auto, unfolding(crate::specs::Stmts::head_at, crate::specs::Stmts::head_uses))]
 fn read_head(
     table: &[u8],
     at: usize,
@@ -275,25 +310,15 @@ fn read_head(
     depth: u64,
     names: Names,
     sets: &mut [u64; 64],
-) -> HeadRead
+) -> Result<Front, Misread>
     requires { (depth ≤ 32) × Numbered names }
     ensures said { result ≡ head_at head depth names table.now at }
     ensures uses { sets.new ≡ head_uses head depth names table.now at sets.old }
 {
     match head {
-        Head::Nothing => HeadRead::Head(at, 0),
+        Head::Nothing => Ok(Front { next: at, words: 0 }),
         Head::Condition => read_whole(table, at, Role::Value, depth, names.variables, sets),
         Head::Guard => read_guard(table, at, depth, names, sets),
-    }
-}
-
-// A refusal for the whole statement.
-fn no_stmt(item: numbers::Item) -> StmtRead
-    ensures { result ≡ with_item NoStmt item (λ v n. leaf n 2) }
-{
-    match item {
-        numbers::Item::Item(v, next) => leaf_part(next, counts::IDLE_WORDS),
-        numbers::Item::Refused(n, p) => StmtRead::Refused(n, p),
     }
 }
 
@@ -316,85 +341,71 @@ fn add(sum: Sum, part: Part) -> Sum
     requires { (sum.sum ≤ 32000000) × (sum.all ≤ 32000000) × (part.words ≤ 1000000) × (part.processes ≤ 1000000) }
     ensures { result ≡ added sum part }
 {
-    let most = counts::larger(sum.most, part.words);
-    let live = counts::larger(sum.live, part.processes);
+    let most = sum.most.max(part.words);
+    let live = sum.live.max(part.processes);
     let clash = earlier(sum.clash, part.clash);
     Sum {
         next: part.next,
-        most: most,
+        most,
         sum: sum.sum + part.words,
-        live: live,
+        live,
         all: sum.all + part.processes,
-        clash: clash,
+        clash,
     }
 }
 
 // What is counted of a statement of parts.
-fn gather(head: Head, sum: Sum) -> StmtRead
-    ensures { result ≡ gathered head (Total sum) }
+fn gather(head: Head, sum: Sum) -> Part
+    ensures { result ≡ gathered head sum }
 {
-    let words = counts::larger(counts::least_words(head), sum.most);
-    let processes = counts::larger(1, sum.live);
-    StmtRead::Stmt(Part {
+    let words = counts::least_words(head).max(sum.most);
+    let processes = 1.max(sum.live);
+    Part {
         next: sum.next,
-        words: words,
-        processes: processes,
+        words,
+        processes,
         clash: sum.clash,
-    })
+    }
 }
 
 // What is counted of the PAR at a place.
-fn close_par(place: usize, sum: Sum, bad: bool) -> StmtRead
+fn close_par(place: usize, sum: Sum, bad: bool) -> Part
     requires { (sum.sum ≤ 32000000) × (place ≤ 16384) }
     ensures { result ≡ par_of place sum bad }
 {
     let own = if bad { place + 1 } else { 0 };
     let clash = earlier(own, sum.clash);
-    let processes = counts::larger(1, sum.all);
-    StmtRead::Stmt(Part {
+    let processes = 1.max(sum.all);
+    Part {
         next: sum.next,
         words: counts::PAR_WORDS + sum.sum,
-        processes: processes,
-        clash: clash,
-    })
-}
-
-// A statement behind a head.
-fn behind_head(asked: u32, read: StmtRead) -> StmtRead
-    ensures { result ≡ with_stmt NoStmt read (λ p. Stmt (behind asked p)) }
-{
-    match read {
-        StmtRead::Stmt(p) => {
-            let words = counts::larger(asked, p.words);
-            StmtRead::Stmt(Part {
-                next: p.next,
-                words: words,
-                processes: p.processes,
-                clash: p.clash,
-            })
-        }
-        StmtRead::Refused(n, p) => StmtRead::Refused(n, p),
+        processes,
+        clash,
     }
 }
 
-// A statement in a VAR or CHAN of so many names.
-fn in_scope(count: u64, read: StmtRead) -> StmtRead
-    requires { (count ≤ 32) × SmallWords read }
-    ensures { result ≡ declaring count read }
+// A statement behind a head that asks for so many words.
+fn behind(asked: u32, part: Part) -> Part
+    ensures { result ≡ behind asked part }
 {
-    match read {
-        StmtRead::Stmt(p) => StmtRead::Stmt(Part {
-            next: p.next,
-            words: count as u32 + p.words,
-            processes: p.processes,
-            clash: p.clash,
-        }),
-        StmtRead::Refused(n, p) => StmtRead::Refused(n, p),
+    let words = asked.max(part.words);
+    Part { words, ..part }
+}
+
+// A statement in a VAR or CHAN of so many names.
+fn in_scope(count: u64, part: Part) -> Part
+    requires { (count ≤ 32) × (part.words ≤ 1000000) }
+    ensures { result ≡ declaring count part }
+{
+    Part {
+        words: count as u32 + part.words,
+        ..part
     }
 }
 
 // One part: its head, then its statement.
 #[cycle(read_declaration_read_inside_read_most_read_par_read_part_read_stmt)]
+#[tactic(auto, unfolding(crate::specs::Stmts::part_at, crate::specs::Stmts::part_uses))]
 fn read_part(
     table: &[u8],
     at: usize,
@@ -402,22 +413,19 @@ fn read_part(
     depth: u64,
     names: Names,
     sets: &mut [u64; 64],
-) -> StmtRead
+) -> Result<Part, Misread>
     requires { Fits names depth × (names.channels ≤ 1024) × (length table.now ≤ 16384) }
     ensures said { result ≡ part_in head depth names table.now at }
     ensures uses { sets.new ≡ part_uses_in head depth names table.now at sets.old }
 {
-    match read_head(table, at, head, depth, names, sets) {
-        HeadRead::Head(next, words) => behind_head(
-            words,
-            read_stmt(table, next, depth, names, sets),
-        ),
-        HeadRead::Refused(n, p) => StmtRead::Refused(n, p),
-    }
+    let front = read_head(table, at, head, depth, names, sets)?;
+    let part = read_stmt(table, front.next, depth, names, sets)?;
+    Ok(behind(front.words, part))
 }
 
 // So many parts.
 #[cycle(read_declaration_read_inside_read_most_read_par_read_part_read_stmt)]
+#[tactic(auto, unfolding(crate::specs::Stmts::most_at, crate::specs::Stmts::most_uses_at))]
 fn read_most(
     table: &[u8],
     at: usize,
@@ -426,30 +434,22 @@ fn read_most(
     depth: u64,
     names: Names,
     sets: &mut [u64; 64],
-) -> StmtRead
+) -> Result<Part, Misread>
     requires { Fits names depth × (names.channels ≤ 1024) × (length table.now ≤ 16384) × (count ≤ 32) }
     ensures said { result ≡ most_at head count depth names table.now at }
     ensures uses { sets.new ≡ most_uses_at head count depth names table.now at sets.old }
 {
     let mut sum = no_parts(at);
-    let mut i: u64 = 0;
-    while i < count {
-        let from = sum.next;
-        match read_part(table, from, head, depth, names, sets) {
-            StmtRead::Stmt(p) => {
-                sum = add(sum, p);
-                i += 1;
-            }
-            StmtRead::Refused(n, p) => {
-                return StmtRead::Refused(n, p);
-            }
-        }
+    for _ in 0..count {
+        let part = read_part(table, sum.next, head, depth, names, sets)?;
+        sum = add(sum, part);
     }
-    gather(head, sum)
+    Ok(gather(head, sum))
 }
 
 // The branches of the PAR at a place. Each is read once, with sets of its own, and the check sees these alone.
 #[cycle(read_declaration_read_inside_read_most_read_par_read_part_read_stmt)]
+#[tactic(auto, unfolding(crate::specs::Stmts::par_at, crate::specs::Stmts::par_uses_at))]
 fn read_par(
     table: &[u8],
     place: usize,
@@ -458,7 +458,7 @@ fn read_par(
     depth: u64,
     names: Names,
     sets: &mut [u64; 64],
-) -> StmtRead
+) -> Result<Part, Misread>
     requires { Fits names depth × (names.channels ≤ 1024) × (length table.now ≤ 16384) × (count ≤ 32) × (place ≤ 16384) }
     ensures said { result ≡ par_at place count depth names table.now at }
     ensures uses { sets.new ≡ par_uses_at count depth names table.now at sets.old }
@@ -466,26 +466,15 @@ fn read_par(
     let mut sum = no_parts(at);
     let mut before: [u64; 64] = [0; 64];
     let mut bad = false;
-    let mut i: u64 = 0;
-    while i < count {
-        let from = sum.next;
+    for _ in 0..count {
         let mut branch: [u64; 64] = [0; 64];
-        match read_stmt(table, from, depth, names, &mut branch) {
-            StmtRead::Stmt(p) => {
-                if crate::usage::clash(&before, &branch) {
-                    bad = true;
-                }
-                crate::usage::merge(&mut before, &branch);
-                sum = add(sum, p);
-                i += 1;
-            }
-            StmtRead::Refused(n, p) => {
-                return StmtRead::Refused(n, p);
-            }
-        }
+        let part = read_stmt(table, sum.next, depth, names, &mut branch)?;
+        bad |= crate::usage::clash(&before, &branch);
+        crate::usage::merge(&mut before, &branch);
+        sum = add(sum, part);
     }
     crate::usage::merge(sets, &before);
-    close_par(place, sum, bad)
+    Ok(close_par(place, sum, bad))
 }
 
 // The names in scope with so many more.
@@ -493,20 +482,21 @@ fn more_names(declared: Declared, count: u64, names: Names) -> Names
     requires { (count ≤ 32) × Numbered names }
     ensures { result ≡ more_names declared count names }
 {
-    let mut more = names;
     match declared {
-        Declared::Variables => {
-            more.variables = names.variables + count;
-        }
-        Declared::Channels => {
-            more.channels = names.channels + count;
-        }
+        Declared::Variables => Names {
+            variables: names.variables + count,
+            ..names
+        },
+        Declared::Channels => Names {
+            channels: names.channels + count,
+            ..names
+        },
     }
-    more
 }
 
 // The statement of a VAR or CHAN, in which so many more names are in scope.
 #[cycle(read_declaration_read_inside_read_most_read_par_read_part_read_stmt)]
+#[tactic(auto, unfolding(crate::specs::Stmts::declared_at, crate::specs::Stmts::declared_uses))]
 fn read_declaration(
     table: &[u8],
     at: usize,
@@ -515,7 +505,7 @@ fn read_declaration(
     depth: u64,
     names: Names,
     sets: &mut [u64; 64],
-) -> StmtRead
+) -> Result<Part, Misread>
     requires { Fits names (depth + 1) × (length table.now ≤ 16384) × (count ≤ 32) }
     ensures said { result ≡ declared_at declared count depth names table.now at }
     ensures uses { sets.new ≡ declared_uses declared count depth names table.now at sets.old }
@@ -523,7 +513,8 @@ fn read_declaration(
     let more = more_names(declared, count, names);
     let read = read_stmt(table, at, depth, more, sets);
     crate::usage::leave(sets, declared, names.variables, names.channels);
-    in_scope(count, read)
+    let part = read?;
+    Ok(in_scope(count, part))
 }
 
 // What follows the kind of the statement at a place; the statements and expressions inside have `depth` left.
@@ -536,32 +527,25 @@ fn read_inside(
     depth: u64,
     names: Names,
     sets: &mut [u64; 64],
-) -> StmtRead
+) -> Result<Part, Misread>
     requires { Fits names (depth + 1) × (length table.now ≤ 16384) × (place ≤ 16384) }
     ensures said { result ≡ inside_at place kind depth names table.now at }
     ensures uses { sets.new ≡ inside_uses kind depth names table.now at sets.old }
 {
     match numbers::kinds::shape_of(kind) {
         Shape::Simple(simple) => read_simple(table, at, simple, depth, names, sets),
-        Shape::Declares(declared) => match numbers::read_between(
-            table,
-            at,
-            1,
-            model::limits::NAMES,
-        ) {
-            numbers::Item::Item(n, next) => read_declaration(
-                table, next, declared, n, depth, names, sets,
-            ),
-            numbers::Item::Refused(n, p) => StmtRead::Refused(n, p),
-        },
-        Shape::Branches(count) => match numbers::kinds::read_count(table, at, count) {
-            numbers::Item::Item(n, next) => read_par(table, place, next, n, depth, names, sets),
-            numbers::Item::Refused(n, p) => StmtRead::Refused(n, p),
-        },
-        Shape::Parts(head, count) => match numbers::kinds::read_count(table, at, count) {
-            numbers::Item::Item(n, next) => read_most(table, next, head, n, depth, names, sets),
-            numbers::Item::Refused(n, p) => StmtRead::Refused(n, p),
-        },
+        Shape::Declares(declared) => {
+            let count = numbers::read_between(table, at, 1, model::limits::NAMES)?;
+            read_declaration(table, count.next, declared, count.value, depth, names, sets)
+        }
+        Shape::Branches(count) => {
+            let count = numbers::kinds::read_count(table, at, count)?;
+            read_par(table, place, count.next, count.value, depth, names, sets)
+        }
+        Shape::Parts(head, count) => {
+            let count = numbers::kinds::read_count(table, at, count)?;
+            read_most(table, count.next, head, count.value, depth, names, sets)
+        }
     }
 }
 
@@ -573,20 +557,16 @@ pub fn read_stmt(
     depth: u64,
     names: Names,
     sets: &mut [u64; 64],
-) -> StmtRead
+) -> Result<Part, Misread>
     requires { Fits names depth × (length table.now ≤ 16384) }
     ensures said { result ≡ stmt_at depth names table.now at }
     ensures uses { sets.new ≡ stmt_uses depth names table.now at sets.old }
     ensures exact { Exact depth names table.now at sets.old sets.new }
 {
     if depth == 0 {
-        return no_stmt(numbers::read_deep(table, at));
+        return Err(numbers::read_deep(table, at));
     }
-    match numbers::read_between(table, at, 0, numbers::kinds::LAST_STATEMENT) {
-        numbers::Item::Item(number, next) => {
-            let kind = numbers::kinds::stmt_kind(number);
-            read_inside(table, at, next, kind, depth - 1, names, sets)
-        }
-        numbers::Item::Refused(n, p) => StmtRead::Refused(n, p),
-    }
+    let number = numbers::read_between(table, at, 0, LAST_STATEMENT)?;
+    let kind = numbers::kinds::stmt_kind(number.value);
+    read_inside(table, at, number.next, kind, depth - 1, names, sets)
 }

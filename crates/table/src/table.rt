@@ -2,21 +2,26 @@
 ghost use Rattle.std.specs.Prelude.{◌≡◌, ◌≤◌, length};
 ghost use Rattle.table.specs.Tables.{finished, body_at, table_at};
 
+use crate::stmt::{Names, Part};
+use model::limits::{CHANNELS, DEPTH, PROCESSES, TABLE};
+use model::{Facts, Reason, Refusal};
+
 // The answer for a statement that was read: refusals 6, 7 and 9, lowest first, then the facts.
-fn finish(ins: u64, outs: u64, length: usize, part: crate::stmt::Part) -> model::Reading
+#[tactic(auto, unfolding(crate::specs::Tables::finished))]
+fn finish(ins: u64, outs: u64, length: usize, part: Part) -> Result<Facts, Refusal>
     requires { (ins ≤ 8) × (outs ≤ 8) × (part.words ≤ 655360) }
     ensures { result ≡ finished ins outs length part }
 {
     if part.next < length {
-        return model::Reading::Refused(6, part.next);
+        return Err(Reason::BytesBehind.at(part.next));
     }
     if 0 < part.clash {
-        return model::Reading::Refused(7, part.clash - 1);
+        return Err(Reason::Clash.at(part.clash - 1));
     }
-    if model::limits::PROCESSES < part.processes {
-        return model::Reading::Refused(9, 0);
+    if PROCESSES < part.processes {
+        return Err(Reason::TooManyProcesses.at(0));
     }
-    model::Reading::Accepted(model::Facts {
+    Ok(Facts {
         words: part.words + ins as u32 + outs as u32,
         inputs: ins as u32,
         outputs: outs as u32,
@@ -25,43 +30,31 @@ fn finish(ins: u64, outs: u64, length: usize, part: crate::stmt::Part) -> model:
 }
 
 // The statement behind the channel counts, and nothing behind it.
-fn read_body(table: &[u8], at: usize, ins: u64, outs: u64) -> model::Reading
-    requires { (ins ≤ 8) × (outs ≤ 8) × (length table.now ≤ 16384) }
-    ensures { result ≡ body_at ins outs table.now at }
+#[tactic(auto, unfolding(crate::specs::Tables::body_at))]
+fn read_body(table: &[u8], at: usize, inputs: u64, outputs: u64) -> Result<Facts, Refusal>
+    requires { (inputs ≤ 8) × (outputs ≤ 8) × (length table.now ≤ 16384) }
+    ensures { result ≡ body_at inputs outputs table.now at }
 {
-    let names = crate::stmt::Names {
+    let names = Names {
         variables: 0,
-        channels: ins + outs,
-        inputs: ins,
-        outputs: outs,
+        channels: inputs + outputs,
+        inputs,
+        outputs,
     };
     let mut sets: [u64; 64] = [0; 64];
-    match crate::stmt::read_stmt(table, at, model::limits::DEPTH, names, &mut sets) {
-        crate::stmt::StmtRead::Stmt(part) => finish(ins, outs, table.len(), part),
-        crate::stmt::StmtRead::Refused(n, p) => model::Reading::Refused(n, p),
-    }
+    let part = crate::stmt::read_stmt(table, at, DEPTH, names, &mut sets)?;
+    finish(inputs, outputs, table.len(), part)
 }
 
 // A table of 1 byte to the most that one may have: the channel counts, then the statement.
-pub fn read_table(table: &[u8]) -> model::Reading
+#[tactic(auto, unfolding(crate::specs::Tables::table_at))]
+pub fn read_table(table: &[u8]) -> Result<Facts, Refusal>
     ensures { result ≡ table_at table.now }
 {
-    if table.len() == 0 {
-        return model::Reading::Refused(1, 0);
+    if table.is_empty() || TABLE < table.len() {
+        return Err(Reason::TableSize.at(0));
     }
-    if model::limits::TABLE < table.len() {
-        return model::Reading::Refused(1, 0);
-    }
-    match numbers::read_between(table, 0, 0, model::limits::CHANNELS) {
-        numbers::Item::Item(ins, next) => match numbers::read_between(
-            table,
-            next,
-            0,
-            model::limits::CHANNELS,
-        ) {
-            numbers::Item::Item(outs, last) => read_body(table, last, ins, outs),
-            numbers::Item::Refused(n, p) => model::Reading::Refused(n, p),
-        },
-        numbers::Item::Refused(n, p) => model::Reading::Refused(n, p),
-    }
+    let inputs = numbers::read_between(table, 0, 0, CHANNELS)?;
+    let outputs = numbers::read_between(table, inputs.next, 0, CHANNELS)?;
+    read_body(table, outputs.next, inputs.value, outputs.value)
 }

@@ -5,6 +5,7 @@ ghost use Rattle.table.specs.Uses.{mark_at, change_at, forget_at, leave_at, met_
 
 use numbers::kinds::Declared;
 
+// The four sets stay one array: what the reader promises of them (`usage_sets`) is one list of 64 words, and `merge` is one loop over it.
 // The first words of the sets: variables assigned or input, variables read, assigned or input, channels input from, channels output to.
 pub const CHANGES: usize = 0;
 
@@ -20,11 +21,11 @@ pub fn mark(sets: &mut [u64; 64], set: usize, name: u64)
     ensures { sets.new ≡ mark_at set name sets.old }
 {
     let word = set + (name / 64) as usize;
-    let bit: u64 = 1;
-    sets[word] = sets[word] | (bit << (name % 64));
+    sets[word] |= 1 << (name % 64);
 }
 
 // A variable that is assigned or input is also used.
+#[tactic(auto, unfolding(crate::specs::Uses::change_at))]
 pub fn change(sets: &mut [u64; 64], name: u64)
     requires { name < 1024 }
     ensures { sets.new ≡ change_at name sets.old }
@@ -39,14 +40,14 @@ fn forget(sets: &mut [u64; 64], set: usize, names: u64)
     ensures { sets.new ≡ forget_at set names sets.old }
 {
     let word = set + (names / 64) as usize;
-    let bit: u64 = 1;
-    sets[word] = sets[word] % (bit << (names % 64));
+    sets[word] %= 1 << (names % 64);
     if names / 64 < 15 {
         sets[word + 1] = 0;
     }
 }
 
 // The names of a VAR or CHAN leave the sets behind it, where so many were in scope before.
+#[tactic(auto, unfolding(crate::specs::Uses::leave_at))]
 pub fn leave(sets: &mut [u64; 64], declared: Declared, variables: u64, channels: u64)
     requires { (variables < 1024) × (channels < 1024) }
     ensures { sets.new ≡ leave_at declared variables channels sets.old }
@@ -65,6 +66,7 @@ pub fn leave(sets: &mut [u64; 64], declared: Declared, variables: u64, channels:
 
 // The names of one word that two branches may not have together: one changes what the other uses, or both input from, or output to, a
 // channel.
+#[tactic(auto, unfolding(crate::specs::Uses::met_at))]
 fn common(before: &[u64; 64], branch: &[u64; 64], k: usize) -> u64
     requires { k < 16 }
     ensures { result ≡ met_at k before.now branch.now }
@@ -78,10 +80,8 @@ pub fn clash(before: &[u64; 64], branch: &[u64; 64]) -> bool
     ensures { result ≡ clashing before.now branch.now }
 {
     let mut names: u64 = 0;
-    let mut k: usize = 16;
-    while 0 < k {
-        k -= 1;
-        names = names | common(before, branch, k);
+    for k in 0..16 {
+        names |= common(before, branch, k);
     }
     0 < names
 }
@@ -90,9 +90,7 @@ pub fn clash(before: &[u64; 64], branch: &[u64; 64]) -> bool
 pub fn merge(sets: &mut [u64; 64], branch: &[u64; 64])
     ensures { sets.new ≡ merged 64 sets.old branch.now }
 {
-    let mut k: usize = 64;
-    while 0 < k {
-        k -= 1;
-        sets[k] = sets[k] | branch[k];
+    for k in 0..64 {
+        sets[k] |= branch[k];
     }
 }

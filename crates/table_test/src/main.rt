@@ -6,7 +6,8 @@
 // answered at its line's end, so the last line has one too.
 #![tactic(auto)]
 
-use lines::{print, write};
+use lines::write;
+use model::{Facts, Reason, Refusal};
 use std::io::Stdout;
 
 // A byte that no code has: there is no direct function 9. The lent buffers are of these, as long as the longest code.
@@ -20,24 +21,25 @@ fn wrong(out: Stdout, what: &[u8]) {
 }
 
 // Writes a refusal's line.
-fn print_refusal(out: Stdout, number: u32, place: usize) {
-    lines::print_refusal(out, number, place);
-    write(out, b"\n");
+fn print_refusal(out: Stdout, refusal: Refusal) {
+    lines::show(out, &format_args!("{refusal}\n"));
 }
 
 // Writes what the reader says of an accepted table.
-fn print_facts(out: Stdout, facts: model::Facts) {
-    print(out, b"words ", facts.words as u64);
-    print(out, b" in ", facts.inputs as u64);
-    print(out, b" out ", facts.outputs as u64);
-    print(out, b" processes ", facts.processes as u64);
-    write(out, b"\n");
+fn print_facts(out: Stdout, facts: Facts) {
+    lines::show(
+        out,
+        &format_args!(
+            "words {} in {} out {} processes {}\n",
+            facts.words, facts.inputs, facts.outputs, facts.processes
+        ),
+    );
 }
 
 // Writes a table's code.
 fn print_code(out: Stdout, code: &[u8]) {
     write(out, b"code");
-    if code.len() > 0 {
+    if !code.is_empty() {
         write(out, b" ");
     }
     lines::print_bytes(out, b"", code);
@@ -46,25 +48,17 @@ fn print_code(out: Stdout, code: &[u8]) {
 
 // Whether all bytes are as they were lent.
 fn is_blank(bytes: &[u8]) -> bool {
-    let blank = [BLANK; model::limits::CODE];
-    let length = bytes.len();
-    length <= model::limits::CODE && check::same(bytes, &blank[0..length])
+    bytes.iter().all(|&byte: &u8| byte == BLANK)
 }
 
 // Whether a table is refused so, and every byte of the lent buffer is kept.
-fn is_refused(table: &[u8], lent: &mut [u8], number: u32, place: usize) -> bool {
-    match compiler::compile_into(table, lent) {
-        model::Compiled::Code(_) => false,
-        model::Compiled::Refused(other, at) => other == number && at == place && is_blank(lent),
-    }
+fn is_refused(table: &[u8], lent: &mut [u8], refusal: Refusal) -> bool {
+    compiler::compile_into(table, lent) == Err(refusal) && is_blank(lent)
 }
 
 // Whether a table is compiled into that code, and the lent buffer is just long enough for it.
 fn is_compiled(table: &[u8], lent: &mut [u8], code: &[u8]) -> bool {
-    match compiler::compile_into(table, lent) {
-        model::Compiled::Code(length) => length == code.len() && check::same(code, lent),
-        model::Compiled::Refused(_, _) => false,
-    }
+    compiler::compile_into(table, lent) == Ok(code.len()) && code == lent
 }
 
 // With a byte less room than the code needs the answer is 11 and the code's length.
@@ -76,7 +70,11 @@ fn check_short(out: Stdout, table: &[u8], length: usize, buffer: &mut [u8]) {
     if room > buffer.len() {
         return;
     }
-    if !is_refused(table, &mut buffer[0..room], 11, length) {
+    let short = Refusal {
+        reason: Reason::Short,
+        returned: length,
+    };
+    if !is_refused(table, &mut buffer[..room], short) {
         wrong(out, b"short room");
     }
 }
@@ -87,7 +85,7 @@ fn check_room(out: Stdout, table: &[u8], code: &[u8], buffer: &mut [u8]) {
     if length > buffer.len() {
         return;
     }
-    if !is_compiled(table, &mut buffer[0..length], code) {
+    if !is_compiled(table, &mut buffer[..length], code) {
         wrong(out, b"room");
     }
 }
@@ -99,21 +97,21 @@ fn answer_code(out: Stdout, table: &[u8], buffer: &[u8], length: usize) {
         return;
     }
     let mut other = [BLANK; model::limits::CODE];
-    print_code(out, &buffer[0..length]);
+    print_code(out, &buffer[..length]);
     if !is_blank(&buffer[length..]) {
         wrong(out, b"rest");
     }
     check_short(out, table, length, &mut other);
-    check_room(out, table, &buffer[0..length], &mut other);
+    check_room(out, table, &buffer[..length], &mut other);
 }
 
 // Writes why an accepted table is not compiled. The buffer is as it was lent, and the refusal comes before the test of the room.
-fn answer_uncompiled(out: Stdout, table: &[u8], buffer: &[u8], number: u32, place: usize) {
-    print_refusal(out, number, place);
+fn answer_uncompiled(out: Stdout, table: &[u8], buffer: &[u8], refusal: Refusal) {
+    print_refusal(out, refusal);
     if !is_blank(buffer) {
         wrong(out, b"rest");
     }
-    if !is_refused(table, &mut [], number, place) {
+    if !is_refused(table, &mut [], refusal) {
         wrong(out, b"refusal without room");
     }
 }
@@ -122,18 +120,16 @@ fn answer_uncompiled(out: Stdout, table: &[u8], buffer: &[u8], number: u32, plac
 fn answer_accepted(out: Stdout, table: &[u8]) {
     let mut buffer = [BLANK; model::limits::CODE];
     match compiler::compile_into(table, &mut buffer) {
-        model::Compiled::Code(length) => answer_code(out, table, &buffer, length),
-        model::Compiled::Refused(number, place) => answer_uncompiled(
-            out, table, &buffer, number, place,
-        ),
+        Ok(length) => answer_code(out, table, &buffer, length),
+        Err(refusal) => answer_uncompiled(out, table, &buffer, refusal),
     }
 }
 
 // Writes the reader's refusal, which is the compiler's too.
-fn answer_refused(out: Stdout, table: &[u8], number: u32, place: usize) {
+fn answer_refused(out: Stdout, table: &[u8], refusal: Refusal) {
     let mut buffer = [BLANK; model::limits::CODE];
-    print_refusal(out, number, place);
-    if !is_refused(table, &mut buffer, number, place) {
+    print_refusal(out, refusal);
+    if !is_refused(table, &mut buffer, refusal) {
         wrong(out, b"refusal");
     }
 }
@@ -141,11 +137,11 @@ fn answer_refused(out: Stdout, table: &[u8], number: u32, place: usize) {
 // Writes the answers to a table.
 fn answer(out: Stdout, table: &[u8]) {
     match table::read(table) {
-        model::Reading::Accepted(facts) => {
+        Ok(facts) => {
             print_facts(out, facts);
             answer_accepted(out, table);
         }
-        model::Reading::Refused(number, place) => answer_refused(out, table, number, place),
+        Err(refusal) => answer_refused(out, table, refusal),
     }
 }
 
@@ -154,7 +150,7 @@ fn answer_line(out: Stdout, line: lines::Line, numbers: &[u64]) {
     let mut table = [0; lines::NUMBERS];
     let end = lines::to_bytes(numbers, &mut table);
     if !line.remark {
-        answer(out, &table[0..end]);
+        answer(out, &table[..end]);
     }
 }
 

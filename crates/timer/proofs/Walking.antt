@@ -5,9 +5,11 @@ use mathlib.Core.Path.{◌≡◌, refl, sym, ap, ◌∙◌, subst}
 use mathlib.Core.Logic.{◌⊎◌, inl, inr, ⊎_elim}
 use mathlib.Core.Bool.{Bool, true, false, cond, ◌||◌}
 use mathlib.Core.List.{List, [], ◌∷◌}
-use lib.ListN.{get_or}
+use lib.ListN.{length, get_or}
 use lib.Dec.{ltb, eqb}
-use borrow.Author.Tests.{eq-eqb, eqb-true}
+use borrow.Author.Tests.{eq-eqb, eqb-true, ltb-true}
+use Rattle.std.specs.Prelude.{◌++◌, Some, None, Ok, Err}
+use Rattle.std.proofs.Math.ListN.{get_or-append}
 use Rattle.model.specs.Word.{after, not_process}
 use Rattle.model.specs.Machine.{◌>>=◌, World, Act, Result, done, faults, next, return, memory_size}
 use Rattle.model.specs.Machine.{peek, time_link_word, time_word, space_of, name_of}
@@ -18,98 +20,87 @@ use Rattle.model.specs.declared.FaultKind.{FaultKind}
 use Rattle.model.specs.declared.FaultKind.TheVariants.{Word}
 use Rattle.model.proofs.Cases.{by_bool, never}
 use Rattle.processor.specs.Quiet.{timing}
-use Rattle.processor.specs.Seen.{Rest, world, found, Finds, looked}
-use Rattle.processor.specs.declared.memory.Peeked.{Peeked}
-use Rattle.processor.specs.declared.memory.Peeked.TheVariants.{Value, Fault as Refused}
+use Rattle.processor.specs.Seen.{Peeked, Rest, world, found, Finds, looked}
 use Rattle.processor.proofs.Looks.{finds-looked}
 use Rattle.timer.specs.declared.walk.Until.{Until}
 use Rattle.timer.specs.declared.walk.Until.TheVariants.{Later, Is}
-use Rattle.timer.specs.declared.walk.Tested.{Tested}
-use Rattle.timer.specs.declared.walk.Tested.TheVariants.{Yes, No, Fault as Untested}
-use Rattle.timer.specs.declared.walk.Passed.{Passed}
-use Rattle.timer.specs.declared.walk.Passed.TheVariants.{Stops, On, Fault as NotPassed}
 use Rattle.timer.specs.declared.walk.Place.{Place}
-use Rattle.timer.specs.declared.walk.Walked.{Walked}
-use Rattle.timer.specs.declared.walk.Walked.TheVariants.{At, Fault as NotWalked}
-use Rattle.timer.specs.Walks.{stops_of, stops_in, testing, later_than, passing, on_to, pass_in, from_front, behind, walk_in, before_of}
+use Rattle.timer.specs.Walks.{stops_of, Tested, Passed, Walked, stops_in, later_than, passing, on_to, pass_in, from_front, behind}
+use Rattle.timer.specs.Walks.{walk_in, before_of}
 
-by-passed : {R : Type 0} (p : Passed) → (p ≡ Stops → R) → ((q : ℕ) → p ≡ On q → R) → ((k : FaultKind) → p ≡ NotPassed k → R) → R
-by-passed Stops s o n = s refl
-by-passed (On q) s o n = o q refl
-by-passed (NotPassed k) s o n = n k refl
+by-passed : {R : Type 0} (p : Passed) → (p ≡ Ok None → R) → ((q : ℕ) → p ≡ Ok (Some q) → R) → ((k : FaultKind) → p ≡ Err k → R) → R
+by-passed (Ok None) s o n = s refl
+by-passed (Ok (Some q)) s o n = o q refl
+by-passed (Err k) s o n = n k refl
 
 -- what was found at a word is what is in the memory
-pub saw : (size : ℕ) (l : List ℕ) {a b : ℕ} {p q : Peeked} → Finds size (peek a) l p → a ≡ b → p ≡ q → looked size b l ≡ q
-saw size l {a} {p = p} h e f = rw (← e, ← f) (sym (finds-looked size a l p h))
+pub saw : (l : List ℕ) {a b : ℕ} {p q : Peeked} → Finds (peek a) l p → a ≡ b → p ≡ q → looked b l ≡ q
+saw l {a} {p = p} h e f = rw (← e, ← f) (sym (finds-looked a l p h))
 
-module _ (u : Setup) (x : Rest) (r : Cpu) (l : List ℕ) where
+module _ (u : Setup) (x : Rest) (r : Cpu) (l : List ℕ) (h : memory_size u ≡ length l) where
   abbrev w : World
   w = world x u r l
 
   -- a look changes nothing
-  peeks : (a : ℕ) → peek a w ≡ found x u r (looked (memory_size u) a l) l
+  peeks : (a : ℕ) → peek a w ≡ found x u r (looked a l) l
   unfolding peek
-  peeks a = by (ltb a (memory_size u))
+  peeks a = rw h (by (ltb a (length l)) refl)
     where
-      by : (t : Bool) → cond t (done (get_or l a 0) w) (faults (Word a)) ≡ found x u r (cond t (Value (get_or l a 0)) (Refused (Word a))) l
-      by true = refl
-      by false = refl
+      by : (t : Bool) → ltb a (length l) ≡ t
+          → cond t (done (get_or (l ++ x.behind) a 0) w) (faults (Word a)) ≡ found x u r (cond t (Ok (get_or l a 0)) (Err (Word a))) l
+      by true e = rw (get_or-append l x.behind 0 a (ltb-true _ _ e))
+      by false e = refl
 
   -- an answer, as the model's result
   abbrev answered : Tested → Result Bool
-  answered Yes = done true w
-  answered No = done false w
-  answered (Untested k) = faults k
-
-  yes-no : (b : Bool) → done b w ≡ answered (testing b)
-  yes-no true = refl
-  yes-no false = refl
+  answered (Ok b) = done b w
+  answered (Err k) = faults k
 
   -- the model's test of a process
-  stops_so : (e : Until) (p : ℕ) → stops_of e p w ≡ answered (stops_in (memory_size u) l e p)
+  stops_so : (e : Until) (p : ℕ) → stops_of e p w ≡ answered (stops_in l e p)
   unfolding stops_in space_of name_of
   stops_so (Later t) p =
-      ap (λ (q : Result ℕ). next q (λ v s. done (after v t) s)) (peeks (time_word p)) ∙ by (looked (memory_size u) (time_word p) l)
+      ap (λ (q : Result ℕ). next q (λ v s. done (after v t) s)) (peeks (time_word p)) ∙ by (looked (time_word p) l)
     where
       by : (v : Peeked) → next (found x u r v l) (λ v s. done (after v t) s) ≡ answered (later_than t v)
-      by (Value v) = yes-no (after v t)
-      by (Refused k) = refl
-  stops_so (Is v) p = yes-no (eqb p v)
+      by (Ok v) = refl
+      by (Err k) = refl
+  stops_so (Is v) p = refl
 
   -- what comes of a process that a walk is at
   abbrev on_pass : {A : Type 0} → Passed → Result A → (ℕ → Result A) → Result A
-  on_pass Stops d more = d
-  on_pass (On q) d more = more q
-  on_pass (NotPassed k) d more = faults k
+  on_pass (Ok None) d more = d
+  on_pass (Ok (Some q)) d more = more q
+  on_pass (Err k) d more = faults k
 
   step_so : {A : Type 0} (e : Until) (p : ℕ) (a : A) (more : ℕ → Act A)
       → (do b ← stops_of e p; cond b (return a) (do q ← peek (time_link_word (space_of p)); more q)) w
-      ≡ on_pass (pass_in (memory_size u) l e p) (done a w) (λ q. more q w)
+      ≡ on_pass (pass_in l e p) (done a w) (λ q. more q w)
   unfolding pass_in space_of
   step_so {A} e p a more =
       ap (λ (b : Result Bool). next b (λ b. cond b (return a) (do q ← peek (time_link_word p); more q))) (stops_so e p)
-      ∙ by (stops_in (memory_size u) l e p)
+      ∙ by (stops_in l e p)
     where
       linked : (v : Peeked) → next (found x u r v l) more ≡ on_pass (on_to v) (done a w) (λ q. more q w)
-      linked (Value q) = refl
-      linked (Refused k) = refl
+      linked (Ok q) = refl
+      linked (Err k) = refl
 
       by : (t : Tested) → next (answered t) (λ b. cond b (return a) (do q ← peek (time_link_word p); more q))
-          ≡ on_pass (passing t (looked (memory_size u) (time_link_word p) l)) (done a w) (λ q. more q w)
-      by Yes = refl
-      by No = ap (λ (q : Result ℕ). next q more) (peeks (time_link_word p)) ∙ linked (looked (memory_size u) (time_link_word p) l)
-      by (Untested k) = refl
+          ≡ on_pass (passing t (looked (time_link_word p) l)) (done a w) (λ q. more q w)
+      by (Ok true) = refl
+      by (Ok false) = ap (λ (q : Result ℕ). next q more) (peeks (time_link_word p)) ∙ linked (looked (time_link_word p) l)
+      by (Err k) = refl
 
   -- where a walk stopped, as the model's result
   abbrev pub placed : Walked → Result Stop
-  placed (At here) = done (record { before = before_of here; at = here.at }) w
-  placed (NotWalked k) = faults k
+  placed (Ok here) = done (record { before = before_of here; at = here.at }) w
+  placed (Err k) = faults k
 
   module _ (e : Until) (f : ℕ) where
     -- a walk that is at p passes it and comes to q
     record Passes (p q : ℕ) : Type 0 where
       process : eqb p not_process ≡ false
-      on : pass_in (memory_size u) l e p ≡ On q
+      on : pass_in l e p ≡ Ok (Some q)
 
     -- from each of these a walk comes to one of these
     abbrev Closed : List ℕ → Type 0
@@ -117,7 +108,7 @@ module _ (u : Setup) (x : Rest) (r : Cpu) (l : List ℕ) where
 
     -- so it does not stop
     cycles : (n : ℕ) (seen : List ℕ) (here : Place) → Closed seen → was_at here.at seen ≡ true
-        → walk_in n (memory_size u) l e f here ≡ NotWalked (Word f)
+        → walk_in n l e f here ≡ Err (Word f)
     unfolding walk_in
     cycles zero seen here h m = refl
     cycles (suc n) seen here h m =
@@ -146,7 +137,7 @@ module _ (u : Setup) (x : Rest) (r : Cpu) (l : List ℕ) where
         or-there false b i = i
 
     walks-so : (n : ℕ) (seen : List ℕ) (here : Place) → Came seen here.at
-        → along n (stops_of e) f seen (before_of here) here.at w ≡ placed (walk_in n (memory_size u) l e f here)
+        → along n (stops_of e) f seen (before_of here) here.at w ≡ placed (walk_in n l e f here)
     unfolding along walk_in space_of
     walks-so zero seen here h = refl
     walks-so (suc n) seen here h =
@@ -158,7 +149,7 @@ module _ (u : Setup) (x : Rest) (r : Cpu) (l : List ℕ) where
         let (z, on, i) = closed p back in
         rw (inner, back, on.on) (sym (ap placed (cycles n seen (behind p z) closed i))))
         (λ new.
-        by-passed (pass_in (memory_size u) l e p)
+        by-passed (pass_in l e p)
         (λ s. rw (inner, new) (step_so e p _ _ ∙ rw s))
         (λ q s.
         rw (inner, new)
@@ -166,11 +157,11 @@ module _ (u : Setup) (x : Rest) (r : Cpu) (l : List ℕ) where
         (λ k s. rw (inner, new) (step_so e p _ _ ∙ rw s))))
 
 -- the model's walk
-pub walk-so : (u : Setup) (x : Rest) (r : Cpu) (l : List ℕ) (k f : ℕ) (e : Until)
+pub walk-so : (u : Setup) (x : Rest) (r : Cpu) (l : List ℕ) (k f : ℕ) (e : Until) (h : memory_size u ≡ length l)
     → walk (stops_of e) (world (timing k f x) u r l)
-    ≡ placed u (timing k f x) r l (walk_in (suc (memory_size u)) (memory_size u) l e f (from_front f))
+    ≡ placed u (timing k f x) r l h (walk_in (suc (length l)) l e f (from_front f))
 unfolding walk was_at
-walk-so u x r l k f e = walks-so u (timing k f x) r l e f (suc (memory_size u)) [] (from_front f) none_yet_lem
+walk-so u x r l k f e h = rw h (walks-so u (timing k f x) r l h e f (suc (length l)) [] (from_front f) none_yet_lem)
   where
-    none_yet_lem : Came u (timing k f x) r l e f [] f
+    none_yet_lem : Came u (timing k f x) r l h e f [] f
     none_yet_lem q m = never (cc)

@@ -1,5 +1,6 @@
 -- Pieces of the clock's operations that are functions of their own, and what such a function promises.
-use Rattle.std.specs.Prelude.{ℕ, ◌≤◌, ◌≡◌, cond, List, eqb}
+use Rattle.processor.specs.Seen.{Step}
+use Rattle.std.specs.Prelude.{ℕ, ◌≤◌, ◌≡◌, cond, List, length, eqb, Ok, Err}
 use Rattle.model.specs.Word.{after, not_process}
 use Rattle.model.specs.Machine.{Act, ◌>>=◌, ◌>>◌, return, registers, memory_size, peek, poke, state_word, time_link_word, time_word}
 use Rattle.model.specs.Machine.{name_of}
@@ -10,35 +11,33 @@ use Rattle.model.specs.declared.Cpu.{Cpu}
 use Rattle.model.specs.declared.Setup.{Setup}
 use Rattle.processor.specs.Pieces.{landing, release_at}
 use Rattle.processor.specs.Quiet.{Times}
-use Rattle.processor.specs.declared.memory.Step.{Step}
-use Rattle.processor.specs.declared.memory.Step.TheVariants.{Done, Fault}
 use Rattle.alternative.specs.Guards.{choosing}
 use Rattle.timer.specs.declared.walk.Place.{Place}
 use Rattle.timer.specs.Walks.{before_of}
 
--- an action on the timer queue, in any machine with so many words, under any clock
-abbrev pub Leaves : (size : ℕ) → Act (Unit {0}) → Cpu → (front : ℕ) → (before : List ℕ) → Step → (front' : ℕ) → (after : List ℕ) → Type 0
-Leaves size act r f l s g m = (u : Setup) → memory_size u ≡ size → (clock : ℕ) → Times u act r clock f l s g m
+-- an action on the timer queue, in any machine with so many words as the memory, under any clock
+abbrev pub Leaves : Act (Unit {0}) → Cpu → (front : ℕ) → (before : List ℕ) → Step → (front' : ℕ) → (after : List ℕ) → Type 0
+Leaves act r f l s g m = (u : Setup) → memory_size u ≡ length l → (clock : ℕ) → Times u act r clock f l s g m
 
 -- an instruction of a process that keeps the processor and goes on behind it
-abbrev pub Remains : (size : ℕ) → Act (Unit {0}) → Cpu → (front : ℕ) → (before : List ℕ) → Step → (front' : ℕ) → (after : List ℕ) → Type 0
-Remains size act r f l s g m =
-    (u : Setup) → memory_size u ≡ size → r.place ≤ u.code → (clock : ℕ) → Times u (landing act) r clock f l s g m
+abbrev pub Remains : Act (Unit {0}) → Cpu → (front : ℕ) → (before : List ℕ) → Step → (front' : ℕ) → (after : List ℕ) → Type 0
+Remains act r f l s g m =
+    (u : Setup) → memory_size u ≡ length l → r.place ≤ u.code → (clock : ℕ) → Times u (landing act) r clock f l s g m
 
--- an action in any machine with so many words and code of that length
-abbrev pub Sleeps : (size code : ℕ) → Act (Unit {0}) → Cpu → (front : ℕ) → (before : List ℕ) → Step → (front' : ℕ) → (after : List ℕ)
+-- an action in any machine with so many words as the memory and code of that length
+abbrev pub Sleeps : (code : ℕ) → Act (Unit {0}) → Cpu → (front : ℕ) → (before : List ℕ) → Step → (front' : ℕ) → (after : List ℕ)
     → Type 0
-Sleeps size code act r f l s g m = (u : Setup) → memory_size u ≡ size → u.code ≡ code → (clock : ℕ) → Times u act r clock f l s g m
+Sleeps code act r f l s g m = (u : Setup) → memory_size u ≡ length l → u.code ≡ code → (clock : ℕ) → Times u act r clock f l s g m
 
 -- and under this clock
-abbrev pub Waits : (size code : ℕ) → Act (Unit {0}) → Cpu → (clock front : ℕ) → (before : List ℕ) → Step → (front' : ℕ)
+abbrev pub Waits : (code : ℕ) → Act (Unit {0}) → Cpu → (clock front : ℕ) → (before : List ℕ) → Step → (front' : ℕ)
     → (after : List ℕ) → Type 0
-Waits size code act r c f l s g m = (u : Setup) → memory_size u ≡ size → u.code ≡ code → Times u act r c f l s g m
+Waits code act r c f l s g m = (u : Setup) → memory_size u ≡ length l → u.code ≡ code → Times u act r c f l s g m
 
 -- the registers are as they were
 abbrev pub SameCpu : Step → Cpu → Type 0
-SameCpu (Done q) r = q ≡ r
-SameCpu (Fault k) r = Unit {0}
+SameCpu (Ok q) r = q ≡ r
+SameCpu (Err k) r = Unit {0}
 
 -- the process comes to a place in the timer queue
 abbrev pub link_at : Place → Act (Unit {0})

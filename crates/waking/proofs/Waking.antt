@@ -4,8 +4,10 @@ use mathlib.Core.Path.{◌≡◌, refl, sym, ap, fun_ext, ◌∙◌}
 use mathlib.Core.Bool.{cond}
 use mathlib.Core.List.{List}
 use borrow.Author.Tests.{ltb-true}
-use lib.ListN.{get_or, set}
+use lib.ListN.{length, get_or, set}
 use lib.Dec.{ltb, eqb}
+use Rattle.std.specs.Prelude.{Ok, Err}
+use Rattle.std.proofs.Math.ListN.{get_or-append}
 use Rattle.model.specs.Machine.{◌>>◌, ◌>>=◌, World, Act, next, return, registers, peek, poke, space_of, state_word, time_link_word}
 use Rattle.model.specs.Machine.{time_word}
 use Rattle.model.specs.Alternative.{waiting}
@@ -15,23 +17,17 @@ use Rattle.model.specs.declared.Setup.{Setup}
 use Rattle.model.specs.declared.FaultKind.{FaultKind}
 use Rattle.model.specs.declared.FaultKind.TheVariants.{Word}
 use Rattle.model.proofs.Cases.{by_bool, never}
-use Rattle.processor.specs.Seen.{Rest, world, told, looked, written}
-use Rattle.processor.specs.declared.memory.Step.{Step}
-use Rattle.processor.specs.declared.memory.Step.TheVariants.{Done as Stepped, Fault as Stopped}
-use Rattle.processor.specs.declared.memory.Peeked.{Peeked}
-use Rattle.processor.specs.declared.memory.Peeked.TheVariants.{Value, Fault as Refused}
-use Rattle.processor.proofs.Laws.{value-inside, fault-outside, next-next}
-use Rattle.waking.specs.Wakes.{Beyond, Runs, Roughly, ready_join, wake_state, wake_rest, named, StillRuns, WakesOne}
+use Rattle.processor.specs.Seen.{Step, Peeked, Rest, world, told, looked, written}
+use Rattle.processor.proofs.Laws.{set-whole, value-inside, fault-outside, next-next}
+use Rattle.waking.specs.Wakes.{Woken, Runs, Roughly, ready_join, wake_state, wake_rest, named, StillRuns, WakesOne}
 use Rattle.waking.specs.declared.wake.Awake.{Awake}
-use Rattle.waking.specs.declared.wake.Woken.{Woken}
-use Rattle.waking.specs.declared.wake.Woken.TheVariants.{Done, Fault}
 use Rattle.processor.proofs.Looks.{any_rest, any_setup, any_size}
-use Rattle.waking.proofs.Roughly.{written-beyond, beyond-on, beyond-same}
+use Rattle.waking.proofs.Roughly.{written-long}
 
 -- the registers after waking one, whose link was n
 abbrev pub woken_to : (n : ℕ) → Step → Woken
-woken_to n (Stepped r) = Done (record { cpu = r; front = n })
-woken_to n (Stopped k) = Fault k
+woken_to n (Ok r) = Ok (record { cpu = r; front = n })
+woken_to n (Err k) = Err k
 
 -- waking one, once its link is written, as the model has it
 rest_one : (c p n : ℕ) → Act ℕ
@@ -57,44 +53,46 @@ rest_one-is c p n s =
 
 -- registers and memory, and the link as the front
 wokes : (n : ℕ) (x : Rest) (u : Setup) (s : Step) (m : List ℕ) → next (told x u s m) (λ t. return n) ≡ named x u (woken_to n s) m
-wokes n x u (Stepped r) m = refl
-wokes n x u (Stopped k) m = refl
+wokes n x u (Ok r) m = refl
+wokes n x u (Err k) m = refl
 
-still : (n : ℕ) (r : Cpu) (s : Step) → Runs r s → StillRuns r (woken_to n s)
-still n r (Stepped q) e = e
-still n r (Stopped k) e = tt
+still-runs : (n : ℕ) (r : Cpu) (s : Step) → Runs r s → StillRuns r (woken_to n s)
+still-runs n r (Ok q) e = e
+still-runs n r (Err k) e = tt
 
-module _ {size : ℕ} (c p : ℕ) {r : Cpu} {l m : List ℕ} {q : Peeked}
-    (e : (q ≡ looked size (time_link_word p) l) × (m ≡ written q (time_link_word p) time_set l)) where
+module _ (c p : ℕ) {r : Cpu} {l m : List ℕ} {q : Peeked}
+    (e : (q ≡ looked (time_link_word p) l) × (m ≡ written q (time_link_word p) time_set l)) where
   -- the link is inside
   pub one-woken :
-      {n : ℕ} {o : List ℕ} (s : Step) → q ≡ Value n → Roughly size (wake_rest c p) r m s o → WakesOne size c p r l (woken_to n s) o
+      {n : ℕ} {o : List ℕ} (s : Step) → q ≡ Ok n → Roughly (wake_rest c p) r m s o → WakesOne c p r l (woken_to n s) o
   unfolding peek poke
   one-woken {n} {o} s g d =
       let a = time_link_word p in
-      let b = value-inside (ltb a size) (get_or l a 0) n (Word a) (sym e.0 ∙ g) in
+      let b = value-inside (ltb a (length l)) (get_or l a 0) n (Word a) (sym e.0 ∙ g) in
       let k : m ≡ set l a time_set = rw g at e.1 in
-      let i : Beyond size l m = rw k (written-beyond size l a time_set (ltb-true a size b.0)) in
-      let any = d (any_setup size) (any_size size) in
+      let i = ltb-true a (length l) b.0 in
+      let w = sym (written-long l a time_set k) in
+      let any = d (any_setup (length l)) (any_size (length l) ∙ w) in
       record {
         said = λ u h x.
-            rw (wake_one-is, h, b.0, h, b.0, b.1, ← k, rest_one-is c p n (world x u r m), (d u h).said x) (wokes n x u s o);
-        beyond = beyond-on i any.beyond;
-        runs = still n r s any.runs;
+            rw (wake_one-is, h, b.0, h, b.0, get_or-append l x.behind 0 a i, b.1, set-whole l x.behind a time_set b.0)
+            (rw (← k, rest_one-is c p n (world x u r m), (d u (h ∙ w)).said x) (wokes n x u s o));
+        long = any.long ∙ written-long l a time_set k;
+        runs = still-runs n r s any.runs;
       }
 
   -- or outside
-  pub one-refused : {k : FaultKind} → q ≡ Refused k → WakesOne size c p r l (Fault k) m
+  pub one-refused : {k : FaultKind} → q ≡ Err k → WakesOne c p r l (Err k) m
   unfolding peek
   one-refused {k} g =
       let a = time_link_word p in
-      let b = fault-outside (ltb a size) (get_or l a 0) (Word a) k (sym e.0 ∙ g) in
-      record { said = λ u h x. rw (wake_one-is, h, b.0, b.1); beyond = beyond-same (rw g at e.1); runs = tt }
+      let b = fault-outside (ltb a (length l)) (get_or l a 0) (Word a) k (sym e.0 ∙ g) in
+      record { said = λ u h x. rw (wake_one-is, h, b.0, b.1); long = ap length (rw g at e.1); runs = tt }
 
 -- a process that was woken has its link inside
-pub one_inside : {size c p : ℕ} {r : Cpu} {l m : List ℕ} {a : Awake} → WakesOne size c p r l (Done a) m → time_link_word p < size
+pub one_inside : {c p : ℕ} {r : Cpu} {l m : List ℕ} {a : Awake} → WakesOne c p r l (Ok a) m → time_link_word p < length l
 unfolding peek
-one_inside {size} {c} {p} {r} {l} {m} {a} d =
-    let e = d.said (any_setup size) (any_size size) any_rest in
-    by_bool (ltb (time_link_word p) size) (λ t. ltb-true _ _ t)
-    (λ t. never (cc (rw (wake_one-is, any_size size, t) at e)))
+one_inside {c} {p} {r} {l} {m} {a} d =
+    let e = d.said (any_setup (length l)) (any_size (length l)) any_rest in
+    by_bool (ltb (time_link_word p) (length l)) (λ t. ltb-true _ _ t)
+    (λ t. never (cc (rw (wake_one-is, any_size (length l), t) at e)))

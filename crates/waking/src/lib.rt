@@ -6,4 +6,4 @@ mod opening;
 mod wake;
 
 pub use opening::begin;
-pub use wake::{Awake, Woken};
+pub use wake::Awake;

@@ -9,40 +9,33 @@ ghost use Rattle.model.specs.Execute.{above as above_of};
 pub fn plus(a: u32, b: u32) -> u32
     ensures { result ≡ low (a + b) }
 {
-    std::num::wrapping_add_u32(a, b)
+    a.wrapping_add(b)
 }
 
 // The word a - b.
 pub fn less(a: u32, b: u32) -> u32
     ensures { result ≡ less_of a b }
 {
-    std::num::wrapping_sub_u32(a, b)
+    a.wrapping_sub(b)
 }
 
 // The low 32 bits of a product.
 pub fn product(a: u32, b: u32) -> u32
     ensures { result ≡ low (a * b) }
 {
-    ((a as u64) * (b as u64) % 4294967296) as u32
+    a.wrapping_mul(b)
 }
 
 // 1 where the word b is above a, both signed; else 0.
 pub fn above(b: u32, a: u32) -> u32
     ensures { result ≡ truth (above_of b a) }
 {
-    if plus(a, 2147483648) < plus(b, 2147483648) {
-        return 1;
-    }
-    0
+    u32::from(a.cast_signed() < b.cast_signed())
 }
 
 // The time x is after y: x less y, read signed, is above 0 (document 02, order 4).
 pub fn after(x: u32, y: u32) -> bool
     ensures { result ≡ after_of x y }
 {
-    let d = less(x, y);
-    if d == 0 {
-        return false;
-    }
-    d < 2147483648
+    less(x, y).cast_signed() > 0
 }

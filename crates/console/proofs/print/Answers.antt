@@ -9,10 +9,6 @@ pub shape_of-memory-then-not-turn : goal.shape_of-memory-then-not-turn
 shape_of-memory-then-not-turn c =
     c.memory-1.given ∙ c.loop-out.invariant
 
-pub shape_of-memory-then-not-write : goal.shape_of-memory-then-not-write
-shape_of-memory-then-not-write c =
-    c.memory-1.given ∙ c.loop-out.invariant
-
 pub loop-out-preserved : goal.loop-out-preserved
 loop-out-preserved c =
     c.memory-1.given ∙ c.loop-out.invariant

@@ -1,5 +1,5 @@
 -- `instruction::fewest` meets its contract. The loop's invariant: the fewest are the fewest from here on, and the limit is that of so many
--- prefixes. The measure is how many may come. Assumes nothing.
+-- prefixes. Assumes nothing.
 use Prim.Native.Nat.{ℕ, zero, suc, ◌+◌, ◌-◌, ◌^◌, ◌≤◌, ◌<◌}
 use native.Mathlib.Omega.{arith}
 use native.Mathlib.Numerals.{add-one}
@@ -21,7 +21,7 @@ turn (suc f) k n h = let e : suc f - 1 ≡ f = omega arith in rw (e, add-one)
 
 pub loop-prefixes-init : goal.loop-prefixes-init
 unfolding fewest
-loop-prefixes-init c = (refl, refl, omega arith)
+loop-prefixes-init c = (refl, refl)
 
 pub returns-then-enough : goal.returns-then-enough
 returns-then-enough c =
@@ -43,9 +43,9 @@ loop-prefixes-preserved c =
     let fewer : 7 - c.loop-prefixes.prefixes - 1 ≡ 7 - (c.loop-prefixes.prefixes + 1) = omega arith in (
       c.loop-prefixes.invariant.0 ∙ turn _ _ _ more ∙ simp (sym c.enough.ensures ∙ c.if-enough.false, fewer),
       simp (c.loop-prefixes.invariant.1, add-one, pow-suc),
-      omega arith,
     )
 
 pub returns : goal.returns
 returns c =
-    record { said = sym (c.loop-prefixes.invariant.0 ∙ last (7 - c.loop-prefixes.prefixes) _ _ (omega arith)); bound = omega arith }
+    let left = last (7 - c.loop-prefixes.prefixes) _ _ (omega arith) in
+    record { said = sym (c.loop-prefixes.invariant.0 ∙ left ∙ omega arith); bound = omega arith }

@@ -1,13 +1,10 @@
 -- `instruction::fewest` meets its contract. The loop's invariant: the fewest are the fewest from here on, and the limit is that of so many
--- prefixes. The measure is how many may come. Assumes nothing.
-use Prim.Native.Nat.{suc, ◌-◌, ◌^◌, ◌≤◌}
+-- prefixes. Assumes nothing.
+use Prim.Native.Nat.{suc, ◌-◌, ◌^◌}
 use mathlib.Core.Path.{◌≡◌}
 use Rattle.model.specs.Prefix.{fewest_from, fewest}
 use Rattle.instruction.proofs.fewest.Given as goal
 
 abbrev pub invariant-loop-prefixes : goal.invariant-loop-prefixes
 invariant-loop-prefixes l =
-    (fewest l.n ≡ fewest_from (7 - l.prefixes) l.prefixes l.n) × (l.limit ≡ 16 ^ suc l.prefixes) × (l.prefixes ≤ 7)
-
-abbrev pub decreases-loop-prefixes : goal.decreases-loop-prefixes
-decreases-loop-prefixes l = 7 - l.prefixes
+    (fewest l.n ≡ fewest_from (7 - l.prefixes) l.prefixes l.n) × (l.limit ≡ 16 ^ suc l.prefixes)

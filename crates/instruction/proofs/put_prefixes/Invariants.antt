@@ -1,16 +1,11 @@
 -- `instruction::put_prefixes` meets its contract. The loop's invariant: what is to be stored from the start is what is left to be stored
--- here, and no more is left than there was. The measure is how many prefixes are left. Assumes nothing.
-use Prim.Native.Nat.{◌≤◌}
+-- here, and of some prefixes one is left. Assumes nothing.
+use Prim.Native.Nat.{◌<◌}
 use mathlib.Core.Path.{◌≡◌}
-use lib.ListN.{length}
 use lib.Seq.{sets}
 use Rattle.model.specs.Prefix.{prefixes}
 use Rattle.instruction.proofs.put_prefixes.Given as goal
 
 abbrev pub invariant-loop-left : goal.invariant-loop-left
 invariant-loop-left l =
-    (sets l.initial.out l.here (prefixes l.count l.n) ≡ sets l.out l.here (prefixes l.left l.rest)) × (l.left ≤ l.count)
-    × (length l.out ≡ length l.initial.out)
-
-abbrev pub decreases-loop-left : goal.decreases-loop-left
-decreases-loop-left l = l.left
+    (sets l.initial.out l.here (prefixes l.count l.n) ≡ sets l.out l.here (prefixes l.left l.rest)) × (0 < l.count → 0 < l.left)

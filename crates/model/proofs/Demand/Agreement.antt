@@ -18,7 +18,7 @@ use Rattle.model.specs.Word.{after}
 use Rattle.model.specs.Demand.{live_in, Live, Agrees}
 use Rattle.model.specs.History.{Moment}
 use Rattle.model.specs.declared.Setup.{Setup}
-use Rattle.model.specs.declared.Kept.TheVariants.{Nothing}
+use Rattle.std.specs.Prelude.{None}
 use Rattle.model.proofs.Cases.{never, and_left, and_right}
 use Rattle.model.proofs.Quiet.Ways.{Mem}
 use Rattle.model.proofs.Quiet.Setting.{Setting}
@@ -120,7 +120,7 @@ module _ (L : Loaded) where
   inv-variables (starts B real run at rest lined now) = found_word real rest
   inv-variables (idle real run operand rest) = found_word real rest
 
-  pub inv-no-fault : {s : World} {st : State} {n : ℕ} → Inv L s st n → s.machine.fault ≡ Nothing
+  pub inv-no-fault : {s : World} {st : State} {n : ℕ} → Inv L s st n → s.machine.fault ≡ None
   inv-no-fault (runs real run at rest lined now) = real.no-fault
   inv-no-fault (starts B real run at rest lined now) = real.no-fault
   inv-no-fault (idle real run operand rest) = real.no-fault

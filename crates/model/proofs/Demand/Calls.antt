@@ -22,9 +22,9 @@ use Rattle.model.specs.History.{Call, call_run, call_offer, call_take, Moment, q
 use Rattle.model.specs.History.{take_event}
 use Rattle.model.specs.declared.Machine.{Machine}
 use Rattle.model.specs.declared.Setup.{Setup}
-use Rattle.model.specs.declared.Kept.TheVariants.{Nothing as NoFault}
-use Rattle.model.specs.declared.OfferAnswer.TheVariants.{Offered, Short as OfferShort, NoChannel as OfferNoChannel, Held}
-use Rattle.model.specs.declared.TakeAnswer.TheVariants.{Taken, Nothing, Short as TakeShort, NoChannel as TakeNoChannel}
+use Rattle.std.specs.Prelude.{Err, None, Ok, Some}
+use Rattle.model.specs.declared.OfferRefusal.TheVariants.{Short as OfferShort, NoChannel as OfferNoChannel, Held}
+use Rattle.model.specs.declared.TakeRefusal.TheVariants.{Short as TakeShort, NoChannel as TakeNoChannel}
 use Rattle.model.proofs.Cases.{by_bool, by-true, never, or_left, or_right, and_left}
 use Rattle.model.proofs.Occam.Live.{most}
 use Rattle.model.proofs.Invariant.Kernel.{Loaded, setup, size}
@@ -110,7 +110,7 @@ module _ (L : Loaded) where
 
   module _ {xs : List Watch} {m : Machine} {memory : List ℕ} {st : State} {n : ℕ} (inv : Inv (on L xs) (world_of m memory) st n)
       (few : most st.process ≤ limit) (fresh : st.clock ≡ none → xs ≡ []) where
-    ok : m.fault ≡ NoFault
+    ok : m.fault ≡ None
     ok = inv-no-fault (on L xs) inv
 
     set : m.setup ≡ setup L
@@ -155,11 +155,11 @@ module _ (L : Loaded) where
     -- an offer
     module _ (part rest : List ℕ) (e : part ++ rest ≡ memory) where
       -- without a fault and over enough words
-      offer-open : (k v : ℕ) → short_memory m part ≡ false → offer m part k v ≡ offer_unless NoFault m part k v
+      offer-open : (k v : ℕ) → short_memory m part ≡ false → offer m part k v ≡ offer_unless None m part k v
       unfolding offer
       offer-open k v b = let e : offer m part k v ≡ offer_unless m.fault m part k v = rw b in e ∙ ap (λ f. offer_unless f m part k v) ok
 
-      take_open : (k : ℕ) → short_memory m part ≡ false → take m part k ≡ take_unless NoFault m part k
+      take_open : (k : ℕ) → short_memory m part ≡ false → take m part k ≡ take_unless None m part k
       unfolding take
       take_open k b = let e : take m part k ≡ take_unless m.fault m part k = rw b in e ∙ ap (λ f. take_unless f m part k) ok
 
@@ -182,21 +182,22 @@ module _ (L : Loaded) where
           already h =
               let (u, there) = offer-held (on L xs) part-inv k below h in
               let same : n ≤ n = omega arith in
-              told rest (world_of m part) (outside (offers k v Held) [] st ∷ []) Held (t-event (held there) t-none) refl refl part-inv same
+              told rest (world_of m part) (outside (offers k v (Err Held)) [] st ∷ []) (Err Held) (t-event (held there) t-none)
+              refl refl part-inv same
               (offer-open k v b ∙ rw (c, h))
 
           first : get_or m.held k false ≡ false → Heard xs (offer_event k v) rest st n (offer m part k v)
           first h = elim (offers-does (on L xs) part-inv k v below small h) [
             | answers u g d ms talk inv' le ↦
-                told rest u g Offered ms talk refl inv' le (offer-open k v b ∙ rw (c, h) (ap (λ r. offered r m part) d))
+                told rest u g (Ok tt) ms talk refl inv' le (offer-open k v b ∙ rw (c, h) (ap (λ r. offered r m part) d))
           ]
 
       call-offers : (k v : ℕ) → v < 2 ^ 32 → Heard xs (offer_event k v) rest st n (offer m part k v)
       unfolding offer
       call-offers k v small =
-          by_bool (short_memory m part) (λ b. refused {part = part} {rest = rest} (OfferShort (memory_size m.setup)) refl e (rw b))
+          by_bool (short_memory m part) (λ b. refused {part = part} {rest = rest} (Err (OfferShort (memory_size m.setup))) refl e (rw b))
           (λ b. by_bool (ltb k m.setup.inputs && ltb k 8) (λ c. offer-goes k v small b c)
-          (λ c. refused {part = part} {rest = rest} OfferNoChannel refl e (offer-open k v b ∙ rw c)))
+          (λ c. refused {part = part} {rest = rest} (Err OfferNoChannel) refl e (offer-open k v b ∙ rw c)))
 
       -- a take
       take-goes : (k : ℕ) → short_memory m part ≡ false → ltb k m.setup.outputs ≡ true → Heard xs (take_event k) rest st n (take m part k)
@@ -209,22 +210,23 @@ module _ (L : Loaded) where
           part-inv = lent-part part rest e b
 
           by : ((taking k (world_of m part) ≡ done none (world_of m part)) × (Sender st (output_of k) → ⊥))
-              ⊎ ((v : ℕ) × Answers (on L xs) (λ u. taking k (world_of m part) ≡ done (some v) u) (world_of m part) st (takes k (Taken v)) n)
+              ⊎ ((v : ℕ) × Answers (on L xs) (λ u. taking k (world_of m part) ≡ done (some v) u) (world_of m part) st
+              (takes k (Ok (Some v))) n)
               → Heard xs (take_event k) rest st n (take m part k)
           by (inl (d, nobody-there)) =
               let same : n ≤ n = omega arith in
-              told rest (world_of m part) (outside (takes k Nothing) [] st ∷ []) Nothing
+              told rest (world_of m part) (outside (takes k (Ok None)) [] st ∷ []) (Ok None)
               (t-event (nobody nobody-there) t-none) refl refl part-inv same
               (take_open k b ∙ rw c (ap (λ r. took r m part) d))
           by (inr (v, answers u g d ms talk inv' le)) =
-              told rest u g (Taken v) ms talk refl inv' le (take_open k b ∙ rw c (ap (λ r. took r m part) d))
+              told rest u g (Ok (Some v)) ms talk refl inv' le (take_open k b ∙ rw c (ap (λ r. took r m part) d))
 
       call-takes : (k : ℕ) → Heard xs (take_event k) rest st n (take m part k)
       unfolding take
       call-takes k =
-          by_bool (short_memory m part) (λ b. refused {part = part} {rest = rest} (TakeShort (memory_size m.setup)) refl e (rw b))
+          by_bool (short_memory m part) (λ b. refused {part = part} {rest = rest} (Err (TakeShort (memory_size m.setup))) refl e (rw b))
           (λ b. by_bool (ltb k m.setup.outputs) (λ c. take-goes k b c)
-          (λ c. refused {part = part} {rest = rest} TakeNoChannel refl e (take_open k b ∙ rw c)))
+          (λ c. refused {part = part} {rest = rest} (Err TakeNoChannel) refl e (take_open k b ∙ rw c)))
 
     -- a run's moments, the last one with what it leaves
     data RunEnd (rest : List ℕ) (dur : List Moment) (m' : Machine) (part : List ℕ) : Type 0 where

@@ -26,8 +26,8 @@ use Rattle.model.specs.History.{Call, quietly, history}
 use Rattle.model.specs.Demand.{keeps, Faithful, Demand3}
 use Rattle.model.specs.declared.Machine.{Machine}
 use Rattle.model.specs.declared.Setup.{Setup}
-use Rattle.model.specs.declared.StartAnswer.{StartAnswer}
-use Rattle.model.specs.declared.StartAnswer.TheVariants.{Started}
+use Rattle.model.specs.Answers.{StartAnswer}
+use Rattle.std.specs.Prelude.{Ok}
 use Rattle.model.proofs.Cases.{never, by_bool}
 use Rattle.model.proofs.Tables.Readers.{read-well}
 use Rattle.model.proofs.Tables.Accepts.{accept-reads, accept-passed, compile-accepts}
@@ -48,7 +48,7 @@ use Rattle.model.proofs.Demand.Starting.{first, begun, settled}
 data Begun (memory : List ℕ) (u : Setup) (s : After StartAnswer) : Type 0 where
   begun-with : memory_size u ≤ length memory → s.machine ≡ fresh u → s.memory ≡ cleared u memory → Begun memory u s
 
-start-begun : (code memory : List ℕ) (w i o q : ℕ) (s : After StartAnswer) → start code memory w i o q ≡ s → s.answer ≡ Started
+start-begun : (code memory : List ℕ) (w i o q : ℕ) (s : After StartAnswer) → start code memory w i o q ≡ s → s.answer ≡ Ok tt
     → Begun memory (record { code = length code; base = w; inputs = i; outputs = o; slice = q }) s
 unfolding start
 start-begun code memory w i o q s e a =
@@ -140,7 +140,7 @@ loaded-faithful L memory room = by (settled L₀ memory room)
 pub realised-faithful : (table : List ℕ) (p : Program) → accept table ≡ program p → memory_words p ≤ word_limit
     → (code : List ℕ) → length code ≤ code_limit
     → (off : ℕ → ℕ) → Realises code (scheme p) off → (slice : ℕ) (memory : List ℕ) (s : After StartAnswer)
-    → start code memory (base p) p.inputs p.outputs slice ≡ s → s.answer ≡ Started → Faithful p code s.machine s.memory
+    → start code memory (base p) p.inputs p.outputs slice ≡ s → s.answer ≡ Ok tt → Faithful p code s.machine s.memory
 realised-faithful table p accepted small code short off realises slice memory s e a =
     elim (start-begun code memory (base p) p.inputs p.outputs slice s e a) [
       | begun-with room em er ↦ rw (em, er) (loaded-faithful loaded memory room)

@@ -21,7 +21,7 @@ use Rattle.model.specs.Occam.{Frame, Process, in_par, Branches, frames_of, look,
 use Rattle.model.specs.Demand.{live_in}
 use Rattle.model.specs.declared.Setup.{Setup}
 use Rattle.model.specs.declared.Timer.{Timer}
-use Rattle.model.specs.declared.Kept.TheVariants.{Nothing}
+use Rattle.std.specs.Prelude.{None}
 use Rattle.model.proofs.Words.Times.{Near}
 use Rattle.model.proofs.Quiet.Ways.{Mem, front_word}
 use Rattle.model.proofs.Quiet.Setting.{Setting}
@@ -196,7 +196,7 @@ module _ (L : Loaded) where
   -- the machine shows it
   pub record Real (s : World) (st : State) (μ : Mem) (ws : List ℕ) : Type 0 where
     pub setup-kept : s.machine.setup ≡ setup
-    pub no-fault : s.machine.fault ≡ Nothing
+    pub no-fault : s.machine.fault ≡ None
     pub room : size ≤ length s.memory
     pub mirror : (v : ℕ) → v < size → get_or s.memory v 0 ≡ μ v
     pub queue : Queue s ws

@@ -10,7 +10,7 @@ use lib.ListN.{length, drop, take-append-drop}
 use lib.Dec.{ltb}
 use Rattle.model.specs.Word.{low}
 use Rattle.model.specs.Machine.{World, machine_with, done, faults}
-use Rattle.model.specs.Answers.{instructions_of}
+use Rattle.model.specs.Answers.{instructions_of, RunAnswer}
 use Rattle.model.specs.Run.{byte, ended, waits, beginning, earlier_clock, keep, Finish, run_from, short_memory, After, unchanged}
 use Rattle.model.specs.Run.{world_of, finished, run}
 use Rattle.model.specs.Occam.{ticks}
@@ -18,11 +18,10 @@ use Rattle.model.specs.History.{Note, notes, call_run, Moment, quietly, executed
 use Rattle.model.specs.Laws.{counted, after_bytes, talk_in, last_of, leaving, executed_in, Recorded, Records, Continues}
 use Rattle.model.specs.declared.Machine.{Machine}
 use Rattle.model.specs.declared.FaultKind.{FaultKind}
-use Rattle.model.specs.declared.Kept.TheVariants.{Nothing, Fault as KeptFault}
+use Rattle.std.specs.Prelude.{Err, None, Ok, Some}
+use Rattle.model.specs.declared.RunRefusal.TheVariants.{EarlierClock, Short as RunShort}
 use Rattle.model.specs.declared.Outcome.{Outcome}
 use Rattle.model.specs.declared.Outcome.TheVariants.{Ended, Waiting, Spent, Fault as RunFault}
-use Rattle.model.specs.declared.RunAnswer.{RunAnswer}
-use Rattle.model.specs.declared.RunAnswer.TheVariants.{Ran, EarlierClock, Short as RunShort}
 use Rattle.model.proofs.Cases.{by_bool, never, or_left, or_right}
 use Rattle.model.proofs.Laws.Regular.{behind}
 use Rattle.model.proofs.Laws.RunSteps.{run-waits, run_ends, run-spent}
@@ -76,7 +75,7 @@ counted-more (Waiting n) = omega arith
 counted-more (Spent n) = omega arith
 counted-more (RunFault n k) = omega arith
 
-leaving-counted : (n : ℕ) (o : Outcome) (m : Machine) → leaving (Ran (counted n o)) m ≡ leaving (Ran o) m
+leaving-counted : (n : ℕ) (o : Outcome) (m : Machine) → leaving (Ok (counted n o)) m ≡ leaving (Ok o) m
 leaving-counted n (Ended k) m = refl
 leaving-counted n (Waiting k) m = refl
 leaving-counted n (Spent k) m = refl
@@ -96,13 +95,13 @@ record Found (l : List Moment) (before : Moment) (rest : List ℕ) (f : Finish) 
   all-bytes : after_bytes l ≡ l
   as_many : length l ≡ instructions_of f.outcome
   same-talk : talk_in l ≡ f.world.talk
-  same-machine : leaving (Ran f.outcome) (last_of before l).machine ≡ f.world.machine
+  same-machine : leaving (Ok f.outcome) (last_of before l).machine ≡ f.world.machine
   same_memory : (last_of before l).memory ≡ f.world.memory ++ rest
 
 module _ (code rest : List ℕ) where
   -- a run without a byte
   found_none : {before : Moment} {o : Outcome} {t : World} → t.talk ≡ [] → before.memory ≡ t.memory ++ rest → instructions_of o ≡ 0
-      → leaving (Ran o) before.machine ≡ t.machine → Found [] before rest (record { outcome = o; world = t })
+      → leaving (Ok o) before.machine ≡ t.machine → Found [] before rest (record { outcome = o; world = t })
   found_none z er c e = record { all-bytes = refl; as_many = sym c; same-talk = sym z; same-machine = e; same_memory = er }
 
   -- a byte and the run after it
@@ -151,12 +150,12 @@ module _ (m : Machine) (code memory rest : List ℕ) (c : ℕ) where
   unfolding during
   during-refused z b = rw z
 
-  pub during-kept : {k : FaultKind} → m.fault ≡ KeptFault k → (b : ℕ) → during m code memory rest b c ≡ idle m memory rest
+  pub during-kept : {k : FaultKind} → m.fault ≡ Some k → (b : ℕ) → during m code memory rest b c ≡ idle m memory rest
   unfolding during
   during-kept f b =
       by_bool (earlier_clock m c || ltb (length code) m.setup.code || short_memory m memory) (λ z. rw z) (λ z. rw (z, f))
 
-  pub during-stays : {k : FaultKind} → (Refused m code memory c → ⊥) → m.fault ≡ Nothing → beginning c (world_of m memory) ≡ faults k
+  pub during-stays : {k : FaultKind} → (Refused m code memory c → ⊥) → m.fault ≡ None → beginning c (world_of m memory) ≡ faults k
       → (b : ℕ)
       → during m code memory rest b c ≡ idle m memory rest
   unfolding during
@@ -219,9 +218,9 @@ module _ (m : Machine) (memory rest full : List ℕ) (whole : full ≡ memory ++
       (λ k i z e. rw (e b, during-refused m code memory rest c z b) (recorded-none k m (idle-count k i) (idle-machine k i)))
       (λ k f e.
       let same : (keep k (world_of m [])).machine ≡ m = ap (λ z. machine_with m.cpu m.offers m.held z m) (sym f) in
-      rw (e b, during-kept m code memory rest c f b) (recorded-none (Ran (RunFault 0 k)) m refl same))
+      rw (e b, during-kept m code memory rest c f b) (recorded-none (Ok (RunFault 0 k)) m refl same))
       (λ k i n f e.
-      rw (e b, during-stays m code memory rest c i n f b) (recorded-none (Ran (RunFault 0 k)) (keep k (world_of m [])).machine refl refl))
+      rw (e b, during-stays m code memory rest c i n f b) (recorded-none (Ok (RunFault 0 k)) (keep k (world_of m [])).machine refl refl))
       (λ g.
       let t = g.begun in
       let silent : t.talk ≡ [] = beginning-silent c (world_of m memory) g.begins in
@@ -232,14 +231,14 @@ module _ (m : Machine) (memory rest full : List ℕ) (whole : full ≡ memory ++
       (found code rest b s (opening m code memory rest c s) refl refl refl)))
     where
       idle-count : (k : RunAnswer) → NoRun k → executed_in k ≡ 0
-      idle-count EarlierClock i = refl
-      idle-count (RunShort n) i = refl
-      idle-count (Ran o) i = absurd i
+      idle-count (Err EarlierClock) i = refl
+      idle-count (Err (RunShort n)) i = refl
+      idle-count (Ok o) i = absurd i
 
       idle-machine : (k : RunAnswer) → NoRun k → leaving k m ≡ m
-      idle-machine EarlierClock i = refl
-      idle-machine (RunShort n) i = refl
-      idle-machine (Ran o) i = absurd i
+      idle-machine (Err EarlierClock) i = refl
+      idle-machine (Err (RunShort n)) i = refl
+      idle-machine (Ok o) i = absurd i
 
 pub run-records : Records
 unfolding call

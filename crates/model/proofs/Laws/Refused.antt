@@ -16,12 +16,11 @@ use Rattle.model.specs.Run.{Finish, short_memory, world_of, kept_or_run, start, 
 use Rattle.model.specs.Outside.{offering, offer_unless, offer, taking, take_unless, take}
 use Rattle.model.specs.Refusals.{read_refusal, compile_refusal, start_refusal, kept_or, ran_into, came_to, run_refusal, offer_refusal}
 use Rattle.model.specs.Refusals.{take_refusal}
+use Rattle.model.specs.Answers.{KeptFault}
 use Rattle.model.specs.declared.Machine.{Machine}
-use Rattle.model.specs.declared.Kept.{Kept}
-use Rattle.model.specs.declared.Kept.TheVariants.{Nothing, Fault as KeptFault}
+use Rattle.std.specs.Prelude.{None, Ok, Some}
 use Rattle.model.specs.declared.Outcome.{Outcome}
 use Rattle.model.specs.declared.Outcome.TheVariants.{Ended, Waiting, Spent, Fault as RunFault}
-use Rattle.model.specs.declared.RunAnswer.TheVariants.{Ran}
 use Rattle.model.proofs.Cases.{by_bool, by-option}
 use Rattle.model.proofs.Laws.Runs.{by_result}
 
@@ -68,17 +67,17 @@ start-refuses code memory w i o q =
     (λ s. rw (a, s))
 
 -- how a run stood is refused as the fault that it ran into
-ran-into : (o : Outcome) → refused_run (Ran o) ≡ ran_into o
+ran-into : (o : Outcome) → refused_run (Ok o) ≡ ran_into o
 ran-into (Ended n) = refl
 ran-into (Waiting n) = refl
 ran-into (Spent n) = refl
 ran-into (RunFault n k) = refl
 
 run-kept :
-    (e : Kept) (m : Machine) (memory : List ℕ) (f : Finish)
+    (e : KeptFault) (m : Machine) (memory : List ℕ) (f : Finish)
     → refused_run (kept_or_run e m memory f).answer ≡ kept_or e (ran_into f.outcome)
-run-kept Nothing m memory f = ran-into f.outcome
-run-kept (KeptFault k) m memory f = refl
+run-kept None m memory f = ran-into f.outcome
+run-kept (Some k) m memory f = refl
 
 pub run-refuses :
     (m : Machine) (code memory : List ℕ) (budget c : ℕ)
@@ -91,33 +90,33 @@ run-refuses m code memory budget c =
 
 module _ (m : Machine) (memory : List ℕ) (k : ℕ) where
   offer-kept :
-      (e : Kept) (v : ℕ)
+      (e : KeptFault) (v : ℕ)
       → refused_offer (offer_unless e m memory k v).answer
       ≡ kept_or e (cond (leb m.setup.inputs k || leb 8 k) (refusal 13 [])
       (cond (get_or m.held k false) (refusal 14 []) (came_to (offering k v (world_of m memory)))))
-  offer-kept Nothing v =
+  offer-kept None v =
       let o = one-not (ltb k m.setup.inputs) (ltb k 8) (below k m.setup.inputs) (below k 8) in
       by_bool (ltb k m.setup.inputs && ltb k 8)
       (λ n. by_bool (get_or m.held k false) (λ h. rw (o, n, h))
       (λ h. by_result (offering k v (world_of m memory)) (λ a s g. rw (o, n, h, g)) (λ j g. rw (o, n, h, g))))
       (λ n. rw (o, n))
-  offer-kept (KeptFault j) v = refl
+  offer-kept (Some j) v = refl
 
   pub offer-refuses : (v : ℕ) → refused_offer (offer m memory k v).answer ≡ offer_refusal m memory k v
   unfolding offer offer_refusal
   offer-refuses v = by_bool (short_memory m memory) (λ t. rw t) (λ t. rw t (offer-kept m.fault v))
 
   take-kept :
-      (e : Kept)
+      (e : KeptFault)
       → refused_take (take_unless e m memory k).answer
       ≡ kept_or e (cond (leb m.setup.outputs k) (refusal 13 []) (came_to (taking k (world_of m memory))))
-  take-kept Nothing =
+  take-kept None =
       let o = below k m.setup.outputs in
       by_bool (ltb k m.setup.outputs)
       (λ n. by_result (taking k (world_of m memory))
       (λ v s g. by-option v (λ w. rw (o, n, g, w)) (λ a w. rw (o, n, g, w))) (λ j g. rw (o, n, g)))
       (λ n. rw (o, n))
-  take-kept (KeptFault j) = refl
+  take-kept (Some j) = refl
 
   pub take-refuses : refused_take (take m memory k).answer ≡ take_refusal m memory k
   unfolding take take_refusal

@@ -30,9 +30,9 @@ use Rattle.model.specs.declared.Cpu.{Cpu}
 use Rattle.model.specs.declared.Machine.{Machine}
 use Rattle.model.specs.declared.Outcome.{Outcome}
 use Rattle.model.specs.declared.Outcome.TheVariants.{Ended, Waiting, Spent, Fault as RunFault}
-use Rattle.model.specs.declared.StartAnswer.{StartAnswer}
-use Rattle.model.specs.declared.TakeAnswer.{TakeAnswer}
-use Rattle.model.specs.declared.TakeAnswer.TheVariants.{Taken, Nothing, Short as TakeShort, Fault as TakeFault, NoChannel}
+use Rattle.model.specs.Answers.{StartAnswer, TakeAnswer}
+use Rattle.std.specs.Prelude.{Err, None, Ok, Some}
+use Rattle.model.specs.declared.TakeRefusal.TheVariants.{Short as TakeShort, Fault as TakeFault, NoChannel}
 use Rattle.model.proofs.Cases.{by_bool, by-option, never}
 use Rattle.model.proofs.Laws.Keeping.{Left, Keeps, Brings, brings-keeps, bind, at_first, at_last, returning, picks, of-peek}
 use Rattle.model.proofs.Laws.Keeping.{of-test_place}
@@ -200,11 +200,11 @@ module _ (m : Machine) (memory : List ℕ) (k : ℕ) where
 
   -- a take that is refused
   refused-prints : (a : TakeAnswer) → NoValue a → Prints (unchanged a m memory)
-  refused-prints (Taken v) h = absurd h
-  refused-prints Nothing h = printed-none m m refl fixed-still
-  refused-prints (TakeShort n) h = printed-none m m refl fixed-still
-  refused-prints (TakeFault f) h = printed-none m m refl fixed-still
-  refused-prints NoChannel h = printed-none m m refl fixed-still
+  refused-prints (Ok (Some v)) h = absurd h
+  refused-prints (Ok None) h = printed-none m m refl fixed-still
+  refused-prints (Err (TakeShort n)) h = printed-none m m refl fixed-still
+  refused-prints (Err (TakeFault f)) h = printed-none m m refl fixed-still
+  refused-prints (Err NoChannel) h = printed-none m m refl fixed-still
 
   take-prints : Prints (take m memory k)
   take-prints = by-take m memory k Prints refused-prints took-prints

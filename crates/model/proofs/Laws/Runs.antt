@@ -9,6 +9,7 @@ use lib.ListN.{length, get_or, drop}
 use lib.Dec.{ltb, leb}
 use Rattle.model.specs.Word.{signed, after}
 use Rattle.model.specs.Limits.{code_limit, word_limit, channel_limit, slice_limit}
+use Rattle.model.specs.Answers.{KeptFault, RunAnswer, StartAnswer, OfferAnswer, TakeAnswer}
 use Rattle.model.specs.Machine.{Talk, World, Result, done, faults, memory_size}
 use Rattle.model.specs.Run.{byte, ended, waits, beginning, keep, Finish, run_from, short_memory, After, unchanged, world_of, finished}
 use Rattle.model.specs.Run.{kept_or_run, begun_run, earlier_clock, run, fresh, blank, cleared, start}
@@ -17,19 +18,12 @@ use Rattle.model.specs.Laws.{counted, and_then, Splits, Beyond, KeepsBeyond, Off
 use Rattle.model.specs.Laws.{WakesNobody, CountsSteps, begun, not-begun}
 use Rattle.model.specs.declared.Machine.{Machine}
 use Rattle.model.specs.declared.FaultKind.{FaultKind}
-use Rattle.model.specs.declared.Kept.{Kept}
-use Rattle.model.specs.declared.Kept.TheVariants.{Nothing, Fault as KeptFault}
+use Rattle.std.specs.Prelude.{Err, None, Ok, Some}
+use Rattle.model.specs.declared.RunRefusal.TheVariants.{EarlierClock, Short as RunShort}
+use Rattle.model.specs.declared.TakeRefusal.TheVariants.{Short as TakeShort, Fault as TakeFault, NoChannel}
 use Rattle.model.specs.declared.Outcome.{Outcome}
 use Rattle.model.specs.declared.Outcome.TheVariants.{Ended, Waiting, Spent, Fault as RunFault}
-use Rattle.model.specs.declared.RunAnswer.{RunAnswer}
-use Rattle.model.specs.declared.RunAnswer.TheVariants.{Ran, EarlierClock, Short as RunShort}
 use Rattle.model.specs.declared.Setup.{Setup}
-use Rattle.model.specs.declared.StartAnswer.{StartAnswer}
-use Rattle.model.specs.declared.StartAnswer.TheVariants.{Started}
-use Rattle.model.specs.declared.OfferAnswer.{OfferAnswer}
-use Rattle.model.specs.declared.TakeAnswer.{TakeAnswer}
-use Rattle.model.specs.declared.TakeAnswer.TheVariants.{Taken, Nothing as TakeNothing, Short as TakeShort, Fault as TakeFault}
-use Rattle.model.specs.declared.TakeAnswer.TheVariants.{NoChannel}
 use Rattle.model.proofs.Cases.{by_bool, of-cond, never}
 use Rattle.model.proofs.Laws.Made.{clocked, beginning-is}
 use Rattle.model.proofs.Laws.Regular.{behind, Same, Regular, by_alike, seq, returned, of-byte, of-offering, of-taking, of-begins}
@@ -38,9 +32,9 @@ pub by_result : {A R : Type 0} (r : Result A) → ((a : A) (s : World) → r ≡
 by_result (done a s) d f = d a s refl
 by_result (faults k) d f = f k refl
 
-pub by-kept : {R : Type 0} (k : Kept) → (k ≡ Nothing → R) → ((f : FaultKind) → k ≡ KeptFault f → R) → R
-by-kept Nothing n f = n refl
-by-kept (KeptFault k) n f = f k refl
+pub by-kept : {R : Type 0} (k : KeptFault) → (k ≡ None → R) → ((f : FaultKind) → k ≡ Some f → R) → R
+by-kept None n f = n refl
+by-kept (Some k) n f = f k refl
 
 one_more : (n : ℕ) → 1 + n ≡ suc n
 one_more n = omega arith
@@ -138,7 +132,7 @@ pub record Goes (m : Machine) (code memory : List ℕ) (c : ℕ) : Type 0 where
   pub not_earlier : earlier_clock m c ≡ false
   pub code-long : ltb (length code) m.setup.code ≡ false
   pub memory-long : short_memory m memory ≡ false
-  pub no-fault : m.fault ≡ Nothing
+  pub no-fault : m.fault ≡ None
   pub begun : World
   pub begins : beginning c (world_of m memory) ≡ done tt begun
 
@@ -154,7 +148,7 @@ module _ (b : ℕ) (code : List ℕ) (c : ℕ) (s : World) where
 
 comes-to :
     (m : Machine) (code memory : List ℕ) (b c : ℕ) {f : Finish} → earlier_clock m c ≡ false → ltb (length code) m.setup.code ≡ false
-    → short_memory m memory ≡ false → m.fault ≡ Nothing → begun_run b code c (world_of m memory) ≡ f → run m code memory b c ≡ finished f
+    → short_memory m memory ≡ false → m.fault ≡ None → begun_run b code c (world_of m memory) ≡ f → run m code memory b c ≡ finished f
 unfolding run
 comes-to m code memory b c w s l n e =
     rw (w, s, l) (ap (λ f. kept_or_run f m memory (begun_run b code c (world_of m memory))) n ∙ ap finished e)
@@ -166,7 +160,7 @@ run-goes {m} {code} {memory} {c} g b =
 
 pub run-stays :
     (m : Machine) (code memory : List ℕ) (c : ℕ) → earlier_clock m c ≡ false → ltb (length code) m.setup.code ≡ false
-    → short_memory m memory ≡ false → m.fault ≡ Nothing → {k : FaultKind} → beginning c (world_of m memory) ≡ faults k → (b : ℕ)
+    → short_memory m memory ≡ false → m.fault ≡ None → {k : FaultKind} → beginning c (world_of m memory) ≡ faults k → (b : ℕ)
     → run m code memory b c ≡ finished (record { outcome = RunFault 0 k; world = keep k (world_of m memory) })
 run-stays m code memory c w s l n e b = comes-to m code memory b c w s l n (begins-fault b code c _ e)
 
@@ -176,22 +170,22 @@ Refused m code memory c = (earlier_clock m c || ltb (length code) m.setup.code |
 
 -- an answer that says so
 abbrev pub NoRun : RunAnswer → Type 0
-NoRun (Ran o) = ⊥
-NoRun EarlierClock = Unit {0}
-NoRun (RunShort k) = Unit {0}
+NoRun (Ok o) = ⊥
+NoRun (Err EarlierClock) = Unit {0}
+NoRun (Err (RunShort k)) = Unit {0}
 
 -- whatever its budget, a run is refused, answers the kept fault, cannot begin, or goes
 pub by-run : {R : Type 0} (m : Machine) (code memory : List ℕ) (c : ℕ)
     → ((a : RunAnswer) → NoRun a → Refused m code memory c → ((b : ℕ) → run m code memory b c ≡ unchanged a m memory) → R)
-    → ((k : FaultKind) → m.fault ≡ KeptFault k → ((b : ℕ) → run m code memory b c ≡ unchanged (Ran (RunFault 0 k)) m memory) → R)
-    → ((k : FaultKind) → (Refused m code memory c → ⊥) → m.fault ≡ Nothing → beginning c (world_of m memory) ≡ faults k
+    → ((k : FaultKind) → m.fault ≡ Some k → ((b : ℕ) → run m code memory b c ≡ unchanged (Ok (RunFault 0 k)) m memory) → R)
+    → ((k : FaultKind) → (Refused m code memory c → ⊥) → m.fault ≡ None → beginning c (world_of m memory) ≡ faults k
     → ((b : ℕ) → run m code memory b c ≡ finished (record { outcome = RunFault 0 k; world = keep k (world_of m memory) })) → R)
     → (Goes m code memory c → R) → R
 unfolding run
 by-run m code memory c refused kept stays goes =
-    by_bool (earlier_clock m c) (λ w. refused EarlierClock tt (rw w) (λ b. rw w))
-    (λ w. by_bool (ltb (length code) m.setup.code) (λ s. refused (RunShort m.setup.code) tt (rw (w, s)) (λ b. rw (w, s)))
-    (λ s. by_bool (short_memory m memory) (λ l. refused (RunShort (memory_size m.setup)) tt (rw (w, s, l)) (λ b. rw (w, s, l)))
+    by_bool (earlier_clock m c) (λ w. refused (Err EarlierClock) tt (rw w) (λ b. rw w))
+    (λ w. by_bool (ltb (length code) m.setup.code) (λ s. refused (Err (RunShort m.setup.code)) tt (rw (w, s)) (λ b. rw (w, s)))
+    (λ s. by_bool (short_memory m memory) (λ l. refused (Err (RunShort (memory_size m.setup))) tt (rw (w, s, l)) (λ b. rw (w, s, l)))
     (λ l. by-kept m.fault
     (λ n. by_result (beginning c (world_of m memory))
     (λ u t e. goes (record { not_earlier = w; code-long = s; memory-long = l; no-fault = n; begun = t; begins = e }))
@@ -228,9 +222,9 @@ splits-at {m} {code} {memory} {c} g a b (Spent n) w (h, l) z =
 -- a run that was refused does not go on
 refused-stays : (a : RunAnswer) → NoRun a → (m : Machine) (memory : List ℕ) (g : After RunAnswer)
     → unchanged a m memory ≡ and_then (unchanged a m memory) g
-refused-stays EarlierClock i m memory g = refl
-refused-stays (RunShort k) i m memory g = refl
-refused-stays (Ran o) i m memory g = absurd i
+refused-stays (Err EarlierClock) i m memory g = refl
+refused-stays (Err (RunShort k)) i m memory g = refl
+refused-stays (Ok o) i m memory g = absurd i
 
 pub run-splits : Splits
 run-splits m code memory a b c =
@@ -261,10 +255,10 @@ run-counts m code memory b c o n e =
     let is : o ≡ (run_from b code 0 g.begun).outcome = cc (run-goes g b) in
     rw (run-goes g b, is) (begun g.begun g.begins (took code b g.begun)))
   where
-    no_run : (a : RunAnswer) → NoRun a → a ≡ Ran o → ◌≡◌ {A = ℕ} 0 1
-    no_run EarlierClock i z = cc
-    no_run (RunShort k) i z = cc
-    no_run (Ran p) i z = absurd i
+    no_run : (a : RunAnswer) → NoRun a → a ≡ Ok o → ◌≡◌ {A = ℕ} 0 1
+    no_run (Err EarlierClock) i z = cc
+    no_run (Err (RunShort k)) i z = cc
+    no_run (Ok p) i z = absurd i
 
 -- an offer or take that came to a result
 offer-beyond : (k v : ℕ) (m : Machine) (memory : List ℕ) → Beyond m memory (offered (offering k v (world_of m memory)) m memory)
@@ -278,9 +272,9 @@ take_beyond k m memory =
 -- an offer is refused and changes nothing, or comes to what offering does
 module _ (m : Machine) (memory : List ℕ) (k v : ℕ) (P : After OfferAnswer → Type 0) (refused : (a : OfferAnswer) → P (unchanged a m memory))
     (goes : P (offered (offering k v (world_of m memory)) m memory)) where
-  offer-unless : (e : Kept) → P (offer_unless e m memory k v)
-  offer-unless (KeptFault j) = refused _
-  offer-unless Nothing =
+  offer-unless : (e : KeptFault) → P (offer_unless e m memory k v)
+  offer-unless (Some j) = refused _
+  offer-unless None =
       of-cond P (ltb k m.setup.inputs && ltb k channel_limit) (of-cond P (get_or m.held k false) (refused _) goes) (refused _)
 
   pub by-offer : P (offer m memory k v)
@@ -289,28 +283,28 @@ module _ (m : Machine) (memory : List ℕ) (k v : ℕ) (P : After OfferAnswer �
 
 -- a take, likewise; where it is refused it has no value
 abbrev pub NoValue : TakeAnswer → Type 0
-NoValue (Taken v) = ⊥
-NoValue TakeNothing = Unit {0}
-NoValue (TakeShort n) = Unit {0}
-NoValue (TakeFault f) = Unit {0}
-NoValue NoChannel = Unit {0}
+NoValue (Ok (Some v)) = ⊥
+NoValue (Ok None) = Unit {0}
+NoValue (Err (TakeShort n)) = Unit {0}
+NoValue (Err (TakeFault f)) = Unit {0}
+NoValue (Err NoChannel) = Unit {0}
 
 module _ (m : Machine) (memory : List ℕ) (k : ℕ) (P : After TakeAnswer → Type 0)
     (refused : (a : TakeAnswer) → NoValue a → P (unchanged a m memory)) (goes : P (took_by (taking k (world_of m memory)) m memory)) where
-  take-unless : (e : Kept) → P (take_unless e m memory k)
-  take-unless (KeptFault j) = refused (TakeFault j) tt
-  take-unless Nothing = of-cond P (ltb k m.setup.outputs) goes (refused NoChannel tt)
+  take-unless : (e : KeptFault) → P (take_unless e m memory k)
+  take-unless (Some j) = refused (Err (TakeFault j)) tt
+  take-unless None = of-cond P (ltb k m.setup.outputs) goes (refused (Err NoChannel) tt)
 
   pub by-take : P (take m memory k)
   unfolding take
-  by-take = of-cond P (short_memory m memory) (refused (TakeShort (memory_size m.setup)) tt) (take-unless m.fault)
+  by-take = of-cond P (short_memory m memory) (refused (Err (TakeShort (memory_size m.setup))) tt) (take-unless m.fault)
 
 -- a start is refused, or begins a machine
 module _ (code memory : List ℕ) (w i o q : ℕ) (P : After StartAnswer → Type 0) (refused : (a : StartAnswer) → P (unchanged a blank memory))
   where
     pub by-start :
         (let u : Setup = record { code = length code; base = w; inputs = i; outputs = o; slice = q } in
-        P (record { answer = Started; machine = fresh u; memory = cleared u memory; talk = [] }))
+        P (record { answer = Ok tt; machine = fresh u; memory = cleared u memory; talk = [] }))
         → P (start code memory w i o q)
     unfolding start
     by-start begins =

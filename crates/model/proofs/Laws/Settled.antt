@@ -17,9 +17,7 @@ use Rattle.model.specs.History.{Call, call_run, call_offer, call_take, Moment, b
 use Rattle.model.specs.Laws.{WaitsWithEmptyQueue}
 use Rattle.model.specs.declared.Cpu.{Cpu}
 use Rattle.model.specs.declared.Machine.{Machine}
-use Rattle.model.specs.declared.StartAnswer.{StartAnswer}
-use Rattle.model.specs.declared.OfferAnswer.{OfferAnswer}
-use Rattle.model.specs.declared.TakeAnswer.{TakeAnswer}
+use Rattle.model.specs.Answers.{StartAnswer, OfferAnswer, TakeAnswer}
 use Rattle.model.proofs.Cases.{by_bool, never}
 use Rattle.model.proofs.Laws.Keeping.{Left, Keeps, Brings, brings-keeps, at_first, at_last, returning, picks, brings-weaker, Runs}
 use Rattle.model.proofs.Laws.Keeping.{take_front-runs, join_runs, keeps}

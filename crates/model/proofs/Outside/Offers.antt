@@ -21,7 +21,7 @@ use Rattle.model.specs.Occam.{store, Frame, Process, at_input, at_alt, resume, S
 use Rattle.model.specs.Occam.{Outside, offered}
 use Rattle.model.specs.Demand as Demand
 use Rattle.model.specs.declared.Setup.{Setup}
-use Rattle.model.specs.declared.OfferAnswer.TheVariants.{Offered}
+use Rattle.std.specs.Prelude.{Ok}
 use Rattle.model.proofs.Cases.{never}
 use Rattle.model.proofs.Quiet.Names.{name-given}
 use Rattle.model.proofs.Quiet.Ways.{upd_same, upd_other, upd, regs_of, Mem}
@@ -78,11 +78,11 @@ module _ (L : Loaded) {s : World} {st : State} {μ : Mem} {t : Tree (S L) (root 
   there : st₁.offers k ≡ some v
   there = rw (eq-eqb k k refl)
 
-  event : Outside st (offers k v Offered) [] st₁
+  event : Outside st (offers k v (Ok tt)) [] st₁
   event = offered none-offered
 
   abbrev Goal : Type 0
-  Goal = Answers L (λ u. offering k v s ≡ done tt u) s st (offers k v Offered) (bytes_left (S L) t)
+  Goal = Answers L (λ u. offering k v s ≡ done tt u) s st (offers k v (Ok tt)) (bytes_left (S L) t)
 
   -- those whose names the channel does not hold see nothing of it
   intact-held : {b : Part} {i : Info} {skip : ℕ} → (Own b (μ ((S L).word c)) → ⊥) → Intact (S L) b i skip st st₁ μ μ
@@ -105,7 +105,7 @@ module _ (L : Loaded) {s : World} {st : State} {μ : Mem} {t : Tree (S L) (root 
       let inv = G.stays (holding k v s) st₁ μ t ws (record { run = refl; place = refl; operand = refl; regs = refl }) refl
       (λ path q b i l o. (after-leaf L l, intact-held (strange b (omega (arith, part_small L l, small_size L))))) idle-empty
       (real-held L k v below small G.real) rest (after-lined L G.lined) in
-      answers (holding k v s) (Demand.outside (offers k v Offered) [] st₁ ∷ [])
+      answers (holding k v s) (Demand.outside (offers k v (Ok tt)) [] st₁ ∷ [])
       (offer-holds k v ((S L).word c) s at-word (rw (size_is L G.real) c-in) (mirrored L G.real ((S L).word c) c-in empty)
       (inv-lands L inv))
       (t-event event t-none) (sym (append-nil s.talk)) inv (omega arith)
@@ -251,7 +251,7 @@ module _ (L : Loaded) {s : World} {st : State} {μ : Mem} {t : Tree (S L) (root 
         let rest₂ = rest_in L {Out' = Out} chooser₁ (subst (λ y. Held (S L) L.times d j st₁ ν y (at_alt gs l)) (sym queued) held)
         (λ y n q. ⊎_elim (λ o. o) (λ e. absurd (n e)) q) (λ y o. inl o) (λ t f e. never (cc)) rest₁ in
         let inv = G.stays s₁ st₁ ν t ws same_regs refl keeps idle-empty real₁ rest₂ (after-lined L G.lined) in
-        answers s₁ (Demand.outside (offers k v Offered) [] st₁ ∷ [])
+        answers s₁ (Demand.outside (offers k v (Ok tt)) [] st₁ ∷ [])
         (tells state refl s₁
         (notify-other j.w ready (holding k v s) (rw (size_is L G.real) alt-in) (λ q. absurd (omega arith))) (inv-lands L inv))
         (t-event event t-none) (sym (append-nil s.talk)) inv (omega arith)
@@ -357,8 +357,8 @@ module _ (L : Loaded) {s : World} {st : State} {μ : Mem} {t : Tree (S L) (root 
         keeps₃ waits kept₃ refl refl clean₃ (λ a z f e here p y n q m. never (cc))
 
     -- offered, and received
-    passes : Trace st (Demand.outside (offers k v Offered) [] st₁ ∷ Demand.step (over-channel c v) (putting other (resume l) st₃) ∷ [])
-        (putting other (resume l) st₃) (over-channel c v) (offers k v Offered ∷ [])
+    passes : Trace st (Demand.outside (offers k v (Ok tt)) [] st₁ ∷ Demand.step (over-channel c v) (putting other (resume l) st₃) ∷ [])
+        (putting other (resume l) st₃) (over-channel c v) (offers k v (Ok tt) ∷ [])
     passes = t-event event (t-step (receives other receiver.found there) t-none)
 
     did-pass : Goal
@@ -446,7 +446,7 @@ module _ (L : Loaded) {s : World} {st : State} {μ : Mem} {t : Tree (S L) (root 
 
     did-alert : {hi at : ℕ} → Here L at (cpu_of s).place (cpu_of s).operand
         → AltWay (S L) b L.times st i.vars i.chans q p hi μ at (regs_of (cpu_of s))
-        → hi ≤ i.left + (cpu_of s).place → Answers L (λ u. offering k v s ≡ done tt u) s st (offers k v Offered) (bytes_left (S L) t)
+        → hi ≤ i.left + (cpu_of s).place → Answers L (λ u. offering k v s ≡ done tt u) s st (offers k v (Ok tt)) (bytes_left (S L) t)
     did-alert here way soon =
         let inv = runs real₄ run (after-leaf L leaf) rest₄ (after-lined L G.lined)
         (now-alt here (alt-goes p tied (told-way L b i st (input_of k) m high k v refl p (subst (Own b) named o) stood.low
@@ -456,11 +456,11 @@ module _ (L : Loaded) {s : World} {st : State} {μ : Mem} {t : Tree (S L) (root 
           others = λ u d. upd_other μ (state_word p) ready u d;
         }) way)) soon) in
         let lands = inv-lands L inv in
-        answers s₄ (Demand.outside (offers k v Offered) [] st₄ ∷ [])
+        answers s₄ (Demand.outside (offers k v (Ok tt)) [] st₄ ∷ [])
         (⊎_elim (λ e. told e refl (λ z. absurd (omega arith)) lands) (λ e. told e refl (λ z. absurd (omega arith)) lands) stood.state)
         (t-event (offered (unheld L free (G.real.offers k below))) t-none) (sym (append-nil s.talk)) inv (omega arith)
 
-  now-alerts : Now L s st μ b i q → Answers L (λ u. offering k v s ≡ done tt u) s st (offers k v Offered) (bytes_left (S L) t)
+  now-alerts : Now L s st μ b i q → Answers L (λ u. offering k v s ≡ done tt u) s st (offers k v (Ok tt)) (bytes_left (S L) t)
   now-alerts (now-goes h way settled clean soon) = absurd (clean (input_of k) m o)
   now-alerts (now-alt {hi} {at} h (alt-goes w tied way) soon) =
       let there = stood L b i st (input_of k) m high o way in
@@ -468,7 +468,7 @@ module _ (L : Loaded) {s : World} {st : State} {μ : Mem} {t : Tree (S L) (root 
 
 -- every offer that is not turned down
 pub offers-does : (L : Loaded) {s : World} {st : State} {n : ℕ} → Inv L s st n → (k v : ℕ) → k < L.prog.inputs → v < 2 ^ 32
-    → get_or s.machine.held k false ≡ false → Answers L (λ u. offering k v s ≡ done tt u) s st (offers k v Offered) n
+    → get_or s.machine.held k false ≡ false → Answers L (λ u. offering k v s ≡ done tt u) s st (offers k v (Ok tt)) n
 offers-does L (runs {μ} real run leaf rest lines now) k v below small free =
     let G = runs-ground L real run leaf rest lines now in
     ground-offers L G k v below small free (λ other p d j y e m o.

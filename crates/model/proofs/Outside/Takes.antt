@@ -17,7 +17,7 @@ use Rattle.model.specs.Run.{land, waking}
 use Rattle.model.specs.Outside.{looking, taking}
 use Rattle.model.specs.Occam.{Frame, Process, at_output, resume, State, Sender, takes, taken}
 use Rattle.model.specs.declared.Setup.{Setup}
-use Rattle.model.specs.declared.TakeAnswer.TheVariants.{Taken}
+use Rattle.std.specs.Prelude.{Ok, Some}
 use Rattle.model.proofs.Cases.{never, by_bool}
 use Rattle.model.proofs.Quiet.Names.{name_back, name-given}
 use Rattle.model.proofs.Quiet.Ways.{upd_same, upd_other, upd, Mem}
@@ -167,7 +167,7 @@ module _ (L : Loaded) {s : World} {st : State} {μ : Mem} {t : Tree (S L) (root 
         (record { run = refl; place = refl; operand = refl; regs = refl }) refl real rest lines sender strange keeps waits kept refl refl
         clean (λ a z l e here p x n y m. unread y (subst (λ q. Memᴰ q x.inputs) (output-channel (sym e)) m))
 
-    pub did-take : Answers L (λ u. taking k s ≡ done (some v) u) s st (takes k (Taken v)) (bytes_left (S L) t)
+    pub did-take : Answers L (λ u. taking k s ≡ done (some v) u) s st (takes k (Ok (Some v))) (bytes_left (S L) t)
     did-take =
         let p = (sits-at L sender).placed in
         let sz = size_is L G.real in
@@ -183,7 +183,7 @@ module _ (L : Loaded) {s : World} {st : State} {μ : Mem} {t : Tree (S L) (root 
   abbrev pub Took : Type 0
   Took =
       ((taking k s ≡ done none s) × (Sender st (output_of k) → ⊥))
-      ⊎ ((v : ℕ) × Answers L (λ u. taking k s ≡ done (some v) u) s st (takes k (Taken v)) (bytes_left (S L) t))
+      ⊎ ((v : ℕ) × Answers L (λ u. taking k s ≡ done (some v) u) s st (takes k (Ok (Some v))) (bytes_left (S L) t))
 
   by-holder : Holder L st μ t Out ws c → Took
   by-holder (holds-input l n e w x inp free) = absurd (unread l inp)
@@ -204,7 +204,7 @@ module _ (L : Loaded) {s : World} {st : State} {μ : Mem} {t : Tree (S L) (root 
 -- every take
 pub takes-does : (L : Loaded) {s : World} {st : State} {n : ℕ} → Inv L s st n → (k : ℕ) → k < L.prog.outputs
     → ((taking k s ≡ done none s) × (Sender st (output_of k) → ⊥))
-    ⊎ ((v : ℕ) × Answers L (λ u. taking k s ≡ done (some v) u) s st (takes k (Taken v)) n)
+    ⊎ ((v : ℕ) × Answers L (λ u. taking k s ≡ done (some v) u) s st (takes k (Ok (Some v))) n)
 takes-does L (runs real run leaf rest lines now) k h = ground-takes L (runs-ground L real run leaf rest lines now) k h
 takes-does L (starts B real run leaf rest lines now) k h = ground-takes L (starts-ground L real run leaf B rest lines now) k h
 takes-does L (idle real stop operand rest) k h = ground-takes L (idle-ground L real stop operand rest) k h

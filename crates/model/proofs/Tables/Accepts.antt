@@ -10,6 +10,7 @@ use borrow.Author.Tests.{leb-true}
 use Rattle.model.specs.Limits.{code_limit, word_limit}
 use Rattle.model.specs.Syntax.{PAR, Stmts, Program}
 use Rattle.model.specs.Reader.{Read, program, refused, read_table}
+use Rattle.model.specs.declared.Reason.{Reason}
 use Rattle.model.specs.Usage.{or_else, any_clash, first_clash, first_clash_all}
 use Rattle.model.specs.Counts.{processes}
 use Rattle.model.specs.Accept.{limit, checks, accept, memory_words}
@@ -20,8 +21,8 @@ use Rattle.model.proofs.Cases.{by_bool, never, is_true_lem, is_none}
 abbrev pub Passed : Program → Type 0
 Passed p = (first_clash p.body ≡ none) × (processes p.body ≤ limit)
 
-by_read : {R : Type 0} (r : Read) → ((n at : ℕ) → r ≡ refused n at → R) → ((p : Program) → r ≡ program p → R) → R
-by_read (refused n at) f g = f n at refl
+by_read : {R : Type 0} (r : Read) → ((why : Reason) (at : ℕ) → r ≡ refused why at → R) → ((p : Program) → r ≡ program p → R) → R
+by_read (refused why at) f g = f why at refl
 by_read (program p) f g = g p refl
 
 checked : (q p : Program) → checks q ≡ program p → (q ≡ p) × Passed q

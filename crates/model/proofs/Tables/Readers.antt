@@ -15,6 +15,7 @@ use Rattle.model.specs.Reader.{Parsed, parsed, fails, Reader, onward, pure, refu
 use Rattle.model.specs.Reader.{can_input, can_output, any_site, with_variables, with_channels, expr_kinds, operators, too_deep, expr_of}
 use Rattle.model.specs.Reader.{read_expr, read_many, stmt_kinds, guard_kinds, Inner, read_pair, guard_of, read_guard, stmt_of, read_stmt}
 use Rattle.model.specs.Reader.{read_program, program, read_table}
+use Rattle.model.specs.declared.Reason.{Reason}
 use Rattle.model.specs.declared.kinds.ExprKind.{ExprKind}
 use Rattle.model.specs.declared.kinds.ExprKind.TheVariants.{Constant, Variable, Not, Binary}
 use Rattle.model.specs.declared.kinds.StmtKind.{StmtKind}
@@ -96,7 +97,7 @@ module _ {end : ℕ} where
   done : {A : Type 0} {at : ℕ} {P : ℕ → A → Type 0} {a : A} → P at a → Sound end A at P (pure a at)
   done p = record { holds = λ bytes e. (omega arith, e, p) }
 
-  turned : {A : Type 0} {at : ℕ} {P : ℕ → A → Type 0} {n p : ℕ} → Sound end A at P (refuse n p at)
+  turned : {A : Type 0} {at : ℕ} {P : ℕ → A → Type 0} {why : Reason} {p : ℕ} → Sound end A at P (refuse why p at)
   turned = record { holds = λ bytes e. tt }
 
   -- the readers, each with what it gives

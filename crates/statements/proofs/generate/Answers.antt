@@ -5,6 +5,7 @@ use native.Mathlib.Nat.{mod-eq_of_lt}
 use mathlib.Core.Path.{◌≡◌, refl, ap, ◌∙◌}
 use mathlib.Core.List.{List}
 use lib.ListN.{length-replicate, replicate}
+use Rattle.assembler.specs.declared.entry.Entry.{Entry}
 use Rattle.model.specs.Limits.{name_limit}
 use Rattle.model.specs.Word.{low}
 use Rattle.model.specs.declared.Facts.{Facts}
@@ -32,7 +33,7 @@ nothing-scoped w = record {
 }
 
 -- what is put into the list for the statement behind the channel counts
-table_of : (s plan : List ℕ) (f : Facts) (o l : List ℕ) (outside i : ℕ) {n h : ℕ} → outside ≡ low (f.inputs + f.outputs)
+table_of : (s plan : List ℕ) (f : Facts) (o l : List Entry) (outside i : ℕ) {n h : ℕ} → outside ≡ low (f.inputs + f.outputs)
     → i ≡ next_of s (next_of s 0)
     → record { next = n; here = h; list = l }
     ≡ stmt_into 32 (f.words - outside) (declaring Channels outside (f.words - outside) no_names) plan s i (at 0 o)
@@ -41,7 +42,7 @@ unfolding table_into
 table_of s plan f o l outside i po pi e = ap code_of e ∙ rw (po, pi)
 
 -- the list, by the plan of the table and the facts of its program
-planned : (s p q : List ℕ) (f g : Facts) (o : List ℕ) {c : Code} → p ≡ q → f ≡ g → c ≡ table_into p s f o → c ≡ table_into q s g o
+planned : (s p q : List ℕ) (f g : Facts) (o : List Entry) {c : Code} → p ≡ q → f ≡ g → c ≡ table_into p s f o → c ≡ table_into q s g o
 planned s p q f g o e h is = is ∙ rw (e, h)
 
 pub returns : goal.returns

@@ -1,19 +1,19 @@
 -- `word::after` meets its contract. Assumes nothing.
-use Rattle.std.proofs.Common.{◌≡◌, ℕ, zero, suc, ◌<◌, Bool, true, false, cond, pos, negsuc, sym, refl, arith, lt-ltb}
+use Rattle.std.proofs.Common.{◌≡◌, ℕ, suc, ◌-◌, ◌^◌, Bool, true, false, cond, pos, negsuc, refl, ltb}
+use Rattle.std.proofs.Math.Facts.{to_z-of_z}
 use lib.Signed.{lt_z}
+use mir.Val.{sel}
 use Rattle.model.specs.Word.{signed, after}
 use Rattle.word.proofs.after.Goals as goal
 
--- a word that is not 0 is above 0, read signed, where its first bit is 0
-above_zero : (d n : ℕ) → (d ≡ 0 → ⊥) → (b : Bool) → b ≡ lt_z (pos 0) (cond b (pos d) (negsuc n))
-above_zero zero n h true = absurd (h refl)
-above_zero (suc d) n h true = let e : 0 < suc d = omega arith in sym (lt-ltb 0 (suc d) e)
-above_zero d n h false = refl
-
-pub returns-then-d-eq0 : goal.returns-then-d-eq0
-unfolding after signed
-returns-then-d-eq0 c = rw (← c.less-d.ensures, c.if-d-eq0.true)
+-- a word read signed is above 0 in the language where it is in the model
+reads : (b : Bool) (n j k : ℕ) → lt_z (pos 0) (sel b (pos n) (negsuc j)) ≡ lt_z (pos 0) (cond b (pos n) (negsuc k))
+reads true n j k = refl
+reads false n j k = refl
 
 pub returns : goal.returns
 unfolding after signed
-returns c = rw (← c.less-d.ensures) (above_zero _ _ c.if-d-eq0.false _)
+returns c =
+    let d = c.less.result in
+    rw (← c.less.ensures, to_z-of_z (record { sfits = c.cast_signed.type_inv }), c.cast_signed.ensures)
+    (reads (ltb d (2 ^ 31)) d (2 ^ 32 - suc d) (2 ^ 32 - 1 - d))

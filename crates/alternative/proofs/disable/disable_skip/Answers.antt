@@ -9,10 +9,10 @@ use Rattle.alternative.proofs.disable.disable_skip.Goals as goal
 pub returns-then-cpu-eq0 : goal.returns-then-cpu-eq0
 unfolding disable_skip
 returns-then-cpu-eq0 c u h p =
-    ends (λ x. rw (eq-eqb _ _ c.if-cpu-eq0.true, c.stack-r.ensures) (lands _ c.requires.1 p))
+    ends (λ x. rw (eq-eqb _ _ c.if-cpu-eq0.true, c.stack-r.ensures) (lands _ c.requires p))
 
 pub returns : goal.returns
 unfolding disable_skip
 returns c u h p =
     like (c.select.ensures u h)
-    (λ x. rw (ne_eqb _ _ c.if-cpu-eq0.false, c.stack-r.ensures) (chooses x u _ _ c.requires.1 p 0 (λ q. q.c) (selects _ _)))
+    (λ x. rw (ne_eqb _ _ c.if-cpu-eq0.false, c.stack-r.ensures) (chooses x u _ _ c.requires p 0 (λ q. q.c) (selects _ _)))

@@ -1,15 +1,16 @@
 -- `alternative::disable::end_alt` meets its contract. Assumes nothing.
 use Rattle.model.specs.Alternative.{end_alt}
-use Rattle.processor.proofs.Laws.{like, faulty}
+use Rattle.processor.proofs.Laws.{like, faulty, fault-passed}
 use Rattle.alternative.proofs.disable.end_alt.Goals as goal
 
-pub returns-in-Value : goal.returns-in-Value
+pub returns : goal.returns
 unfolding end_alt
-returns-in-Value c u h g =
+returns c u h g =
     like (c.land.ensures u g _)
-    (λ x. rw (c.peek.ensures u h x _, c.in-Value.is, c.goto.ensures, ← c.plus.ensures))
+    (λ x. rw (c.peek.ensures u h x _, c.in_ok-d.was, c.goto.ensures, ← c.plus.ensures))
 
-pub returns-in-Fault : goal.returns-in-Fault
+pub returns-in_err-d : goal.returns-in_err-d
 unfolding end_alt
-returns-in-Fault c u h g =
-    faulty (λ x. rw (c.peek.ensures u h x _, c.in-Fault.is))
+returns-in_err-d c u h g =
+    rw (fault-passed c.from_residual.result c.from_residual.ensures.1)
+    (faulty (λ x. rw (c.peek.ensures u h x _, c.in_err-d.was)))

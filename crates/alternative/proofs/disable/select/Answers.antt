@@ -2,7 +2,7 @@
 use mathlib.Core.Path.{refl}
 use borrow.Author.Tests.{eq-eqb, ne_eqb}
 use Rattle.model.specs.Alternative.{select}
-use Rattle.processor.proofs.Laws.{like, ends, faulty, next-next}
+use Rattle.processor.proofs.Laws.{like, ends, faulty, next-next, fault-passed}
 use Rattle.alternative.proofs.Staying.{poke-changing}
 use Rattle.alternative.proofs.disable.select.Goals as goal
 
@@ -11,15 +11,16 @@ unfolding select
 returns-then-t c u h =
     like (c.poke.ensures u h)
     (λ x.
-    rw (c.peek.ensures u h x _, c.in-Value.is, eq-eqb _ _ c.if-t.true, c.stack-r.ensures)
+    rw (c.peek.ensures u h x _, c.in_ok-t.was, eq-eqb _ _ c.if-t.true, c.stack-r.ensures)
     (simp next-next (poke-changing _ _ _ _ _ (λ m. refl))))
 
-pub returns-else-t : goal.returns-else-t
+pub returns : goal.returns
 unfolding select
-returns-else-t c u h =
-    ends (λ x. rw (c.peek.ensures u h x _, c.in-Value.is, ne_eqb _ _ c.if-t.false, c.stack.ensures))
+returns c u h =
+    ends (λ x. rw (c.peek.ensures u h x _, c.in_ok-t.was, ne_eqb _ _ c.if-t.false, c.stack.ensures))
 
-pub returns-in-Fault : goal.returns-in-Fault
+pub returns-in_err-t : goal.returns-in_err-t
 unfolding select
-returns-in-Fault c u h =
-    faulty (λ x. rw (c.peek.ensures u h x _, c.in-Fault.is))
+returns-in_err-t c u h =
+    rw (fault-passed c.from_residual.result c.from_residual.ensures.1)
+    (faulty (λ x. rw (c.peek.ensures u h x _, c.in_err-t.was)))

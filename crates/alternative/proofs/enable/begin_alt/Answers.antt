@@ -7,4 +7,4 @@ use Rattle.alternative.proofs.enable.begin_alt.Goals as goal
 pub returns : goal.returns
 unfolding begin_alt
 returns c u h p =
-    like (c.set_state.ensures u h) (λ x. stays x u _ _ c.requires.1 p (pokes _ _ _))
+    like (c.set_state.ensures u h) (λ x. stays x u _ _ c.requires p (pokes _ _ _))

@@ -9,9 +9,9 @@ use Rattle.alternative.proofs.enable.enable_skip.Goals as goal
 pub returns-then-cpu-eq0 : goal.returns-then-cpu-eq0
 unfolding enable_skip
 returns-then-cpu-eq0 c u h p =
-    ends (λ x. rw (eq-eqb _ _ c.if-cpu-eq0.true) (lands _ c.requires.1 p))
+    ends (λ x. rw (eq-eqb _ _ c.if-cpu-eq0.true) (lands _ c.requires p))
 
 pub returns : goal.returns
 unfolding enable_skip set_ready
 returns c u h p =
-    like (c.set_state.ensures u h) (λ x. rw (ne_eqb _ _ c.if-cpu-eq0.false) (stays x u _ _ c.requires.1 p (pokes _ _ _)))
+    like (c.set_state.ensures u h) (λ x. rw (ne_eqb _ _ c.if-cpu-eq0.false) (stays x u _ _ c.requires p (pokes _ _ _)))

@@ -8,6 +8,7 @@ use Rattle.model.specs.Execute.{input_message, input_word}
 use Rattle.processor.specs.Quiet.{quiet}
 use Rattle.processor.proofs.Talking.{takes_none}
 use Rattle.channel.proofs.Handing.{took, took-not}
+use Rattle.processor.proofs.Laws.{fault-passed}
 use Rattle.channel.proofs.receiver.input.Goals as goal
 
 pub returns-then-cpu-ne-WORD_BYTES : goal.returns-then-cpu-ne-WORD_BYTES
@@ -19,40 +20,41 @@ returns-then-cpu-ne-WORD_BYTES c = record {
   long = refl;
 }
 
-pub returns-then-k-ge-START_CHANNELS : goal.returns-then-k-ge-START_CHANNELS
+pub returns-in_default : goal.returns-in_default
 unfolding input_message input_word
-returns-then-k-ge-START_CHANNELS c =
-    let t = takes_none c.args.offers.now c.args.held.now (c.input_inside.ensures c.args.setup c.requires.size_in_bounds.2 refl) in
+returns-in_default c =
+    let t = takes_none c.args.offers.now c.args.held.now (c.input_inside.ensures c.args.setup c.requires.sized.1 refl) in
     record {
-      said = λ x. rw (eq-eqb _ _ c.if-cpu-ne-WORD_BYTES.false, c.held_at-k.ensures.none c.if-k-ge-START_CHANNELS.true) (t.said x);
+      said = λ x. rw (eq-eqb _ _ c.if-cpu-ne-WORD_BYTES.false, c.in_default.ensures) (t.said x);
       keeps = t.keeps;
       keeps_held = t.keeps_held;
       long = t.long;
     }
 
-pub returns-in-Value : goal.returns-in-Value
+pub returns : goal.returns
 unfolding input_message input_word
-returns-in-Value c =
-    let o = c.held_at-k.ensures.held c.if-k-ge-START_CHANNELS.false in
+returns c =
+    let o = c.in-Some.ensures in
     record {
       said = λ x.
           rw (eq-eqb _ _ c.if-cpu-ne-WORD_BYTES.false, o.0, ← o.1)
-          (took _ _ _ _ _ c.requires.size_in_bounds.2
-          (c.swap.ensures.held, c.swap.ensures.holds) _ c.in-Value.is c.requires.size_in_bounds.1 (omega arith) _);
+          (took _ _ _ _ _ c.requires.sized.1
+          (c.swap.ensures.held, c.swap.ensures.holds) _ c.in_ok-swap.was c.requires.sized.0 (omega arith) _);
       keeps = tt;
       keeps_held = tt;
-      long = length-set c.args.held.now c.held_at-k.result false;
+      long = length-set c.args.held.now c.in-Some.k false;
     }
 
-pub returns-in-Fault : goal.returns-in-Fault
+pub returns-in_err-swap : goal.returns-in_err-swap
 unfolding input_message input_word
-returns-in-Fault c =
-    let o = c.held_at-k.ensures.held c.if-k-ge-START_CHANNELS.false in
-    record {
+returns-in_err-swap c =
+    let o = c.in-Some.ensures in
+    rw (fault-passed c.from_residual.result c.from_residual.ensures.1)
+    (record {
       said = λ x.
           rw (eq-eqb _ _ c.if-cpu-ne-WORD_BYTES.false, o.0, ← o.1)
-          (ap quiet (took-not _ _ _ _ _ c.requires.size_in_bounds.2 (c.swap.ensures.held, c.swap.ensures.holds) _ c.in-Fault.is _));
-      keeps = rw c.in-Fault.is at c.swap.ensures.holds;
+          (ap quiet (took-not _ _ _ _ _ c.requires.sized.1 (c.swap.ensures.held, c.swap.ensures.holds) _ c.in_err-swap.was _));
+      keeps = rw c.in_err-swap.was at c.swap.ensures.holds;
       keeps_held = refl;
       long = refl;
-    }
+    })

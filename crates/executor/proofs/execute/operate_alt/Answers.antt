@@ -15,22 +15,22 @@ returns-in-47 c o =
 pub returns-in-48 : goal.returns-in-48
 unfolding operation_code operate
 returns-in-48 c o =
-    done-as _ _ _ _ (operates diss c.in-48.is) (c.disable_skip.ensures c.args.setup c.requires.size_in_bounds.2 c.requires.size_in_bounds.3)
+    done-as _ _ _ _ (operates diss c.in-48.is) (c.disable_skip.ensures c.args.setup c.requires.sized.1 c.requires.sized.2)
 
 pub returns-in-67 : goal.returns-in-67
 unfolding operation_code operate
 returns-in-67 c o =
-    done-as _ _ _ _ (operates alt c.in-67.is) (c.begin_alt.ensures c.args.setup c.requires.size_in_bounds.2 c.requires.size_in_bounds.3)
+    done-as _ _ _ _ (operates alt c.in-67.is) (c.begin_alt.ensures c.args.setup c.requires.sized.1 c.requires.sized.2)
 
 pub returns-in-68 : goal.returns-in-68
 unfolding operation_code operate
 returns-in-68 c o =
-    done-as _ _ _ _ (operates altwt c.in-68.is) (c.wait_alt.ensures c.args.setup c.requires.size_in_bounds.2 refl)
+    done-as _ _ _ _ (operates altwt c.in-68.is) (c.wait_alt.ensures c.args.setup c.requires.sized.1 refl)
 
 pub returns-in-69 : goal.returns-in-69
 unfolding operation_code operate
 returns-in-69 c o =
-    done-as _ _ _ _ (operates altend c.in-69.is) (c.end_alt.ensures c.args.setup c.requires.size_in_bounds.2 refl)
+    done-as _ _ _ _ (operates altend c.in-69.is) (c.end_alt.ensures c.args.setup c.requires.sized.1 refl)
 
 pub returns-in-72 : goal.returns-in-72
 unfolding operation_code operate
@@ -40,11 +40,11 @@ returns-in-72 c o =
 pub returns-in-73 : goal.returns-in-73
 unfolding operation_code operate
 returns-in-73 c o =
-    done-as _ _ _ _ (operates enbs c.in-73.is) (c.enable_skip.ensures c.args.setup c.requires.size_in_bounds.2 c.requires.size_in_bounds.3)
+    done-as _ _ _ _ (operates enbs c.in-73.is) (c.enable_skip.ensures c.args.setup c.requires.sized.1 c.requires.sized.2)
 
 pub returns-in_default : goal.returns-in_default
 returns-in_default c o =
-    c.operate_timer.ensures c.args.setup c.requires.size_in_bounds.2 refl o _
+    c.operate_timer.ensures c.args.setup c.requires.sized.1 refl o _
 
 pub operate_timer-requires-clause-other : goal.operate_timer-requires-clause-other
 unfolding operation_code

@@ -9,7 +9,7 @@ use Rattle.executor.proofs.execute.operate_timer.Goals as goal
 pub returns-in-34 : goal.returns-in-34
 unfolding operation_code operate
 returns-in-34 c u h g o b =
-    rw (operates ldtimer c.in-34.is) (loads o b _ _ c.requires.size_in_bounds.1 (rw g c.requires.size_in_bounds.2) c.push.ensures)
+    rw (operates ldtimer c.in-34.is) (loads o b _ _ c.requires.sized.0 (rw g c.requires.sized.1) c.push.ensures)
 
 pub returns-in-43 : goal.returns-in-43
 unfolding operation_code operate
@@ -19,17 +19,17 @@ returns-in-43 c u h g o b =
 pub returns-in-46 : goal.returns-in-46
 unfolding operation_code operate
 returns-in-46 c u h g o b =
-    timed-as o b (operates dist c.in-46.is) (c.disable_time.ensures u h (rw g c.requires.size_in_bounds.2) _)
+    timed-as o b (operates dist c.in-46.is) (c.disable_time.ensures u h (rw g c.requires.sized.1) _)
 
 pub returns-in-71 : goal.returns-in-71
 unfolding operation_code operate
 returns-in-71 c u h g o b =
-    done-as o b _ _ (operates enbt c.in-71.is) (c.enable_time.ensures u h (rw g c.requires.size_in_bounds.2))
+    done-as o b _ _ (operates enbt c.in-71.is) (c.enable_time.ensures u h (rw g c.requires.sized.1))
 
 pub returns-in-78 : goal.returns-in-78
 unfolding operation_code operate
 returns-in-78 c u h g o b =
-    done-as o b _ _ (operates talt c.in-78.is) (c.begin_timed_alt.ensures u h (rw g c.requires.size_in_bounds.2))
+    done-as o b _ _ (operates talt c.in-78.is) (c.begin_timed_alt.ensures u h (rw g c.requires.sized.1))
 
 pub returns-in-81 : goal.returns-in-81
 unfolding operation_code operate

@@ -13,5 +13,5 @@ returns c u h g =
     like (c.poke.ensures u h)
     (λ x.
     ap (λ q. next q (λ n. land)) (poke-registers x u c.args.cpu (pop c.args.cpu) _ _ _) ∙ poke-lands x u
-    (pop c.args.cpu) _ c.requires.1 g _ _
+    (pop c.args.cpu) _ c.requires g _ _
     ∙ rw (← c.plus.ensures, ← c.pop.ensures))

@@ -4,4 +4,4 @@ use Rattle.expressions.proofs.emit.distance.Goals as goal
 
 pub returns : goal.returns
 unfolding distance_into
-returns c = rw (← c.distance_entry.ensures) c.put.ensures
+returns c = c.put.ensures

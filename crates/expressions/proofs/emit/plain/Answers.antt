@@ -4,4 +4,4 @@ use Rattle.expressions.proofs.emit.plain.Goals as goal
 
 pub returns : goal.returns
 unfolding plain_into
-returns c = rw (← c.plain_entry.ensures) c.put.ensures
+returns c = c.put.ensures

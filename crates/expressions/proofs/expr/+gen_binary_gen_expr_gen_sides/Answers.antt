@@ -38,7 +38,7 @@ unfolding expr_into
 gen_expr-returns-in-Not t c vs h =
     let one : c.args.depth ≡ suc (c.args.depth - 1) = omega (arith, c.if-depth-eq0.false) in
     let inner = c.gen_expr-inner.ensures vs h in
-    rw one (rw (← c.value_at-number.ensures, ← c.expr_kind.ensures, c.in-Not.is, ← inner, ← c.plain-end.ensures))
+    rw one (rw (← c.value_at-number.ensures, ← c.expr_kind.ensures, c.in-Not.is, ← inner, ← c.plain-here.ensures))
 
 pub gen_expr-returns-in-Binary : goal.gen_expr-returns-in-Binary
 unfolding expr_into

@@ -4,4 +4,4 @@ use Rattle.expressions.proofs.expr.gen_constant.Goals as goal
 
 pub returns : goal.returns
 unfolding constant_into
-returns c = simp (← c.value_at-constant.ensures, ← c.plain-end.ensures)
+returns c = simp (← c.value_at-constant.ensures, ← c.plain-here.ensures)

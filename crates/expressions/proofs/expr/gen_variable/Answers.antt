@@ -5,4 +5,4 @@ use Rattle.expressions.proofs.expr.gen_variable.Goals as goal
 pub returns : goal.returns
 unfolding variable_into
 returns c vs h =
-    simp (← c.value_at-name.ensures, ← c.variable-word.ensures vs h, ← c.plain-end.ensures)
+    simp (← c.value_at-name.ensures, ← c.variable-word.ensures vs h, ← c.plain-here.ensures)

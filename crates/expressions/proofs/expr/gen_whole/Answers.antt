@@ -13,5 +13,5 @@ returns c vs h =
       ← c.put_adjust-begin.ensures,
       ← c.below.ensures,
       ← c.gen_expr-inner.ensures vs h,
-      ← c.put_adjust-end.ensures,
+      ← c.put_adjust-here.ensures,
     )

@@ -10,5 +10,5 @@ returns c ns h =
       ← c.value_at-variable.ensures,
       ← c.channel-from.ensures ns.channels h.channels,
       ← c.variable-to.ensures ns.variables h.variables,
-      ← c.put_input-end.ensures,
+      ← c.put_input-here.ensures,
     )

@@ -9,5 +9,5 @@ returns c ns h =
       ← c.value_at-channel.ensures,
       ← c.gen_whole-value.ensures ns.variables h.variables,
       ← c.channel-to.ensures ns.channels h.channels,
-      ← c.put_output-end.ensures,
+      ← c.put_output-here.ensures,
     )

@@ -5,4 +5,4 @@ use Rattle.expressions.proofs.simple.gen_time.Goals as goal
 pub returns : goal.returns
 unfolding time_into
 returns c vs h =
-    simp (← c.value_at-name.ensures, ← c.variable-to.ensures vs h, ← c.operation-read.ensures, ← c.plain-end.ensures)
+    simp (← c.value_at-name.ensures, ← c.variable-to.ensures vs h, ← c.operation-read.ensures, ← c.plain-here.ensures)

@@ -5,4 +5,4 @@ use Rattle.expressions.proofs.simple.gen_wait.Goals as goal
 pub returns : goal.returns
 unfolding wait_into
 returns c vs h =
-    simp (← c.gen_whole-time.ensures vs h, ← c.operation-end.ensures)
+    simp (← c.gen_whole-time.ensures vs h, ← c.operation-here.ensures)

@@ -1,4 +1,5 @@
 -- `machine::begin::start` meets its contract. Assumes nothing.
+use Rattle.std.proofs.lemmas.List.{length-take-le}
 use Prim.Native.Nat.{◌+◌, ◌<◌, ◌≤◌}
 use native.Mathlib.Omega.{arith}
 use mathlib.Core.Path.{refl}
@@ -85,7 +86,7 @@ returns c =
     record {
       answer = rw e c.started.ensures.0;
       machine = rw e c.started.ensures.1;
-      memory = rw e c.clear.ensures;
+      memory = rw (e, c.clear.ensures, length-take-le _ c.args.memory.now m);
       refusal = with_number refused_start (start-refuses c.args.code.now c.args.memory.now c.args.w c.args.inputs c.args.outputs
           c.args.slice) (rw e c.started.ensures.0);
     }

@@ -3,10 +3,10 @@ use borrow.Author.Rules.{rules}
 use native.Mathlib.Omega.{arith}
 use mathlib.Core.Path.{◌≡◌, refl, sym, ◌∙◌}
 use mathlib.Core.Bool.{true, false}
-use Rattle.model.specs.Run.{earlier_clock}
+use Rattle.model.specs.Run.{earlier_clock, run}
 use Rattle.model.specs.Answers.{refused_run}
 use Rattle.model.proofs.Laws.Refused.{run-refuses}
-use Rattle.machine.proofs.Numbers.{with_number}
+use Rattle.machine.proofs.Numbers.{with_number, rejoined}
 use Rattle.machine.proofs.Answered.{earlier, short-code, short-memory, kept-fault}
 use Rattle.machine.proofs.budget.run.Goals as goal
 
@@ -50,28 +50,28 @@ returns-then-memory-size c =
 pub run_machine-requires : goal.run_machine-requires
 run_machine-requires c =
     record {
-      size_in_bounds = (search rules, search rules, search rules);
-      fault_value = (c.in-Nothing.is, sym c.is_earlier.ensures ∙ c.if-is_earlier.false);
+      sized = (search rules, search rules);
+      fault_value = (c.in-None.is, sym c.is_earlier.ensures ∙ c.if-is_earlier.false);
     }
 
-pub returns-in-Fault : goal.returns-in-Fault
-returns-in-Fault c =
+pub returns-in-Some : goal.returns-in-Some
+returns-in-Some c =
     let e = kept-fault c.args.machine c.args.code.now c.args.memory.now c.args.budget c.args.clock
-    (sym c.is_earlier.ensures ∙ c.if-is_earlier.false) (omega arith) (omega arith) c.in-Fault.is in
+    (sym c.is_earlier.ensures ∙ c.if-is_earlier.false) (omega arith) (omega arith) c.in-Some.is in
     record {
-      answer = rw e c.unchanged-in-Fault.ensures.0;
-      machine = rw e c.unchanged-in-Fault.ensures.1;
+      answer = rw e c.unchanged-in-Some.ensures.0;
+      machine = rw e c.unchanged-in-Some.ensures.1;
       memory = rw e refl;
       refusal = with_number refused_run (run-refuses c.args.machine c.args.code.now c.args.memory.now c.args.budget c.args.clock)
-          (rw e c.unchanged-in-Fault.ensures.0);
+          (rw e c.unchanged-in-Some.ensures.0);
     }
 
-pub returns-in-Nothing : goal.returns-in-Nothing
-returns-in-Nothing c =
+pub returns-in-None : goal.returns-in-None
+returns-in-None c =
+    let r = rejoined (λ l. run c.args.machine c.args.code.now l c.args.budget c.args.clock) _ c.args.memory.now _ c.run_machine.ensures in
     record {
-      answer = c.run_machine.ensures.answer;
-      machine = c.run_machine.ensures.machine;
-      memory = c.run_machine.ensures.memory;
-      refusal = with_number refused_run (run-refuses c.args.machine c.args.code.now c.args.memory.now c.args.budget c.args.clock)
-          c.run_machine.ensures.answer;
+      answer = r.answer;
+      machine = r.machine;
+      memory = r.memory;
+      refusal = with_number refused_run (run-refuses c.args.machine c.args.code.now c.args.memory.now c.args.budget c.args.clock) r.answer;
     }

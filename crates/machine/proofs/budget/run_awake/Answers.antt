@@ -3,5 +3,5 @@ use Rattle.machine.proofs.Answered.{ran}
 use Rattle.machine.proofs.budget.run_awake.Goals as goal
 
 pub returns : goal.returns
-returns c =
-    rw c.kept.ensures (ran c.args.machine _ _ _ _ c.requires.fault_value c.run_bytes-end.ensures)
+returns c behind =
+    rw c.kept.ensures (ran c.args.machine _ _ behind _ _ c.requires.fault_value c.run_bytes-end.ensures)

@@ -1,25 +1,23 @@
 -- `machine::budget::run_bytes` meets its contract. Assumes nothing.
 use Prim.Native.Nat.{suc, ◌+◌}
 use native.Mathlib.Omega.{arith}
-use mathlib.Core.Path.{◌≡◌, refl, ◌∙◌}
+use mathlib.Core.Path.{◌≡◌, refl, sym, ◌∙◌}
 use mathlib.Core.Bool.{false}
 use Rattle.machine.proofs.Runs.{of-not, reaches-start, reaches-on, finishes-waiting, finishes-ended, finishes-spent, finishes-fault}
 use Rattle.machine.proofs.budget.run_bytes.Goals as goal
 
 pub loop-cpu-init : goal.loop-cpu-init
 loop-cpu-init c =
-    (reaches-start _ _ _ _ _ _ _ _ _, omega arith, refl, c.requires.3)
+    (reaches-start _ _ _ _ _ _ _ _ _, omega arith, refl)
 
 pub step-requires : goal.step-requires
 step-requires c =
     record {
-      size_in_bounds = (
-        omega (arith, c.loop-cpu.invariant.2),
+      sized = (
         of-not c.loop-cpu.cpu.running false c.if-not-cpu.false,
+        c.requires.0 ∙ sym c.loop-cpu.invariant.2,
         c.requires.1,
-        c.requires.2,
       );
-      held_len = c.loop-cpu.invariant.3;
     }
 
 pub overflow_add-n : goal.overflow_add-n
@@ -33,12 +31,11 @@ loop-cpu-smaller c =
 pub loop-cpu-preserved : goal.loop-cpu-preserved
 loop-cpu-preserved c =
     let e : c.loop-cpu.n + 1 ≡ suc c.loop-cpu.n = omega arith in
-    let s = rw c.in-Done.is at c.step.ensures in (
+    let s = rw c.in-Ok.is at c.step.ensures in (
       rw e (reaches-on c.loop-cpu.invariant.0 c.if-not-cpu.false c.if-cpu-setup.false
           (omega (arith, c.loop-cpu.invariant.1, c.if-n-budget.false)) s),
       omega (arith, c.loop-cpu.invariant.1, c.if-n-budget.false),
       c.step.auto.memory ∙ c.loop-cpu.invariant.2,
-      c.step.ensures.long ∙ c.loop-cpu.invariant.3,
     )
 
 pub shape_of-memory-then-not-cpu : goal.shape_of-memory-then-not-cpu
@@ -65,12 +62,12 @@ pub returns-then-n-budget : goal.returns-then-n-budget
 returns-then-n-budget c =
     finishes-spent c.loop-cpu.invariant.0 c.if-not-cpu.false c.if-cpu-setup.false c.if-n-budget.true
 
-pub shape_of-memory-in-Fault : goal.shape_of-memory-in-Fault
-shape_of-memory-in-Fault c =
+pub shape_of-memory-in-Err : goal.shape_of-memory-in-Err
+shape_of-memory-in-Err c =
     c.step.auto.memory ∙ c.loop-cpu.invariant.2
 
-pub returns-in-Fault : goal.returns-in-Fault
-returns-in-Fault c =
-    let s = rw c.in-Fault.is at c.step.ensures in
+pub returns-in-Err : goal.returns-in-Err
+returns-in-Err c =
+    let s = rw c.in-Err.is at c.step.ensures in
     finishes-fault c.loop-cpu.invariant.0 c.if-not-cpu.false c.if-cpu-setup.false
     (omega (arith, c.loop-cpu.invariant.1, c.if-n-budget.false)) s

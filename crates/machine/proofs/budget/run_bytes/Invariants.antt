@@ -11,7 +11,6 @@ invariant-loop-cpu l =
     l.memory
     × (l.n ≤ l.budget)
     × (length l.memory ≡ length l.initial.memory)
-    × (length l.held ≡ 8)
 
 abbrev pub decreases-loop-cpu : goal.decreases-loop-cpu
 decreases-loop-cpu l = l.budget - l.n

@@ -1,27 +1,25 @@
 -- `machine::outside::empty_wake` meets its contract. Assumes nothing.
-use native.Mathlib.Omega.{arith}
-use lib.ListN.{length-set}
+use Prim.Native.Nat.{ℕ}
+use mathlib.Core.Path.{sym, ◌∙◌, subst}
+use mathlib.Core.List.{List}
+use lib.ListN.{get_or, length-set}
+use Rattle.model.specs.Word.{not_process}
+use Rattle.processor.specs.Seen.{Does}
+use Rattle.machine.specs.Outsides.{empty_wake}
+use Rattle.processor.proofs.Laws.{gives-back, gives-none}
 use Rattle.machine.proofs.Woken.{empties}
 use Rattle.machine.proofs.outside.empty_wake.Goals as goal
 
-pub bounds-memory-at-in-Fault : goal.bounds-memory-at-in-Fault
-bounds-memory-at-in-Fault c =
-    omega (arith, simp length-set at c.memory-1.given)
+pub returns-then-is_err : goal.returns-then-is_err
+returns-then-is_err c u h g =
+    let s = c.wake-step.result in
+    rw (gives-back s c.args.c _ _ (sym c.is_err.ensures.value ∙ c.if-is_err.true))
+    (empties c.args.c c.args.w s h c.requires (c.wake-step.ensures u (h ∙ sym (length-set c.args.memory.now c.args.c not_process)) g))
 
-pub shape_of-memory-in-Done : goal.shape_of-memory-in-Done
-shape_of-memory-in-Done c =
-    simp length-set at c.memory-1.given
-
-pub returns-in-Done : goal.returns-in-Done
-returns-in-Done c u h g =
-    let d = c.wake.ensures u h g in
-    empties _ _ _ h c.requires.1 (rw c.in-Done.is at d)
-
-pub shape_of-memory-in-Fault : goal.shape_of-memory-in-Fault
-shape_of-memory-in-Fault c =
-    simp length-set (simp length-set at c.memory-1.given)
-
-pub returns-in-Fault : goal.returns-in-Fault
-returns-in-Fault c u h g =
-    let d = c.wake.ensures u h g in
-    empties _ _ _ h c.requires.1 (rw c.in-Fault.is at d)
+pub returns-else-is_err : goal.returns-else-is_err
+returns-else-is_err c u h g =
+    let s = c.wake-step.result in
+    let e = gives-none s c.args.c (get_or c.args.memory.now c.args.c 0) c.wake-step.new.memory
+    (sym c.is_err.ensures.value ∙ c.if-is_err.false) in
+    subst (λ (m : List ℕ). Does u (empty_wake c.args.c c.args.w) c.args.cpu c.args.memory.now s m) (sym e)
+    (empties c.args.c c.args.w s h c.requires (c.wake-step.ensures u (h ∙ sym (length-set c.args.memory.now c.args.c not_process)) g))

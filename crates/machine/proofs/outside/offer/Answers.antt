@@ -2,8 +2,9 @@
 use native.Mathlib.Omega.{arith}
 use mathlib.Core.Path.{refl}
 use Rattle.model.specs.Answers.{refused_offer}
+use Rattle.model.specs.Outside.{offer}
 use Rattle.model.proofs.Laws.Refused.{offer-refuses}
-use Rattle.machine.proofs.Numbers.{with_number}
+use Rattle.machine.proofs.Numbers.{with_number, rejoined}
 use Rattle.machine.proofs.Offers.{offer-short, offer-kept}
 use Rattle.machine.proofs.outside.offer.Goals as goal
 
@@ -18,23 +19,23 @@ returns-then-memory-size c =
           (rw e c.unchanged.ensures.0);
     }
 
-pub returns-in-Fault : goal.returns-in-Fault
-returns-in-Fault c =
-    let e = offer-kept c.args.machine c.args.memory.now c.args.k c.args.value (omega arith) c.in-Fault.is in
+pub returns-in-Some : goal.returns-in-Some
+returns-in-Some c =
+    let e = offer-kept c.args.machine c.args.memory.now c.args.k c.args.value (omega arith) c.in-Some.is in
     record {
-      answer = rw e c.unchanged-in-Fault.ensures.0;
-      machine = rw e c.unchanged-in-Fault.ensures.1;
+      answer = rw e c.unchanged-in-Some.ensures.0;
+      machine = rw e c.unchanged-in-Some.ensures.1;
       memory = rw e refl;
       refusal = with_number refused_offer (offer-refuses c.args.machine c.args.memory.now c.args.k c.args.value)
-          (rw e c.unchanged-in-Fault.ensures.0);
+          (rw e c.unchanged-in-Some.ensures.0);
     }
 
-pub returns-in-Nothing : goal.returns-in-Nothing
-returns-in-Nothing c =
+pub returns-in-None : goal.returns-in-None
+returns-in-None c =
+    let r = rejoined (λ l. offer c.args.machine l c.args.k c.args.value) _ c.args.memory.now _ c.offer_machine.ensures in
     record {
-      answer = c.offer_machine.ensures.answer;
-      machine = c.offer_machine.ensures.machine;
-      memory = c.offer_machine.ensures.memory;
-      refusal = with_number refused_offer (offer-refuses c.args.machine c.args.memory.now c.args.k c.args.value)
-          c.offer_machine.ensures.answer;
+      answer = r.answer;
+      machine = r.machine;
+      memory = r.memory;
+      refusal = with_number refused_offer (offer-refuses c.args.machine c.args.memory.now c.args.k c.args.value) r.answer;
     }

@@ -1,8 +1,8 @@
 -- `machine::taking::settle` meets its contract. Assumes nothing.
 use Rattle.machine.proofs.taking.settle.Goals as goal
 
-pub returns-in-Done : goal.returns-in-Done
-returns-in-Done c = rw (c.with_registers.ensures, c.in-Done.is)
+pub returns-in-Ok : goal.returns-in-Ok
+returns-in-Ok c = rw (c.with_registers.ensures, c.in-Ok.is)
 
-pub returns-in-Fault : goal.returns-in-Fault
-returns-in-Fault c = rw (c.keep_fault.ensures, c.in-Fault.is)
+pub returns-in-Err : goal.returns-in-Err
+returns-in-Err c = rw (c.keep_fault.ensures, c.in-Err.is)

@@ -3,6 +3,7 @@
 use Prim.Native.Nat.{ℕ, suc, ◌-◌}
 use native.Mathlib.Omega.{arith}
 use mathlib.Core.List.{List}
+use mathlib.Core.Logic.{inl, inr}
 use mathlib.Core.Path.{◌≡◌}
 use Rattle.model.specs.declared.kinds.ExprKind.{ExprKind}
 use Rattle.numbers.specs.Items.{value_at}
@@ -10,7 +11,7 @@ use Rattle.numbers.specs.Kinds.{expr_kind, by_expr}
 use Rattle.numbers.specs.declared.Value.{Value}
 use Rattle.plan.specs.Entries.{Entered, entered, next_of, entry, put_at, expr_entered, sides_entered, inner_entered}
 use Rattle.plan.proofs.expr.+measure_expr_measure_sides.Goals as goal
-use Rattle.plan.proofs.expr.+measure_expr_measure_sides.Goals.{measure_expr-in-Constant, measure_expr-in-Variable, measure_expr-in-Not}
+use Rattle.plan.proofs.expr.+measure_expr_measure_sides.Goals.{measure_expr-in-Constant, measure_expr-in-Not}
 use Rattle.plan.proofs.expr.+measure_expr_measure_sides.Goals.{measure_expr-in-Binary}
 
 -- an expression by what follows its kind where there is depth left
@@ -31,9 +32,11 @@ measure_expr-returns t c =
     turn _ _ _ _ {m = entered c.match-expr_kind.own c.match-expr_kind.plan} c.if-depth-eq0.false c.value_at-number.ensures
     c.expr_kind.ensures
     (elim c.match-expr_kind.branch [
-      | measure_expr-in-Constant w ↦ rw (w.own-is, w.plan-is, w.in-Constant.is, w.entry-own.ensures, w.skip.ensures)
-      | measure_expr-in-Variable w ↦
-          rw (w.own-is, w.plan-is, w.in-Variable.is, w.entry-own-in-Variable.ensures, w.skip-in-Variable.ensures)
+      | measure_expr-in-Constant w ↦
+          elim w.in-Constant.is [
+            | inl e ↦ rw (w.own-is, w.plan-is, e, w.entry-own.ensures, w.skip.ensures)
+            | inr e ↦ rw (w.own-is, w.plan-is, e, w.entry-own.ensures, w.skip.ensures)
+          ]
       | measure_expr-in-Not w ↦ rw (w.own-is, w.plan-is, w.in-Not.is, w.measure_expr-own.ensures)
       | measure_expr-in-Binary w ↦ rw (w.own-is, w.plan-is, w.in-Binary.is, w.measure_sides-own.ensures)
     ])

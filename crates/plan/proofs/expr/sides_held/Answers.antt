@@ -6,14 +6,3 @@ use Rattle.plan.proofs.expr.sides_held.Goals as goal
 pub sides_hold-requires : goal.sides_hold-requires
 unfolding stored_in
 sides_hold-requires c = omega (arith, c.stored_in.ensures)
-
-pub returns : goal.returns
-returns c =
-    rw (
-      c.sides_hold.ensures,
-      c.stored_in-2.ensures,
-      c.stored_in.ensures,
-      c.order_of-order.ensures,
-      c.registers_in-2.ensures,
-      c.registers_in.ensures,
-    )

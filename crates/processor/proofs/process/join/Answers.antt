@@ -4,4 +4,4 @@ use Rattle.processor.proofs.process.join.Goals as goal
 
 pub returns : goal.returns
 returns c u h =
-    like (c.enqueue.ensures u h) (λ x. join-queues x u _ _ _ c.requires.1)
+    like (c.enqueue.ensures u h) (λ x. join-queues x u _ _ _ c.requires)

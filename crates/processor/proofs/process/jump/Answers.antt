@@ -13,5 +13,5 @@ returns-then-cpu-setup c =
 
 pub returns : goal.returns
 returns c =
-    like (c.yield_slice.ensures c.args.setup c.requires.2 refl)
+    like (c.yield_slice.ensures c.args.setup c.requires.1 refl)
     (λ x. jump-yields x _ _ _ _ (le-ltb _ _ c.if-cpu-setup.false) ∙ rw (← c.plus-to.ensures))

@@ -1,12 +1,15 @@
 -- `processor::wait::poke_tell` meets its contract. Assumes nothing.
-use Rattle.processor.proofs.Laws.{undid, refused}
+use mathlib.Core.Path.{sym, ◌∙◌}
+use Rattle.processor.proofs.Laws.{undid, refused, fault-passed}
 use Rattle.processor.proofs.wait.poke_tell.Goals as goal
 
-pub returns-in-Value : goal.returns-in-Value
-returns-in-Value c u h g =
-    undid _ _ _ h _ (c.swap.ensures.held, c.swap.ensures.holds) c.in-Value.is (c.tell_release-step.ensures u h g)
+pub returns : goal.returns
+returns c u h g =
+    undid _ _ _ h _ (c.swap.ensures.held, c.swap.ensures.holds) c.in_ok-old.was
+    (c.tell_release-step.ensures u (h ∙ sym c.swap.auto.memory) g)
     (c.undo.ensures.same, c.undo.ensures.back)
 
-pub returns-in-Fault : goal.returns-in-Fault
-returns-in-Fault c u h g =
-    refused _ _ _ h (c.swap.ensures.held, c.swap.ensures.holds) c.in-Fault.is
+pub returns-in_err-old : goal.returns-in_err-old
+returns-in_err-old c u h g =
+    rw (fault-passed c.from_residual.result c.from_residual.ensures.1)
+    (refused _ _ _ h (c.swap.ensures.held, c.swap.ensures.holds) c.in_err-old.was)

@@ -14,13 +14,13 @@ slice_bounds-begin-end c =
 pub begin-requires : goal.begin-requires
 begin-requires c =
     let f = facts-fit c.args.table.now _ (compile c.args.table.now code_limit) refl c.requires.code_limit_value (sym c.read.ensures.answer
-    ∙ c.in-Accepted.is) in
+    ∙ c.in-Ok.is) in
     (f.0, omega (arith, f.1, c.requires.size_in_bounds.1))
 
-pub returns-in-Accepted : goal.returns-in-Accepted
-returns-in-Accepted c =
-    rw (← c.read.ensures.answer, c.in-Accepted.is) c.begin.ensures
+pub returns-in-Ok : goal.returns-in-Ok
+returns-in-Ok c =
+    rw (← c.read.ensures.answer, c.in-Ok.is) c.begin.ensures
 
-pub returns-in-Refused : goal.returns-in-Refused
-returns-in-Refused c =
-    rw (← c.read.ensures.answer, c.in-Refused.is) (record { report = c.refusing.ensures; memory = refl })
+pub returns-in-Err : goal.returns-in-Err
+returns-in-Err c =
+    rw (← c.read.ensures.answer, c.in-Err.is) (record { report = c.refusing.ensures; memory = refl })

@@ -12,12 +12,15 @@ use Rattle.report.proofs.opening.open.Goals as goal
 pub returns-then-code-lt-CODE : goal.returns-then-code-lt-CODE
 returns-then-code-lt-CODE c =
     let o = open-short c.args.table.now c.args.code.now c.args.memory.now c.if-code-lt-CODE.true in
-    record { opens = rw c.refusing.ensures o; text = λ h k. absurd (omega (arith, c.if-code-lt-CODE.true)) }
+    record { opens = rw (c.refusing.ensures, c.at.ensures) o; text = λ h k. absurd (omega (arith, c.if-code-lt-CODE.true)) }
 
 pub returns-then-memory-lt-MEMORY : goal.returns-then-memory-lt-MEMORY
 returns-then-memory-lt-MEMORY c =
     let o = open-small c.args.table.now c.args.code.now c.args.memory.now c.if-code-lt-CODE.false c.if-memory-lt-MEMORY.true in
-    record { opens = rw c.refusing-then-memory-lt-MEMORY.ensures o; text = λ h k. absurd (omega (arith, c.if-memory-lt-MEMORY.true)) }
+    record {
+      opens = rw (c.refusing-then-memory-lt-MEMORY.ensures, c.at-then-memory-lt-MEMORY.ensures) o;
+      text = λ h k. absurd (omega (arith, c.if-memory-lt-MEMORY.true));
+    }
 
 pub slice_bounds-compile_into-end-2 : goal.slice_bounds-compile_into-end-2
 slice_bounds-compile_into-end-2 c =
@@ -26,7 +29,7 @@ slice_bounds-compile_into-end-2 c =
 pub load-requires : goal.load-requires
 load-requires c =
     let t = length-take-le code_limit c.args.code.now c.if-code-lt-CODE.false in
-    let q = sym c.compile_into.ensures.answer ∙ c.in-Code.is in
+    let q = sym c.compile_into.ensures.answer ∙ c.in-Ok.is in
     let d = ap (λ l. l ++ drop code_limit c.args.code.now) (rw t at c.compile_into.ensures.buffer) in
     let s = rw t at q in
     record {
@@ -38,18 +41,18 @@ load-requires c =
       code_limit_value = s;
     }
 
-pub returns-in-Code : goal.returns-in-Code
-returns-in-Code c =
+pub returns-in-Ok : goal.returns-in-Ok
+returns-in-Ok c =
     let t = length-take-le code_limit c.args.code.now c.if-code-lt-CODE.false in
-    let q = sym c.compile_into.ensures.answer ∙ c.in-Code.is in
+    let q = sym c.compile_into.ensures.answer ∙ c.in-Ok.is in
     let o = opens-coded c.args.table.now c.args.code.now c.args.memory.now c.if-code-lt-CODE.false c.if-memory-lt-MEMORY.false (rw t at q)
     (ap (λ l. l ++ drop code_limit c.args.code.now) (rw t at c.compile_into.ensures.buffer)) c.load.ensures in
     record { opens = o; text = λ h k. told _ _ _ h k o }
 
-pub returns-in-Refused : goal.returns-in-Refused
-returns-in-Refused c =
+pub returns-in-Err : goal.returns-in-Err
+returns-in-Err c =
     let t = length-take-le code_limit c.args.code.now c.if-code-lt-CODE.false in
-    let q = sym c.compile_into.ensures.answer ∙ c.in-Refused.is in
+    let q = sym c.compile_into.ensures.answer ∙ c.in-Err.is in
     let o = opens-refused c.args.table.now c.args.code.now c.args.memory.now c.if-code-lt-CODE.false c.if-memory-lt-MEMORY.false (rw t at q)
     (ap (λ l. l ++ drop code_limit c.args.code.now) (rw t at c.compile_into.ensures.buffer)) in
-    record { opens = rw c.refusing-in-Refused.ensures o; text = λ h k. rw c.refusing-in-Refused.ensures (told _ _ _ h k o) }
+    record { opens = rw c.refusing-in-Err.ensures o; text = λ h k. rw c.refusing-in-Err.ensures (told _ _ _ h k o) }

@@ -2,4 +2,4 @@
 use Rattle.report.proofs.opening.refusing.Goals as goal
 
 pub returns : goal.returns
-returns c = rw c.blank-machine.ensures
+returns c = rw (c.blank.ensures, c.number.ensures)

@@ -10,23 +10,17 @@ returns-then-report-eq0 c =
 
 pub stand-requires : goal.stand-requires
 stand-requires c =
-    let w = run-within _ _ _ _ _ _ (sym c.run-ran.ensures.answer ∙ c.in-Ran.is) in
+    let w = run-within _ _ _ _ _ _ (sym c.run-ran.ensures.answer ∙ c.in-Ok.is) in
     (omega (arith, w, c.budget.ensures.1), omega (arith, c.if-report-eq0.false))
 
-pub returns-in-Ran : goal.returns-in-Ran
-returns-in-Ran c =
+pub returns-in-Ok : goal.returns-in-Ok
+returns-in-Ok c =
     ran _ _ _ (c.requires) c.if-report-eq0.false c.budget.ensures.0 c.run-ran.ensures.answer c.run-ran.ensures.machine
     c.run-ran.ensures.memory
-    (rw c.in-Ran.is (c.stand.ensures _))
+    (rw c.in-Ok.is (c.stand.ensures _))
 
-pub returns-in-EarlierClock : goal.returns-in-EarlierClock
-returns-in-EarlierClock c =
+pub returns-in-Err : goal.returns-in-Err
+returns-in-Err c =
     ran _ _ _ (c.requires) c.if-report-eq0.false c.budget.ensures.0 c.run-ran.ensures.answer c.run-ran.ensures.machine
     c.run-ran.ensures.memory
-    (rw c.in-EarlierClock.is (c.not_run.ensures _))
-
-pub returns-in-Short : goal.returns-in-Short
-returns-in-Short c =
-    ran _ _ _ (c.requires) c.if-report-eq0.false c.budget.ensures.0 c.run-ran.ensures.answer c.run-ran.ensures.machine
-    c.run-ran.ensures.memory
-    (rw c.in-Short.is (c.not_run-in-Short.ensures _))
+    (rw c.in-Err.is (c.not_run.ensures _))

@@ -1,5 +1,9 @@
 -- `report::turn::take_piece` meets its contract. Assumes nothing.
+use mathlib.Core.Path.{◌≡◌}
+use Rattle.std.specs.Prelude.{Some}
 use Rattle.report.proofs.turn.take_piece.Goals as goal
 
-pub returns-in-Taken : goal.returns-in-Taken
-returns-in-Taken c = rw c.in-Taken.is c.out_line.ensures
+pub returns-in-Ok-Some : goal.returns-in-Ok-Some
+returns-in-Ok-Some c =
+    let f : c.in-Ok-Some.field-0 ≡ Some c.in-Ok-Some.v = rw c.in-Ok-Some.is at c.in-Ok-Some.field-0-is in
+    rw (c.in-Ok-Some.is, f) c.out_line.ensures

@@ -4,4 +4,4 @@ use Rattle.statements.proofs.alt.next_guard.Goals as goal
 
 pub returns : goal.returns
 unfolding next_guard
-returns c = rw (c.extent_in-extent.ensures, c.statement_of.ensures)
+returns c = rw (c.extent_in.ensures, c.statement_of.ensures)

@@ -5,7 +5,9 @@ use Prim.Native.Nat.{ℕ, suc, ◌+◌, ◌-◌, ◌*◌, ◌≤◌}
 use mathlib.Core.List.{List}
 use borrow.Author.Tests.{eq-eqb, ne_eqb}
 use native.Mathlib.Omega.{arith}
+use native.Mathlib.Nat.{sub-zero}
 use mathlib.Core.Path.{◌≡◌, refl, sym, ap, ◌∙◌}
+use lib.ListN.{length}
 use Rattle.model.specs.Limits.{name_limit}
 use Rattle.expressions.specs.Emits.{Code, at as standing, plain_into, distance_into}
 use Rattle.expressions.specs.Names.{Names}
@@ -25,6 +27,7 @@ use Rattle.statements.specs.Alts.{choice_into, choices_into, guards_into, alt_in
 use Rattle.statements.specs.Kinds.{stmt_into, inner_at, parts_into, inside_into}
 use Rattle.statements.proofs.Scoping.{within, within-names, count_most, parts-few, shape-few, relabel, shows-under, stmt-under}
 use Rattle.statements.proofs.Scoping.{branch-under, branches-under}
+use Rattle.statements.proofs.Closes.{close-front}
 use Rattle.statements.proofs.stmt as cycle
 use cycle.+alt_branch_branches_choice_choices_declare_inside_pair_pairs_par_parts_repetition_seq_statement.Goals as goal
 
@@ -64,17 +67,17 @@ pub branch-returns : goal.branch-returns
 unfolding branch_into
 branch-returns t c ns h =
     let r = stmt-under _ _ _ _ _ _ _ c.lowered-inner.ensures c.statement-body.ensures ns h in
-    (rw (← r.0, ← c.plain-second.ensures, ← c.operation-end.ensures), r.1)
+    (rw (← r.0, ← c.plain-second.ensures, ← c.operation-here.ensures), r.1)
 
-pub branches-loop-left-init : goal.branches-loop-left-init
-branches-loop-left-init t c ns h = (refl, h)
+pub branches-loop-init : goal.branches-loop-init
+branches-loop-init t c ns h = (simp sub-zero, h)
 
-pub branches-loop-left-preserved : goal.branches-loop-left-preserved
+pub branches-loop-preserved : goal.branches-loop-preserved
 unfolding branches_into
-branches-loop-left-preserved t c ns h =
-    let i = c.loop-left.invariant ns h in
+branches-loop-preserved t c ns h =
+    let i = c.loop.invariant ns h in
     let r = c.branch-next.ensures ns i.1 in
-    let e : c.loop-left.left ≡ suc (c.loop-left.left - 1) = omega (arith, c.loop-left-test.true) in (
+    let e : c.args.rest.left - c.loop.counter ≡ suc (c.args.rest.left - (c.loop.counter + 1)) = omega arith in (
       rw (e, branches_into, ← c.extent_in-own.ensures, ← c.put_start-start.ensures, ← r.0, ← c.plus-d.ensures) at i.0,
       r.1,
     )
@@ -82,8 +85,8 @@ branches-loop-left-preserved t c ns h =
 pub branches-returns : goal.branches-returns
 unfolding branches_into
 branches-returns t c ns h =
-    let i = c.loop-left.invariant ns h in
-    let e : c.loop-left.left ≡ 0 = omega (arith, c.loop-left-test.false) in
+    let i = c.loop.invariant ns h in
+    let e : c.args.rest.left - c.loop.counter ≡ 0 = omega arith in
     (rw e at (sym i.0), i.1)
 
 pub choice-returns : goal.choice-returns
@@ -101,30 +104,27 @@ choice-returns t c ns h =
     )
 
 pub choices-loop-i-init : goal.choices-loop-i-init
-choices-loop-i-init t c =
-    let all : c.args.count - 0 ≡ c.args.count = omega arith in
-    (omega arith, refl, λ ns h. (simp all, h))
+choices-loop-i-init t c = (refl, λ ns h. (simp sub-zero, h))
 
 pub choices-loop-i-preserved : goal.choices-loop-i-preserved
 unfolding choices_into
 choices-loop-i-preserved t c =
-    let left = c.args.count - c.loop-i.i in
-    let e : left ≡ suc (c.args.count - (c.loop-i.i + 1)) = omega (arith, c.loop-i-test.true) in
+    let e : c.args.count - c.loop-i.i ≡ suc (c.args.count - (c.loop-i.i + 1)) = omega arith in
     let more : suc c.loop-i.i ≡ c.loop-i.i + 1 = omega arith in (
-      omega (arith, c.loop-i-test.true),
-      refl,
+      c.loop-i.invariant.0,
       λ ns h.
-          let i = c.loop-i.invariant.2 ns h in
-          let r = rw c.loop-i.invariant.1 at (c.choice-body.ensures ns i.1) in
+          let i = c.loop-i.invariant.1 ns h in
+          let r = rw c.loop-i.invariant.0 at (c.choice-body.ensures ns i.1) in
           (rw (e, choices_into, ← r.0, ← c.plus.ensures, more) at i.0, r.1),
     )
 
 pub choices-returns : goal.choices-returns
 unfolding guards_into choices_into
 choices-returns t c ns h =
-    let i = c.loop-i.invariant.2 ns h in
-    let e : c.args.count - c.loop-i.i ≡ 0 = omega (arith, c.loop-i-test.false) in
-    (rw (rw e at i.0, ← c.close.ensures), i.1)
+    let i = c.loop-i.invariant.1 ns h in
+    let e : c.args.count - c.loop-i.i ≡ 0 = omega arith in
+    let room : c.args.count ≤ length c.loop-i.ends = omega arith in
+    (rw (rw e at i.0, ← close-front c.args.count c.loop-i.ends _ _ room, ← c.close.ensures), i.1)
 
 pub declare-statement-body-requires : goal.declare-statement-body-requires
 declare-statement-body-requires t c =
@@ -142,7 +142,7 @@ declare-returns t c ns h =
         ← c.plain-first.ensures,
         ← c.put_initial.ensures,
         ← r.0,
-        ← c.plain-end.ensures,
+        ← c.plain-here.ensures,
       ),
       r.1,
     )
@@ -188,29 +188,24 @@ pair-returns t c ns h =
     )
 
 pub pairs-loop-i-init : goal.pairs-loop-i-init
-pairs-loop-i-init t c =
-    let all : c.args.count - 0 ≡ c.args.count = omega arith in
-    (omega arith, λ ns h. (simp all, h))
+pairs-loop-i-init t c ns h = (simp sub-zero, h)
 
 pub pairs-loop-i-preserved : goal.pairs-loop-i-preserved
 unfolding pairs_into
-pairs-loop-i-preserved t c =
-    let left = c.args.count - c.loop-i.i in
-    let e : left ≡ suc (c.args.count - (c.loop-i.i + 1)) = omega (arith, c.loop-i-test.true) in
-    let more : suc c.loop-i.i ≡ c.loop-i.i + 1 = omega arith in (
-      omega (arith, c.loop-i-test.true),
-      λ ns h.
-          let i = c.loop-i.invariant.1 ns h in
-          let r = c.pair-body.ensures ns i.1 in
-          (rw (e, pairs_into, ← r.0, ← c.plus.ensures, more) at i.0, r.1),
-    )
+pairs-loop-i-preserved t c ns h =
+    let e : c.args.count - c.loop-i.i ≡ suc (c.args.count - (c.loop-i.i + 1)) = omega arith in
+    let more : suc c.loop-i.i ≡ c.loop-i.i + 1 = omega arith in
+    let i = c.loop-i.invariant ns h in
+    let r = c.pair-body.ensures ns i.1 in
+    (rw (e, pairs_into, ← r.0, ← c.plus.ensures, more) at i.0, r.1)
 
 pub pairs-returns : goal.pairs-returns
 unfolding if_into pairs_into
 pairs-returns t c ns h =
-    let i = c.loop-i.invariant.1 ns h in
-    let e : c.args.count - c.loop-i.i ≡ 0 = omega (arith, c.loop-i-test.false) in
-    (rw (rw e at i.0, ← c.operation-over.ensures, ← c.close.ensures), i.1)
+    let i = c.loop-i.invariant ns h in
+    let e : c.args.count - c.loop-i.i ≡ 0 = omega arith in
+    let room : c.args.count ≤ length c.loop-i.ends = omega arith in
+    (rw (rw e at i.0, ← c.operation-over.ensures, ← close-front c.args.count c.loop-i.ends _ _ room, ← c.close.ensures), i.1)
 
 pub par-returns-then-count-eq0 : goal.par-returns-then-count-eq0
 unfolding par_into
@@ -268,24 +263,24 @@ parts-returns-in-Guard t c ns h =
 pub repetition-returns : goal.repetition-returns
 unfolding while_into
 repetition-returns t c ns h =
-    let r = c.pair-body.ensures ns h in (rw (← r.0, ← c.distance-end.ensures), r.1)
+    let r = c.pair-body.ensures ns h in (rw (← r.0, ← c.distance-here.ensures), r.1)
 
-pub seq-loop-left-init : goal.seq-loop-left-init
-seq-loop-left-init t c ns h = (refl, h)
+pub seq-loop-init : goal.seq-loop-init
+seq-loop-init t c ns h = (simp sub-zero, h)
 
-pub seq-loop-left-preserved : goal.seq-loop-left-preserved
+pub seq-loop-preserved : goal.seq-loop-preserved
 unfolding seq_into
-seq-loop-left-preserved t c ns h =
-    let i = c.loop-left.invariant ns h in
+seq-loop-preserved t c ns h =
+    let i = c.loop.invariant ns h in
     let r = within _ _ _ refl refl c.statement-next.ensures ns i.1 in
-    let e : c.loop-left.left ≡ suc (c.loop-left.left - 1) = omega (arith, c.loop-left-test.true) in
+    let e : c.args.count - c.loop.counter ≡ suc (c.args.count - (c.loop.counter + 1)) = omega arith in
     (rw (e, seq_into, ← r.0) at i.0, r.1)
 
 pub seq-returns : goal.seq-returns
 unfolding seq_into
 seq-returns t c ns h =
-    let i = c.loop-left.invariant ns h in
-    let e : c.loop-left.left ≡ 0 = omega (arith, c.loop-left-test.false) in
+    let i = c.loop.invariant ns h in
+    let e : c.args.count - c.loop.counter ≡ 0 = omega arith in
     (rw e at (sym i.0), i.1)
 
 pub statement-returns-then-scope-eq0 : goal.statement-returns-then-scope-eq0

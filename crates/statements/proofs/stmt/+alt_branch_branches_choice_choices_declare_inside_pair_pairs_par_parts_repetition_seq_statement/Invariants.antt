@@ -1,7 +1,7 @@
 -- The functions of `statements::stmt` that call each other meet their contracts. The measures count 8 for each level of the depth left, and
 -- further for what has statements of that depth inside: for what follows a kind 7, for VAR, CHAN, PAR and parts 6, for SEQ, IF, WHILE and
 -- ALT 5, for the branches of PAR and ALT 4, for a branch and a pair 3. Assumes nothing.
-use Prim.Native.Nat.{ℕ, ◌+◌, ◌-◌, ◌*◌, ◌≤◌}
+use Prim.Native.Nat.{ℕ, ◌+◌, ◌-◌, ◌*◌}
 use mathlib.Core.List.{List}
 use mathlib.Core.Path.{◌≡◌}
 use Rattle.expressions.specs.Emits.{Code, at as standing}
@@ -62,51 +62,37 @@ decreases-seq l = 8 * l.scope.depth + 5
 abbrev pub decreases-statement : goal.decreases-statement
 decreases-statement l = 8 * l.scope.depth
 
-abbrev pub invariant-branches-loop-left : goal.invariant-branches-loop-left
-invariant-branches-loop-left l =
+abbrev pub invariant-branches-loop : goal.invariant-branches-loop
+invariant-branches-loop l =
     (ns : Names) → Scoped (l.scope.depth + 1) l.scope l.initial.words ns
-    → (branches_into l.initial.left (inner_at l.scope.depth l.plan l.table) l.scope.w ns l.plan l.initial.next.at l.initial.d
+    → (branches_into l.fn.rest.left (inner_at l.scope.depth l.plan l.table) l.scope.w ns l.plan l.initial.next.at l.initial.d
     l.initial.start (standing l.initial.next.here l.initial.list)
-    ≡ branches_into l.left (inner_at l.scope.depth l.plan l.table) l.scope.w ns l.plan l.next.at l.d l.start (standing l.next.here l.list))
+    ≡ branches_into (l.fn.rest.left - l.counter) (inner_at l.scope.depth l.plan l.table) l.scope.w ns l.plan l.next.at l.d l.start
+    (standing l.next.here l.list))
     × Scoped (l.scope.depth + 1) l.scope l.words ns
-
-abbrev pub decreases-branches-loop-left : goal.decreases-branches-loop-left
-decreases-branches-loop-left l =
-    l.left
 
 abbrev pub invariant-choices-loop-i : goal.invariant-choices-loop-i
 invariant-choices-loop-i l =
-    (l.i ≤ l.count) × (l.turn.choice ≡ l.first.choice) × ((ns : Names) → Scoped (l.scope.depth + 1) l.scope l.initial.words ns
-    → (choices_left l.scope.depth l.scope.w ns l.plan l.table l.count 0 l.first.choice no_ends l.first.at l.first.disable
-    (standing l.first.here l.initial.list)
-    ≡ choices_left l.scope.depth l.scope.w ns l.plan l.table (l.count - l.i) l.i l.first.choice l.ends l.turn.at l.turn.disable
+    (l.turn.choice ≡ l.initial.turn.choice) × ((ns : Names) → Scoped (l.scope.depth + 1) l.scope l.initial.words ns
+    → (choices_left l.scope.depth l.scope.w ns l.plan l.table l.count 0 l.initial.turn.choice no_ends l.initial.turn.at
+    l.initial.turn.disable
+    (standing l.initial.turn.here l.initial.list)
+    ≡ choices_left l.scope.depth l.scope.w ns l.plan l.table (l.count - l.i) l.i l.initial.turn.choice l.ends l.turn.at l.turn.disable
     (standing l.turn.here l.list))
     × Scoped (l.scope.depth + 1) l.scope l.words ns)
 
-abbrev pub decreases-choices-loop-i : goal.decreases-choices-loop-i
-decreases-choices-loop-i l =
-    l.count - l.i
-
 abbrev pub invariant-pairs-loop-i : goal.invariant-pairs-loop-i
 invariant-pairs-loop-i l =
-    (l.i ≤ l.count) × ((ns : Names) → Scoped (l.scope.depth + 1) l.scope l.initial.words ns
+    ((ns : Names) → Scoped (l.scope.depth + 1) l.scope l.initial.words ns
     → (pairs_left l.scope.depth l.scope.w ns l.plan l.table l.count 0 no_ends l.initial.next.at
     (standing l.initial.next.here l.initial.list)
     ≡ pairs_left l.scope.depth l.scope.w ns l.plan l.table (l.count - l.i) l.i l.ends l.next.at (standing l.next.here l.list))
     × Scoped (l.scope.depth + 1) l.scope l.words ns)
 
-abbrev pub decreases-pairs-loop-i : goal.decreases-pairs-loop-i
-decreases-pairs-loop-i l =
-    l.count - l.i
-
-abbrev pub invariant-seq-loop-left : goal.invariant-seq-loop-left
-invariant-seq-loop-left l =
+abbrev pub invariant-seq-loop : goal.invariant-seq-loop
+invariant-seq-loop l =
     (ns : Names) → Scoped (l.scope.depth + 1) l.scope l.initial.words ns
-    → (seq_into l.initial.left (inner_at l.scope.depth l.plan l.table l.scope.w ns) l.initial.next.at
+    → (seq_into l.count (inner_at l.scope.depth l.plan l.table l.scope.w ns) l.initial.next.at
     (standing l.initial.next.here l.initial.list)
-    ≡ seq_into l.left (inner_at l.scope.depth l.plan l.table l.scope.w ns) l.next.at (standing l.next.here l.list))
+    ≡ seq_into (l.count - l.counter) (inner_at l.scope.depth l.plan l.table l.scope.w ns) l.next.at (standing l.next.here l.list))
     × Scoped (l.scope.depth + 1) l.scope l.words ns
-
-abbrev pub decreases-seq-loop-left : goal.decreases-seq-loop-left
-decreases-seq-loop-left l =
-    l.left

@@ -6,14 +6,12 @@ use Prim.Native.Nat.{suc, ◌-◌}
 use Rattle.statements.specs.Stmts.{close_into}
 use Rattle.statements.proofs.stmt.close.Goals as goal
 
-pub loop-left-preserved : goal.loop-left-preserved
+pub loop-k-preserved : goal.loop-k-preserved
 unfolding close_into
-loop-left-preserved c =
-    let e : c.loop-left.left ≡ suc (c.loop-left.left - 1) = omega (arith, c.loop-left-test.true) in
-    (rw (e, close_into, ← c.distance.ensures) at c.loop-left.invariant.0, omega (arith, c.loop-left.invariant.1))
+loop-k-preserved c =
+    let e : c.loop-k.k ≡ suc (c.loop-k.k - 1) = omega arith in
+    rw (e, close_into, ← c.distance.ensures) at c.loop-k.invariant
 
 pub returns : goal.returns
 unfolding close_into
-returns c =
-    let e : c.loop-left.left ≡ 0 = omega (arith, c.loop-left-test.false) in
-    rw e at (sym c.loop-left.invariant.0)
+returns c = let e : c.loop-k.k ≡ 0 = omega arith in rw e at (sym c.loop-k.invariant)

@@ -9,11 +9,12 @@ use Rattle.table.specs.Stmts.{most_use, branches_at}
 use Rattle.table.specs.Stmts.{no_branches, nothing}
 use Rattle.table.specs.declared.stmt.Names.{Names}
 use Rattle.table.specs.declared.stmt.Sum.{Sum}
-use Rattle.table.specs.declared.stmt.SumRead.{SumRead}
+use Rattle.std.specs.Prelude.{Result}
+use Rattle.numbers.specs.declared.Misread.{Misread}
 use Rattle.table.proofs.stmt.+read_declaration_read_inside_read_most_read_par_read_part_read_stmt.Given as goal
 
 -- the parts and the branches that are left: none, or one and the others
-abbrev pub most_left : (left : ℕ) → Head → (depth : ℕ) → Names → List ℕ → Sum → SumRead
+abbrev pub most_left : (left : ℕ) → Head → (depth : ℕ) → Names → List ℕ → Sum → Result Sum Misread
 most_left i k d w s t = most_from i k d w (λ j. stmt_at d w s j) s t
 
 abbrev pub uses_left : (left : ℕ) → Head → (depth : ℕ) → Names → List ℕ → (at : ℕ) → List ℕ → List ℕ
@@ -37,25 +38,17 @@ decreases-read_part l = 6 * l.depth + 1
 abbrev pub decreases-read_stmt : goal.decreases-read_stmt
 decreases-read_stmt l = 6 * l.depth
 
-abbrev pub invariant-read_most-loop-i : goal.invariant-read_most-loop-i
-invariant-read_most-loop-i l =
-    (most_left l.count l.head l.depth l.names l.table (nothing l.at) ≡ most_left (l.count - l.i) l.head l.depth l.names l.table l.sum)
+abbrev pub invariant-read_most-loop : goal.invariant-read_most-loop
+invariant-read_most-loop l =
+    (most_left l.count l.head l.depth l.names l.table (nothing l.at) ≡ most_left (l.count - l.counter) l.head l.depth l.names l.table l.sum)
     × (uses_left l.count l.head l.depth l.names l.table l.at l.initial.sets
-    ≡ uses_left (l.count - l.i) l.head l.depth l.names l.table l.sum.next l.sets)
-    × (l.i ≤ l.count)
-    × (l.sum.sum ≤ 1000000 * l.i)
-    × (l.sum.all ≤ 1000000 * l.i)
+    ≡ uses_left (l.count - l.counter) l.head l.depth l.names l.table l.sum.next l.sets)
+    × (l.sum.sum ≤ 1000000 * l.counter)
+    × (l.sum.all ≤ 1000000 * l.counter)
 
-abbrev pub decreases-read_most-loop-i : goal.decreases-read_most-loop-i
-decreases-read_most-loop-i l = l.count - l.i
-
-abbrev pub invariant-read_par-loop-i : goal.invariant-read_par-loop-i
-invariant-read_par-loop-i l =
+abbrev pub invariant-read_par-loop : goal.invariant-read_par-loop
+invariant-read_par-loop l =
     (branches_at l.count l.depth l.names l.table (no_branches l.at)
-    ≡ branches_at (l.count - l.i) l.depth l.names l.table (record { total = l.sum; before = l.before; bad = l.bad }))
-    × (l.i ≤ l.count)
-    × (l.sum.sum ≤ 1000000 * l.i)
-    × (l.sum.all ≤ 1000000 * l.i)
-
-abbrev pub decreases-read_par-loop-i : goal.decreases-read_par-loop-i
-decreases-read_par-loop-i l = l.count - l.i
+    ≡ branches_at (l.count - l.counter) l.depth l.names l.table (record { total = l.sum; before = l.before; bad = l.bad }))
+    × (l.sum.sum ≤ 1000000 * l.counter)
+    × (l.sum.all ≤ 1000000 * l.counter)

@@ -1,31 +1,21 @@
 -- `timer::walk::stops` meets its contract. Assumes nothing.
-use mathlib.Core.Path.{sym, ◌∙◌}
-use borrow.Author.Tests.{eq-eqb, ne_eqb}
+use mathlib.Core.Path.{◌∙◌}
+use Rattle.processor.proofs.Laws.{fault-passed}
 use Rattle.timer.specs.Walks.{stops_in}
 use Rattle.timer.proofs.Walking.{saw}
 use Rattle.timer.proofs.walk.stops.Goals as goal
 
-pub returns-then-after : goal.returns-then-after
+pub returns-in_ok-u-in-Later : goal.returns-in_ok-u-in-Later
 unfolding stops_in
-returns-then-after c =
-    rw (c.in-Later.is, saw _ _ c.peek.ensures c.time_word.ensures c.in-Value.is, sym c.after.ensures ∙ c.if-after.true)
+returns-in_ok-u-in-Later c =
+    rw (c.in-Later.is, saw _ c.peek.ensures c.time_word.ensures c.in_ok-u-in-Later.was, c.after.ensures)
 
-pub returns-then-p-w : goal.returns-then-p-w
+pub returns-in_err-u-in-Later : goal.returns-in_err-u-in-Later
 unfolding stops_in
-returns-then-p-w c =
-    rw (c.in-Is.is, eq-eqb _ _ c.if-p-w.true)
+returns-in_err-u-in-Later c =
+    fault-passed c.from_residual.result c.from_residual.ensures.1
+    ∙ rw (c.in-Later.is, saw _ c.peek.ensures c.time_word.ensures c.in_err-u-in-Later.was)
 
-pub returns-else-after : goal.returns-else-after
+pub returns-in-Is : goal.returns-in-Is
 unfolding stops_in
-returns-else-after c =
-    rw (c.in-Later.is, saw _ _ c.peek.ensures c.time_word.ensures c.in-Value.is, sym c.after.ensures ∙ c.if-after.false)
-
-pub returns-in-Fault : goal.returns-in-Fault
-unfolding stops_in
-returns-in-Fault c =
-    rw (c.in-Later.is, saw _ _ c.peek.ensures c.time_word.ensures c.in-Fault.is)
-
-pub returns-else-p-w : goal.returns-else-p-w
-unfolding stops_in
-returns-else-p-w c =
-    rw (c.in-Is.is, ne_eqb _ _ c.if-p-w.false)
+returns-in-Is c = rw c.in-Is.is

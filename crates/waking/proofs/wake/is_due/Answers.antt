@@ -1,18 +1,15 @@
 -- `waking::wake::is_due` meets its contract. Assumes nothing.
+use mathlib.Core.Path.{◌∙◌}
+use Rattle.processor.proofs.Laws.{fault-passed}
 use Rattle.processor.proofs.Looks.{finds-looked}
 use Rattle.waking.proofs.wake.is_due.Goals as goal
 
-pub returns-then-after : goal.returns-then-after
-returns-then-after c =
-    let e = finds-looked c.args.size c.time_word.result c.args.memory.now c.peek.result c.peek.ensures in
-    rw (← c.time_word.ensures, ← e, c.in-Value.is, ← c.after.ensures, c.if-after.true)
+pub returns : goal.returns
+returns c =
+    let e = finds-looked c.time_word.result c.args.memory.now c.peek.result c.peek.ensures in
+    rw (← c.time_word.ensures, ← e, c.in_ok-t.was, ← c.after.ensures)
 
-pub returns-else-after : goal.returns-else-after
-returns-else-after c =
-    let e = finds-looked c.args.size c.time_word.result c.args.memory.now c.peek.result c.peek.ensures in
-    rw (← c.time_word.ensures, ← e, c.in-Value.is, ← c.after.ensures, c.if-after.false)
-
-pub returns-in-Fault : goal.returns-in-Fault
-returns-in-Fault c =
-    let e = finds-looked c.args.size c.time_word.result c.args.memory.now c.peek.result c.peek.ensures in
-    rw (← c.time_word.ensures, ← e, c.in-Fault.is)
+pub returns-in_err-t : goal.returns-in_err-t
+returns-in_err-t c =
+    let e = finds-looked c.time_word.result c.args.memory.now c.peek.result c.peek.ensures in
+    fault-passed c.from_residual.result c.from_residual.ensures.1 ∙ rw (← c.time_word.ensures, ← e, c.in_err-t.was)

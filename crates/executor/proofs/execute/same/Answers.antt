@@ -1,9 +1,0 @@
--- `executor::execute::same` meets its contract. Assumes nothing.
-use borrow.Author.Tests.{eq-eqb, ne_eqb}
-use Rattle.executor.proofs.execute.same.Goals as goal
-
-pub returns-then-a-b : goal.returns-then-a-b
-returns-then-a-b c = rw (eq-eqb _ _ c.if-a-b.true)
-
-pub returns : goal.returns
-returns c = rw (ne_eqb _ _ c.if-a-b.false)

@@ -1,9 +1,0 @@
--- `report::piece::line` meets its contract. Assumes nothing.
-use Rattle.model.specs.Bench.{decimal, newline}
-use Rattle.report.proofs.Pieces.{three}
-use Rattle.report.proofs.piece.line.Goals as goal
-
-pub returns : goal.returns
-returns c =
-    three c.args.name.now (decimal c.args.n) newline
-    c.nothing.ensures.0 c.push_text-named.ensures.text c.push_digits.ensures.0 c.push.ensures.text

@@ -1,0 +1,9 @@
+-- `report::piece::make_hex_digit` meets its contract. Assumes nothing.
+use borrow.Author.Tests.{lt-ltb, le-ltb}
+use Rattle.report.proofs.piece.make_hex_digit.Goals as goal
+
+pub returns-then-n-lt10 : goal.returns-then-n-lt10
+returns-then-n-lt10 c = rw (lt-ltb _ _ c.if-n-lt10.true)
+
+pub returns : goal.returns
+returns c = rw (le-ltb _ _ c.if-n-lt10.false)
