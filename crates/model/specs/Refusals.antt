@@ -1,5 +1,6 @@
--- Which refusal a call gets, in 01's numbers and in 01's order of tests ("When a call is turned down"). The answers'
--- enums do not come in here: proofs/Laws/Refused.antt shows that their numbers (specs/Answers.antt) are these.
+-- Which refusal a call gets, in 01's numbers and in 01's order of tests ("When a call is turned down"). The answers of a start, a run, an
+-- offer and a take do not come in here: proofs/Laws/Refused.antt shows that their numbers (specs/Answers.antt) are these. Reading and
+-- compiling are refused by name in the definitions, and the name has its number here as there, by `reason_number`.
 use Rattle.std.specs.Prelude.{ℕ, ◌+◌, false, cond, ◌&&◌, ◌||◌, List, [], ◌∷◌, length, get_or, ltb, leb, eqb, None, Some}
 use Rattle.std.proofs.Math.Option.{Option, none}
 use Rattle.model.specs.Word.{after}
