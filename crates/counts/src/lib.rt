@@ -3,7 +3,7 @@
 // has fewer than 32, and an entry of the compiler's plan has 8 bits for them. Two sides hold at most one more.
 #![tactic(auto)]
 
-ghost use Rattle.std.specs.Prelude.{◌≡◌, ◌≤◌, max};
+ghost use Rattle.std.specs.Prelude.{◌≡◌, ◌≤◌};
 ghost use Rattle.model.specs.Counts.{sides_need, order_of, sides_hold, guard_words};
 ghost use Rattle.counts.specs.Words.{asked, least_words};
 
@@ -27,13 +27,6 @@ pub enum Role {
     Guard,
     Wait,
     Time,
-}
-
-// The larger of two.
-pub fn larger(a: u32, b: u32) -> u32
-    ensures { result ≡ max a b }
-{
-    a.max(b)
 }
 
 // The registers of an operator by those of its sides: one more where both need the same, else the larger, and never over 3.

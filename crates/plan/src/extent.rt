@@ -122,7 +122,7 @@ fn joined(beside: bool, before: u32, part: u32) -> u32
     if beside {
         return word::plus(before, part);
     }
-    counts::larger(before, part)
+    before.max(part)
 }
 
 // So many parts from a place on, behind some that need so many words.
@@ -143,7 +143,7 @@ fn measure_parts(
     for _ in 0..count {
         let before = measure_head(table, &mut *plan, so_far.next, head, depth);
         let part = measure_stmt(table, &mut *plan, before.next, depth);
-        let least = counts::larger(so_far.need, before.need);
+        let least = so_far.need.max(before.need);
         so_far = Extent {
             next: part.next,
             need: joined(beside, least, part.need),

@@ -35,7 +35,7 @@ pub measure_parts-loop-preserved : goal.measure_parts-loop-preserved
 unfolding parts_measured
 measure_parts-loop-preserved t c =
     let e : c.args.count - c.loop.counter ≡ suc (c.args.count - (c.loop.counter + 1)) = omega arith in
-    rw (e, parts_measured, ← c.measure_head-before.ensures, ← c.measure_stmt-part.ensures, ← c.larger-least.ensures, ← c.joined.ensures)
+    rw (e, parts_measured, ← c.measure_head-before.ensures, ← c.measure_stmt-part.ensures, ← c.max-least.ensures, ← c.joined.ensures)
     at c.loop.invariant
 
 pub measure_parts-returns : goal.measure_parts-returns
