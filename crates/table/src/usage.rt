@@ -90,7 +90,7 @@ pub fn clash(before: &[u64; 64], branch: &[u64; 64]) -> bool
 pub fn merge(sets: &mut [u64; 64], branch: &[u64; 64])
     ensures { sets.new ≡ merged 64 sets.old branch.now }
 {
-    for k in 0..64 {
-        sets[k] |= branch[k];
+    for (k, &word) in branch.iter().enumerate() {
+        sets[k] |= word;
     }
 }
