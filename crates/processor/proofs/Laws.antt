@@ -54,7 +54,7 @@ pub set-whole : (l b : List ℕ) (a v : ℕ) → ltb a (length l) ≡ true → s
 set-whole l b a v t = set-append_left l b a v (ltb-true _ _ t)
 
 -- the memory is as it was where a word gets back what it held
-back : (l m : List ℕ) (a v old : ℕ) → get_or l a 0 ≡ old → m ≡ set l a v → set m a old ≡ l
+pub back : (l m : List ℕ) (a v old : ℕ) → get_or l a 0 ≡ old → m ≡ set l a v → set m a old ≡ l
 back l m a v old e k = rw (k, set-set, ← e, set-get_or)
 
 module _ {φ ψ : Rest → Rest} {u : Setup} (a v : ℕ) {l : List ℕ} {p : Peeked} (act : Act (Unit {0})) {r : Cpu}

@@ -27,6 +27,7 @@ use Rattle.timer.specs.declared.walk.Place.{Place}
 use Rattle.timer.specs.Walks.{Walked, stops_of, from_front, walk_in}
 use Rattle.timer.specs.Sleeps.{SameCpu, link_release, sleep_release, poke2_sleep, poke2, wait_ready, unlink}
 use Rattle.processor.proofs.Looks.{any_rest, any_setup, any_size}
+use Rattle.processor.proofs.Whole.{fit-front}
 use Rattle.timer.proofs.Walking.{placed, walk-so}
 
 -- an action that does not see the front
@@ -118,8 +119,8 @@ module _ (u : Setup) (x : Rest) (r : Cpu) (l : List ℕ) (k f : ℕ) where
 module _ (u : Setup) (x : Rest) (r : Cpu) (l : List ℕ) (k f : ℕ) (h : memory_size u ≡ length l) where
   -- what the model's walk comes to, in a machine with so many words
   walked : (e : Until) {v : Walked} → v ≡ walk_in (suc (length l)) l e f (from_front f)
-      → walk (stops_of e) (world (timing k f x) u r l) ≡ placed u (timing k f x) r l h v
-  walked e g = walk-so u x r l k f e h ∙ ap (placed u (timing k f x) r l h) (sym g)
+      → walk (stops_of e) (world (timing k f x) u r l) ≡ placed u (timing k f x) r (l ++ x.behind) v
+  walked e g = walk-so u x r (l ++ x.behind) k f e ∙ ap (placed u (timing k f x) r (l ++ x.behind)) (rw (h, fit-front l x.behind) (sym g))
 
   -- where a walk stops, the process comes
   pub sleeps-at : (t : ℕ) {here : Place} → Ok here ≡ walk_in (suc (length l)) l (Later t) f (from_front f)

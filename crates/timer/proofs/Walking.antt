@@ -5,11 +5,9 @@ use mathlib.Core.Path.{◌≡◌, refl, sym, ap, ◌∙◌, subst}
 use mathlib.Core.Logic.{◌⊎◌, inl, inr, ⊎_elim}
 use mathlib.Core.Bool.{Bool, true, false, cond, ◌||◌}
 use mathlib.Core.List.{List, [], ◌∷◌}
-use lib.ListN.{length, get_or}
-use lib.Dec.{ltb, eqb}
-use borrow.Author.Tests.{eq-eqb, eqb-true, ltb-true}
-use Rattle.std.specs.Prelude.{◌++◌, Some, None, Ok, Err}
-use Rattle.std.proofs.Math.ListN.{get_or-append}
+use lib.Dec.{eqb}
+use borrow.Author.Tests.{eq-eqb, eqb-true}
+use Rattle.std.specs.Prelude.{Some, None, Ok, Err}
 use Rattle.model.specs.Word.{after, not_process}
 use Rattle.model.specs.Machine.{◌>>=◌, World, Act, Result, done, faults, next, return, memory_size}
 use Rattle.model.specs.Machine.{peek, time_link_word, time_word, space_of, name_of}
@@ -20,8 +18,9 @@ use Rattle.model.specs.declared.FaultKind.{FaultKind}
 use Rattle.model.specs.declared.FaultKind.TheVariants.{Word}
 use Rattle.model.proofs.Cases.{by_bool, never}
 use Rattle.processor.specs.Quiet.{timing}
-use Rattle.processor.specs.Seen.{Peeked, Rest, world, found, Finds, looked}
+use Rattle.processor.specs.Seen.{Peeked, Rest, whole, Finds, looked}
 use Rattle.processor.proofs.Looks.{finds-looked}
+use Rattle.processor.proofs.Whole.{fit, seen, peek-whole}
 use Rattle.timer.specs.declared.walk.Until.{Until}
 use Rattle.timer.specs.declared.walk.Until.TheVariants.{Later, Is}
 use Rattle.timer.specs.declared.walk.Place.{Place}
@@ -37,21 +36,15 @@ by-passed (Err k) s o n = n k refl
 pub saw : (l : List ℕ) {a b : ℕ} {p q : Peeked} → Finds (peek a) l p → a ≡ b → p ≡ q → looked b l ≡ q
 saw l {a} {p = p} h e f = rw (← e, ← f) (sym (finds-looked a l p h))
 
-module _ (u : Setup) (x : Rest) (r : Cpu) (l : List ℕ) (h : memory_size u ≡ length l) where
+module _ (u : Setup) (x : Rest) (r : Cpu) (m : List ℕ) where
   abbrev w : World
-  w = world x u r l
+  w = whole x u r m
 
-  -- a look changes nothing
-  peeks : (a : ℕ) → peek a w ≡ found x u r (looked a l) l
-  unfolding peek
-  peeks a = rw h (by (ltb a (length l)) refl)
-    where
-      by : (t : Bool) → ltb a (length l) ≡ t
-          → cond t (done (get_or (l ++ x.behind) a 0) w) (faults (Word a)) ≡ found x u r (cond t (Ok (get_or l a 0)) (Err (Word a))) l
-      by true e = rw (get_or-append l x.behind 0 a (ltb-true _ _ e))
-      by false e = refl
+  -- the machine's words
+  abbrev l : List ℕ
+  l = fit (memory_size u) m
 
-  -- an answer, as the model's result
+  -- an answer, as the model's result: a look changes nothing
   abbrev answered : Tested → Result Bool
   answered (Ok b) = done b w
   answered (Err k) = faults k
@@ -60,9 +53,9 @@ module _ (u : Setup) (x : Rest) (r : Cpu) (l : List ℕ) (h : memory_size u ≡ 
   stops_so : (e : Until) (p : ℕ) → stops_of e p w ≡ answered (stops_in l e p)
   unfolding stops_in space_of name_of
   stops_so (Later t) p =
-      ap (λ (q : Result ℕ). next q (λ v s. done (after v t) s)) (peeks (time_word p)) ∙ by (looked (time_word p) l)
+      ap (λ (q : Result ℕ). next q (λ v s. done (after v t) s)) (peek-whole x u r m (time_word p)) ∙ by (looked (time_word p) l)
     where
-      by : (v : Peeked) → next (found x u r v l) (λ v s. done (after v t) s) ≡ answered (later_than t v)
+      by : (v : Peeked) → next (seen w v) (λ v s. done (after v t) s) ≡ answered (later_than t v)
       by (Ok v) = refl
       by (Err k) = refl
   stops_so (Is v) p = refl
@@ -81,14 +74,14 @@ module _ (u : Setup) (x : Rest) (r : Cpu) (l : List ℕ) (h : memory_size u ≡ 
       ap (λ (b : Result Bool). next b (λ b. cond b (return a) (do q ← peek (time_link_word p); more q))) (stops_so e p)
       ∙ by (stops_in l e p)
     where
-      linked : (v : Peeked) → next (found x u r v l) more ≡ on_pass (on_to v) (done a w) (λ q. more q w)
+      linked : (v : Peeked) → next (seen w v) more ≡ on_pass (on_to v) (done a w) (λ q. more q w)
       linked (Ok q) = refl
       linked (Err k) = refl
 
       by : (t : Tested) → next (answered t) (λ b. cond b (return a) (do q ← peek (time_link_word p); more q))
           ≡ on_pass (passing t (looked (time_link_word p) l)) (done a w) (λ q. more q w)
       by (Ok true) = refl
-      by (Ok false) = ap (λ (q : Result ℕ). next q more) (peeks (time_link_word p)) ∙ linked (looked (time_link_word p) l)
+      by (Ok false) = ap (λ (q : Result ℕ). next q more) (peek-whole x u r m (time_link_word p)) ∙ linked (looked (time_link_word p) l)
       by (Err k) = refl
 
   -- where a walk stopped, as the model's result
@@ -156,12 +149,12 @@ module _ (u : Setup) (x : Rest) (r : Cpu) (l : List ℕ) (h : memory_size u ≡ 
         (step_so e p _ _ ∙ rw s (walks-so n (p ∷ seen) (behind p q) (came-on seen p q h (record { process = inner; on = s })))))
         (λ k s. rw (inner, new) (step_so e p _ _ ∙ rw s))))
 
--- the model's walk
-pub walk-so : (u : Setup) (x : Rest) (r : Cpu) (l : List ℕ) (k f : ℕ) (e : Until) (h : memory_size u ≡ length l)
-    → walk (stops_of e) (world (timing k f x) u r l)
-    ≡ placed u (timing k f x) r l h (walk_in (suc (length l)) l e f (from_front f))
+-- the model's walk, over a memory of any length
+pub walk-so : (u : Setup) (x : Rest) (r : Cpu) (m : List ℕ) (k f : ℕ) (e : Until)
+    → walk (stops_of e) (whole (timing k f x) u r m)
+    ≡ placed u (timing k f x) r m (walk_in (suc (memory_size u)) (fit (memory_size u) m) e f (from_front f))
 unfolding walk was_at
-walk-so u x r l k f e h = rw h (walks-so u (timing k f x) r l h e f (suc (length l)) [] (from_front f) none_yet_lem)
+walk-so u x r m k f e = walks-so u (timing k f x) r m e f (suc (memory_size u)) [] (from_front f) none_yet_lem
   where
-    none_yet_lem : Came u (timing k f x) r l h e f [] f
-    none_yet_lem q m = never (cc)
+    none_yet_lem : Came u (timing k f x) r m e f [] f
+    none_yet_lem q n = never (cc)
