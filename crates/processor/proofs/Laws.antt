@@ -4,7 +4,7 @@ use mathlib.Core.Path.{◌≡◌, refl, fun_ext, ap, sym, ◌∙◌}
 use mathlib.Core.Bool.{Bool, true, false, cond}
 use mathlib.Core.List.{List, [], ◌∷◌}
 use borrow.Author.Tests.{ltb-true}
-use Rattle.std.proofs.lemmas.List.{set-append_left}
+use Rattle.std.proofs.lemmas.List.{append-nil, set-append_left}
 use Rattle.std.specs.Prelude.{◌++◌}
 use lib.ListN.{length, get_or, set}
 use native.Mathlib.Omega.{arith}
@@ -23,6 +23,7 @@ use Rattle.model.specs.declared.FaultKind.{FaultKind}
 use Rattle.model.specs.declared.FaultKind.TheVariants.{Word}
 use Rattle.processor.specs.Seen.{Rest, whole, world, Changes, looked, written, undone, Step, Peeked}
 use Rattle.processor.specs.Pieces.{landing, land_at, poke_release, yield_slice}
+use Rattle.processor.proofs.Whole.{fit, fit-same, looked-fit}
 
 -- what a `?` hands on is the fault itself
 pub fault-passed : {A : Type 0} {k : FaultKind} (r : Answer A FaultKind) → IsErrAnd r (λ e. e ≡ k) → r ≡ Err k
@@ -54,28 +55,47 @@ pub set-whole : (l b : List ℕ) (a v : ℕ) → ltb a (length l) ≡ true → s
 set-whole l b a v t = set-append_left l b a v (ltb-true _ _ t)
 
 -- the memory is as it was where a word gets back what it held
-pub back : (l m : List ℕ) (a v old : ℕ) → get_or l a 0 ≡ old → m ≡ set l a v → set m a old ≡ l
+back : (l m : List ℕ) (a v old : ℕ) → get_or l a 0 ≡ old → m ≡ set l a v → set m a old ≡ l
 back l m a v old e k = rw (k, set-set, ← e, set-get_or)
+
+module _ {φ ψ : Rest → Rest} {u : Setup} (a v : ℕ) {l : List ℕ} (act : Act (Unit {0})) {r : Cpu} where
+  -- `undid-in`, where the word is known to be inside
+  gave-back :
+      {old : ℕ} {m n : List ℕ} (s : Step) → ltb a (memory_size u) ≡ true → get_or l a 0 ≡ old → m ≡ set l a v
+      → ((x : Rest) → set (l ++ (φ x).behind) a v ≡ set l a v ++ (φ x).behind)
+      → Changes φ ψ u act r m s n → Changes φ ψ u (do poke a v; act) r l s (undone s a old n)
+  unfolding poke
+  gave-back (Ok q) t e k c d = record { said = λ x. rw (t, c x, ← k) (d.said x); keeps = tt }
+  gave-back {old} {m} {n} (Err f) t e k c d =
+      record { said = λ x. rw (t, c x, ← k) (d.said x); keeps = back l n a v old e (d.keeps ∙ k) }
+
+module _ {φ ψ : Rest → Rest} {u : Setup} (a v : ℕ) {l : List ℕ} {p : Peeked} (act : Act (Unit {0})) {r : Cpu} where
+  -- a word is written, then an action, and on its fault the word gets back what it held: where writing a word of the machine's in the lent
+  -- memory is writing it in what is seen of that
+  undid-in :
+      {old : ℕ} {m n o : List ℕ} {t : Step} (s : Step)
+      → (ltb a (memory_size u) ≡ true → (x : Rest) → set (l ++ (φ x).behind) a v ≡ set l a v ++ (φ x).behind)
+      → (p ≡ looked a (fit (memory_size u) l)) × (m ≡ written p a v l) → p ≡ Ok old
+      → Changes φ ψ u act r m s n → (t ≡ s) × (o ≡ undone s a old n) → Changes φ ψ u (do poke a v; act) r l t o
+  undid-in {old} s c (e, w) g d (t, i) =
+      let size = memory_size u in
+      let b = value-inside (ltb a size) (get_or l a 0) old (Word a) (sym (looked-fit size a l) ∙ sym e ∙ g) in
+      rw (t, i) (gave-back a v act s b.0 b.1 (rw g at w) (c b.0) d)
+
+  -- so it is where all of the lent memory is seen, whatever its length
+  pub undid-whole :
+      {old : ℕ} {m n o : List ℕ} {t : Step} (s : Step) → ((x : Rest) → (φ x).behind ≡ [])
+      → (p ≡ looked a (fit (memory_size u) l)) × (m ≡ written p a v l) → p ≡ Ok old
+      → Changes φ ψ u act r m s n → (t ≡ s) × (o ≡ undone s a old n) → Changes φ ψ u (do poke a v; act) r l t o
+  undid-whole s z = undid-in s (λ t x. rw (z x, append-nil l, append-nil (set l a v)) refl)
 
 module _ {φ ψ : Rest → Rest} {u : Setup} (a v : ℕ) {l : List ℕ} {p : Peeked} (act : Act (Unit {0})) {r : Cpu}
     (h : memory_size u ≡ length l) where
-  -- a word is written, then an action, and on its fault the word gets back what it held
+  -- and where the machine's words are, whatever stands behind them
   pub undid :
       {old : ℕ} {m n o : List ℕ} {t : Step} (s : Step) → (p ≡ looked a l) × (m ≡ written p a v l) → p ≡ Ok old
       → Changes φ ψ u act r m s n → (t ≡ s) × (o ≡ undone s a old n) → Changes φ ψ u (do poke a v; act) r l t o
-  unfolding poke
-  undid {old} {m} (Ok q) (e, w) g d (t, i) =
-      let b = value-inside (ltb a (length l)) (get_or l a 0) old (Word a) (sym e ∙ g) in
-      let k : m ≡ set l a v = rw g at w in
-      rw (t, i) (record { said = λ x. rw (h, b.0, set-whole l (φ x).behind a v b.0, ← k) (d.said x); keeps = tt })
-  undid {old} {m} {n} (Err f) (e, w) g d (t, i) =
-      let b = value-inside (ltb a (length l)) (get_or l a 0) old (Word a) (sym e ∙ g) in
-      let k : m ≡ set l a v = rw g at w in
-      rw (t, i)
-      (record {
-        said = λ x. rw (h, b.0, set-whole l (φ x).behind a v b.0, ← k) (d.said x);
-        keeps = back l n a v old b.1 (d.keeps ∙ k);
-      })
+  undid s (e, w) = undid-in a v act s (λ t x. set-whole l (φ x).behind a v (rw h at t)) (rw (h, fit-same l) e, w)
 
   -- the word is outside
   pub refused :

@@ -1,6 +1,6 @@
--- Laws has how the actions of such functions go together, Talking the same where one may communicate, Looks what a look finds, Whole the
--- same of the whole lent memory, of any length.
+-- Whole has which words of a lent memory are the machine's, Laws how the actions of such functions go together, Talking the same where one
+-- may communicate, Looks what a look finds.
+pub mod Whole
 pub mod Laws
 pub mod Looks
 pub mod Talking
-pub mod Whole

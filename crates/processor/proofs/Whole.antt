@@ -1,19 +1,20 @@
--- Laws over the whole lent memory, of any length: which of its words a machine has, and what becomes of a word that is written before a fault.
+-- Which words of a lent memory, of any length, a machine has, and what a look into the whole of it finds.
 use Prim.Native.Nat.{ℕ, zero, suc, ◌<◌}
 use native.Mathlib.Omega.{arith}
-use mathlib.Core.Path.{◌≡◌, refl, ap, sym, ◌∙◌}
+use mathlib.Core.Path.{◌≡◌, refl, ap}
 use mathlib.Core.Bool.{Bool, true, false, cond}
 use mathlib.Core.List.{List, [], ◌∷◌}
 use borrow.Author.Tests.{ltb-true}
-use Rattle.std.specs.Prelude.{◌++◌, Ok, Err}
-use lib.ListN.{length, get_or, set}
+use Rattle.std.specs.Prelude.{◌++◌, Ok, Err, Result as Answer}
+use Rattle.std.proofs.lemmas.List.{append-nil}
+use lib.ListN.{length, get_or}
 use lib.Dec.{ltb}
-use Rattle.model.specs.Machine.{World, Act, Result, done, faults, ◌>>◌, memory_size, peek, poke}
+use Rattle.model.specs.Machine.{World, Result, done, faults, memory_size, peek}
 use Rattle.model.specs.declared.Cpu.{Cpu}
 use Rattle.model.specs.declared.Setup.{Setup}
+use Rattle.model.specs.declared.FaultKind.{FaultKind}
 use Rattle.model.specs.declared.FaultKind.TheVariants.{Word}
-use Rattle.processor.specs.Seen.{Rest, whole, looked, written, undone, Keeps, Step, Peeked}
-use Rattle.processor.proofs.Laws.{back, value-inside}
+use Rattle.processor.specs.Seen.{Rest, whole, looked}
 
 -- the words of a machine that has so many: a memory's first ones, and 0 behind its end
 unfoldable pub fit : (size : ℕ) → List ℕ → List ℕ
@@ -21,14 +22,14 @@ fit zero l = []
 fit (suc n) [] = 0 ∷ fit n []
 fit (suc n) (v ∷ l) = v ∷ fit n l
 
-pub fit-length : (n : ℕ) (l : List ℕ) → length (fit n l) ≡ n
+fit-length : (n : ℕ) (l : List ℕ) → length (fit n l) ≡ n
 unfolding fit
 fit-length zero l = refl
 fit-length (suc n) [] = ap suc (fit-length n [])
 fit-length (suc n) (v ∷ l) = ap suc (fit-length n l)
 
 -- a word inside is the memory's
-pub fit-get : (n : ℕ) (l : List ℕ) (a : ℕ) → a < n → get_or (fit n l) a 0 ≡ get_or l a 0
+fit-get : (n : ℕ) (l : List ℕ) (a : ℕ) → a < n → get_or (fit n l) a 0 ≡ get_or l a 0
 unfolding fit
 fit-get zero l a h = omega arith
 fit-get (suc n) [] zero h = refl
@@ -42,6 +43,9 @@ unfolding fit
 fit-front [] b = refl
 fit-front (v ∷ l) b = ap (λ m. v ∷ m) (fit-front l b)
 
+pub fit-same : (l : List ℕ) → fit (length l) l ≡ l
+fit-same l = rw (append-nil l) at (fit-front l [])
+
 -- a word that was looked at, of a machine of so many
 pub looked-fit : (n a : ℕ) (l : List ℕ) → looked a (fit n l) ≡ cond (ltb a n) (Ok (get_or l a 0)) (Err (Word a))
 looked-fit n a l = rw (fit-length n l) (by (ltb a n) refl)
@@ -50,9 +54,9 @@ looked-fit n a l = rw (fit-length n l) (by (ltb a n) refl)
     by true e = ap Ok (fit-get n l a (ltb-true _ _ e))
     by false e = refl
 
--- a look, at any world
-abbrev pub seen : World → Peeked → Result ℕ
-seen w (Ok v) = done v w
+-- an answer that changes nothing, as the model's result
+abbrev pub seen : {A : Type 0} → World → Answer A FaultKind → Result A
+seen w (Ok a) = done a w
 seen w (Err k) = faults k
 
 pub peek-whole : (x : Rest) (u : Setup) (r : Cpu) (l : List ℕ) (a : ℕ)
@@ -65,29 +69,3 @@ peek-whole x u r l a = rw (looked-fit (memory_size u) a l) (by (ltb a (memory_si
         ≡ seen (whole x u r l) (cond t (Ok (get_or l a 0)) (Err (Word a)))
     by true = refl
     by false = refl
-
--- an answer and the whole memory after it, as the model's result
-abbrev pub told-whole : Rest → Setup → Step → List ℕ → Result (Unit {0})
-told-whole x u (Ok r) l = done tt (whole x u r l)
-told-whole x u (Err k) l = faults k
-
--- `Changes`, over the whole memory: an action, from registers and memory to an answer and memory
-pub record ChangesWhole (φ ψ : Rest → Rest) (u : Setup) (act : Act (Unit {0})) (r : Cpu) (before : List ℕ) (s : Step) (after : List ℕ)
-    : Type 0 where
-  pub said : (x : Rest) → act (whole (φ x) u r before) ≡ told-whole (ψ x) u s after
-  pub keeps : Keeps s before after
-
-module _ {φ ψ : Rest → Rest} {u : Setup} (a v : ℕ) {l : List ℕ} {p : Peeked} (act : Act (Unit {0})) {r : Cpu} where
-  -- `undid`, over the whole memory: a word is written, then an action, and on its fault the word gets back what it held
-  pub undid-whole :
-      {old : ℕ} {m n o : List ℕ} {t : Step} (s : Step) → (p ≡ looked a (fit (memory_size u) l)) × (m ≡ written p a v l) → p ≡ Ok old
-      → ChangesWhole φ ψ u act r m s n → (t ≡ s) × (o ≡ undone s a old n) → ChangesWhole φ ψ u (do poke a v; act) r l t o
-  unfolding poke
-  undid-whole {old} {m} (Ok q) (e, w) g d (t, i) =
-      let b = value-inside (ltb a (memory_size u)) (get_or l a 0) old (Word a) (sym (looked-fit (memory_size u) a l) ∙ sym e ∙ g) in
-      let k : m ≡ set l a v = rw g at w in
-      rw (t, i) (record { said = λ x. rw (b.0, ← k) (d.said x); keeps = tt })
-  undid-whole {old} {m} {n} (Err f) (e, w) g d (t, i) =
-      let b = value-inside (ltb a (memory_size u)) (get_or l a 0) old (Word a) (sym (looked-fit (memory_size u) a l) ∙ sym e ∙ g) in
-      let k : m ≡ set l a v = rw g at w in
-      rw (t, i) (record { said = λ x. rw (b.0, ← k) (d.said x); keeps = back l n a v old b.1 (d.keeps ∙ k) })

@@ -44,18 +44,13 @@ module _ (u : Setup) (x : Rest) (r : Cpu) (m : List ℕ) where
   abbrev l : List ℕ
   l = fit (memory_size u) m
 
-  -- an answer, as the model's result: a look changes nothing
-  abbrev answered : Tested → Result Bool
-  answered (Ok b) = done b w
-  answered (Err k) = faults k
-
   -- the model's test of a process
-  stops_so : (e : Until) (p : ℕ) → stops_of e p w ≡ answered (stops_in l e p)
+  stops_so : (e : Until) (p : ℕ) → stops_of e p w ≡ seen w (stops_in l e p)
   unfolding stops_in space_of name_of
   stops_so (Later t) p =
       ap (λ (q : Result ℕ). next q (λ v s. done (after v t) s)) (peek-whole x u r m (time_word p)) ∙ by (looked (time_word p) l)
     where
-      by : (v : Peeked) → next (seen w v) (λ v s. done (after v t) s) ≡ answered (later_than t v)
+      by : (v : Peeked) → next (seen w v) (λ v s. done (after v t) s) ≡ seen w (later_than t v)
       by (Ok v) = refl
       by (Err k) = refl
   stops_so (Is v) p = refl
@@ -78,7 +73,7 @@ module _ (u : Setup) (x : Rest) (r : Cpu) (m : List ℕ) where
       linked (Ok q) = refl
       linked (Err k) = refl
 
-      by : (t : Tested) → next (answered t) (λ b. cond b (return a) (do q ← peek (time_link_word p); more q))
+      by : (t : Tested) → next (seen w t) (λ b. cond b (return a) (do q ← peek (time_link_word p); more q))
           ≡ on_pass (passing t (looked (time_link_word p) l)) (done a w) (λ q. more q w)
       by (Ok true) = refl
       by (Ok false) = ap (λ (q : Result ℕ). next q more) (peek-whole x u r m (time_link_word p)) ∙ linked (looked (time_link_word p) l)
